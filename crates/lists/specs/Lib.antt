@@ -1,0 +1,4 @@
+pub mod Lists
+pub mod ListsLaw
+pub mod Tally
+pub mod Search

@@ -1,0 +1,120 @@
+-- Document 01, 'What a call says': for each call, what it says of a mesh, and one outcome for any tables. Assumes nothing.
+use mathlib.Core.Bool.{Bool, true, false, _&&_}
+use mathlib.Core.List.{List, [], _∷_}
+use Prim.Native.Nat.{ℕ, zero, suc, _+_, _*_, _%_}
+use lib.Dec.{eqb, leb}
+use lib.IntN.{pos}
+use lib.ListN.{length}
+use Rattle.lists.specs.Lists.{all, cases}
+use Rattle.meaning.specs.Mesh.{Mesh}
+use Rattle.meaning.specs.Lawful.{refusal, compatible}
+use Rattle.meaning.specs.Split.{Way, splitEdges, started, refined, halves}
+use Rattle.meaning.specs.Coarsen.{coarsened, restored}
+use Rattle.meaning.specs.Tables.{Given, Outcome, Room, outcome, answer, meshOf, roomOf, flatNodes, flatRows, filled, cleared}
+
+-- ---- of a mesh
+
+-- the number, the mesh after the call, and the passes
+pub record Reply : Type 0 where
+  pub number : ℕ
+  pub after : Mesh
+  pub passes : ℕ
+
+-- done, with the new mesh and the passes; or refused, with "0 passes": "It changes no node, triangle or mark."
+abbrev pub says : ℕ → Mesh → Mesh → ℕ → Reply
+says zero old new k = record { number = 0; after = new; passes = k }
+says (suc j) old new k = record { number = suc j; after = old; passes = 0 }
+
+-- number k unless a test says yes
+abbrev pub unless : Bool → ℕ → ℕ → ℕ
+unless true k later = later
+unless false k later = k
+
+-- the first number that is not 0
+abbrev pub orElse : ℕ → ℕ → ℕ
+orElse zero later = later
+orElse (suc k) later = suc k
+
+-- not 2: "mark table of another length, or a byte above 1"
+abbrev pub marksFit : ℕ → List ℕ → Bool
+marksFit k marks = eqb (length marks) k && all (λ b. leb b 1) marks
+
+-- not 9: "new counts above NC or TC"
+abbrev pub fits : Room → Mesh → Bool
+fits room m = leb (length (m .nodes)) (room .nodes) && leb (length (m .tris)) (room .rows)
+
+-- 3 to 7, then 10
+unfoldable pub checkNo : Mesh → ℕ
+checkNo m = orElse (refusal m) (unless (compatible m) 10 0)
+
+-- 2 to 9
+unfoldable pub refineNo : Way → Room → Mesh → List ℕ → ℕ
+refineNo w room m marks =
+    unless (marksFit (length (m .tris)) marks) 2
+    (orElse (refusal m)
+    (unless (all (halves m) (splitEdges m (started w marks (m .tris)))) 8
+    (unless (fits room (refined w m marks)) 9
+    0)))
+
+-- 2 to 7
+unfoldable pub coarsenNo : Mesh → List ℕ → ℕ
+coarsenNo m marks = unless (marksFit (length (m .nodes)) marks) 2 (refusal m)
+
+unfoldable pub checks : Mesh → Reply
+checks m = says (checkNo m) m m 0
+
+unfoldable pub refines : Way → Room → Mesh → List ℕ → Reply
+refines w room m marks = says (refineNo w room m marks) m (refined w m marks) 0
+
+unfoldable pub coarsens : ℕ → Mesh → List ℕ → Reply
+coarsens n0 m marks = says (coarsenNo m marks) m (coarsened n0 m marks) 0
+
+unfoldable pub restores : ℕ → Mesh → Reply
+restores n0 m = says (refusal m) m (restored n0 m .end) (restored n0 m .passes)
+
+-- ---- of tables
+
+-- not 1: "a table length is not a multiple of its row, a room or count breaks the sizes above, or scratch is short"
+unfoldable pub sizesFit : Given → ℕ → Bool
+sizesFit g n0 =
+    eqb (length (g .nodes) % 2) 0 && eqb (length (g .rows) % 3) 0 &&
+    leb (roomOf g .nodes) 1024 && leb (roomOf g .rows) 2048 &&
+    leb (g .n) (roomOf g .nodes) && leb (g .t) (roomOf g .rows) && leb n0 (g .n) &&
+    leb (4 * (roomOf g .nodes + roomOf g .rows)) (length (g .scratch))
+
+-- "A refusal returns its number, the counts it was given and 0 passes"; no table but scratch is written
+abbrev pub untouched : Given → ℕ → Outcome
+untouched g k = outcome (answer k (g .n) (g .t) 0) (g .nodes) (g .rows) (cleared (g .scratch))
+
+-- "After 0, node and triangle entries past the new counts are zero"
+abbrev pub done : Given → Mesh → ℕ → Outcome
+done g m k =
+    outcome (answer 0 (length (m .nodes)) (length (m .tris)) k)
+    (filled (pos 0) (length (g .nodes)) (flatNodes (m .nodes)))
+    (filled 0 (length (g .rows)) (flatRows (m .tris)))
+    (cleared (g .scratch))
+
+-- what a reply leaves in the tables
+abbrev pub leaves : Given → ℕ → Mesh → ℕ → Outcome
+leaves g zero m k = done g m k
+leaves g (suc j) m k = untouched g (suc j)
+
+abbrev pub left : Given → Reply → Outcome
+left g r = leaves g (r .number) (r .after) (r .passes)
+
+-- 1 comes first
+abbrev pub sized : Given → ℕ → Outcome → Outcome
+sized g n0 o = cases (sizesFit g n0) o (untouched g 1)
+
+-- "The base check takes no n0": as with 0. "the base check writes no table but scratch"
+unfoldable pub checkOut : Given → Outcome
+checkOut g = sized g 0 (untouched g (checkNo (meshOf g)))
+
+unfoldable pub refineOut : Way → Given → ℕ → List ℕ → Outcome
+refineOut w g n0 marks = sized g n0 (left g (refines w (roomOf g) (meshOf g) marks))
+
+unfoldable pub coarsenOut : Given → ℕ → List ℕ → Outcome
+coarsenOut g n0 marks = sized g n0 (left g (coarsens n0 (meshOf g) marks))
+
+unfoldable pub restoreOut : Given → ℕ → Outcome
+restoreOut g n0 = sized g n0 (left g (restores n0 (meshOf g)))

@@ -1,0 +1,54 @@
+-- One row of a list of hand meshes: a mesh, a call, and what the call must say. Assumes nothing.
+use mathlib.Core.List.{List}
+use Prim.Native.Nat.{ℕ}
+use lib.IntN.{ℤ, pos}
+use Rattle.meaning.specs.Mesh.{Place, Mesh, place, total}
+use Rattle.meaning.specs.Split.{newest}
+use Rattle.meaning.specs.Tables.{Room}
+use Rattle.meaning.specs.Calls.{Reply, checks, refines, coarsens, restores}
+
+pub data Call : Type 0 where
+  check : Call
+  refine : List ℕ → Call
+  coarsen : List ℕ → Call
+  restore : Call
+
+-- what a call says: its number, the mesh after it, the passes; and the total twice-area of that mesh
+pub record Said : Type 0 where
+  pub number : ℕ
+  pub after : Mesh
+  pub passes : ℕ
+  pub twice : ℤ
+
+pub record Case : Type 0 where
+  pub room : Room
+  pub n0 : ℕ
+  pub given : Mesh
+  pub called : Call
+  pub expected : Said
+
+abbrev pub call : Room → ℕ → Mesh → Call → Reply
+call r n0 m check = checks m
+call r n0 m (refine marks) = refines newest r m marks
+call r n0 m (coarsen marks) = coarsens n0 m marks
+call r n0 m restore = restores n0 m
+
+abbrev pub said : Reply → Said
+said a = record { number = a .number; after = a .after; passes = a .passes; twice = total (a .after) }
+
+abbrev pub says : ℕ → Mesh → ℕ → ℕ → Said
+says k m passes twice = record { number = k; after = m; passes = passes; twice = pos twice }
+
+-- the answer that the definitions give
+abbrev pub computed : Case → Said
+computed c = said (call (c .room) (c .n0) (c .given) (c .called))
+
+abbrev pub within : ℕ → ℕ → ℕ → Mesh → Call → Said → Case
+within nc tc n0 m c s = record { room = record { nodes = nc; rows = tc }; n0 = n0; given = m; called = c; expected = s }
+
+-- in tables with all the room there may be
+abbrev pub case : ℕ → Mesh → Call → Said → Case
+case = within 1024 2048
+
+abbrev pub at : ℕ → ℕ → Place
+at a b = place (pos a) (pos b)

@@ -1,0 +1,127 @@
+-- Document 01, 'What a call says': lawful meshes and compatible labellings, as named facts, and as what is computed: the number
+-- of the refusal and the lowest node or row at fault. Assumes nothing.
+use mathlib.Core.Bool.{Bool, true, false, not, _&&_, _||_}
+use mathlib.Core.List.{List, [], _∷_}
+use mathlib.Core.Path.{_≡_}
+use mathlib.Core.Logic.{_≢_}
+use Prim.Native.Nat.{ℕ, zero, suc, _≤_, _<_}
+use lib.Dec.{leb, eqb}
+use lib.IntN.{ℤ, pos, natAbs}
+use lib.Signed.{ltZ, _<ℤ_}
+use lib.ListN.{length, getD, take}
+use Rattle.lists.specs.declared.Found.{Found}
+use Rattle.lists.specs.declared.Found.the-variants.{At, Nothing}
+use Rattle.lists.specs.Lists.{any, count, joined, whereFirst, isFound, All}
+use Rattle.lists.specs.Search.{lowest}
+use Rattle.meaning.specs.declared.Fault.{Fault}
+use Rattle.meaning.specs.Mesh.{Place, Tri, Mesh, Arrow, Edge, tri, arrows, base, sameArrow, sameEdge, holdsNode, holdsArrow, holdsEdge, twiceArea}
+
+-- ---- as facts
+
+-- "Coordinates from −1,048,576 to 1,048,576, both ends allowed."
+pub record InRange (a : Place) : Type 0 where
+  pub x-near : natAbs (a .x) ≤ 1_048_576
+  pub y-near : natAbs (a .y) ≤ 1_048_576
+
+-- not "a triangle names a node ≥ n, or one node twice"
+pub record Named (n : ℕ) (t : Tri) : Type 0 where
+  pub p-below : t .p < n
+  pub q-below : t .q < n
+  pub r-below : t .r < n
+  pub p≢q : t .p ≢ t .q
+  pub q≢r : t .q ≢ t .r
+  pub r≢p : t .r ≢ t .p
+
+-- "A mesh that draws none of 1 and 3 to 7 is lawful." (1 is about tables: see Calls)
+pub record Lawful (m : Mesh) : Type 0 where
+  -- not 3: "a coordinate of a node below n is outside its range"
+  pub range : All InRange (m .nodes)
+  -- not 4
+  pub named : All (Named (length (m .nodes))) (m .tris)
+  -- not 5: "a directed edge occurs twice"
+  pub noTwice : (e : Arrow) → count (sameArrow e) (joined arrows (m .tris)) ≤ 1
+  -- not 6: "a triangle's twice-area is not above 0"
+  pub positive : All (λ t. pos 0 <ℤ twiceArea m t) (m .tris)
+  -- not 7: "a node below n is in no triangle"
+  pub used : (z : ℕ) → z < length (m .nodes) → 1 ≤ count (holdsNode z) (m .tris)
+
+-- "Compatible: wherever another triangle holds a triangle's refinement edge, it is that one's refinement edge too."
+abbrev pub Compatible : Mesh → Type 0
+Compatible m = All (λ t. All (λ u. holdsEdge (base t) u ≡ true → base t ≡ base u) (m .tris)) (m .tris)
+
+-- ---- as tests of one node or one row; yes: it is at fault
+
+abbrev pub far : ℤ → Bool
+far z = not (leb (natAbs z) 1_048_576)
+
+-- 3
+abbrev pub outside : Place → Bool
+outside a = far (a .x) || far (a .y)
+
+-- 4
+abbrev pub misnamed : ℕ → Tri → Bool
+misnamed n t = leb n (t .p) || leb n (t .q) || leb n (t .r) || eqb (t .p) (t .q) || eqb (t .q) (t .r) || eqb (t .r) (t .p)
+
+-- the row i
+abbrev pub rowOf : List Tri → ℕ → Tri
+rowOf ts i = getD ts i (tri 0 0 0)
+
+-- 5: row i has a directed edge that a lower row already has
+abbrev pub repeats : List Tri → ℕ → Bool
+repeats ts i = any (λ e. any (holdsArrow e) (take i ts)) (arrows (rowOf ts i))
+
+-- 6
+abbrev pub flat : Mesh → Tri → Bool
+flat m t = not (ltZ (pos 0) (twiceArea m t))
+
+-- 7
+abbrev pub unused : List Tri → ℕ → Bool
+unused ts z = not (any (holdsNode z) ts)
+
+-- 10: another triangle holds the refinement edge of t, and not as its own refinement edge
+abbrev pub clashes : List Tri → Tri → Bool
+clashes ts t = any (λ u. holdsEdge (base t) u && not (sameEdge (base t) (base u))) ts
+
+-- ---- as the lowest node or row at fault, and the number
+
+unfoldable pub firstOutside : Mesh → Found
+firstOutside m = whereFirst outside (m .nodes)
+
+unfoldable pub firstMisnamed : Mesh → Found
+firstMisnamed m = whereFirst (misnamed (length (m .nodes))) (m .tris)
+
+unfoldable pub firstRepeat : Mesh → Found
+firstRepeat m = lowest (repeats (m .tris)) 0 (length (m .tris))
+
+unfoldable pub firstFlat : Mesh → Found
+firstFlat m = whereFirst (flat m) (m .tris)
+
+unfoldable pub firstUnused : Mesh → Found
+firstUnused m = lowest (unused (m .tris)) 0 (length (m .nodes))
+
+unfoldable pub firstClash : Mesh → Found
+firstClash m = whereFirst (clashes (m .tris)) (m .tris)
+
+abbrev pub fault : ℕ → ℕ → Fault
+fault k i = record { number = k; at = i }
+
+-- number k, if something is found; else the rest
+abbrev pub orLater : ℕ → Found → Fault → Fault
+orLater k (At i) rest = fault k i
+orLater k Nothing rest = rest
+
+-- "The lowest number that applies is given, and none is given otherwise": of 3 to 7
+unfoldable pub faultOf : Mesh → Fault
+faultOf m =
+    orLater 3 (firstOutside m)
+    (orLater 4 (firstMisnamed m)
+    (orLater 5 (firstRepeat m)
+    (orLater 6 (firstFlat m)
+    (orLater 7 (firstUnused m)
+    (fault 0 0)))))
+
+unfoldable pub refusal : Mesh → ℕ
+refusal m = faultOf m .number
+
+unfoldable pub compatible : Mesh → Bool
+compatible m = not (isFound (firstClash m))

@@ -1,0 +1,35 @@
+// What the device holds and what a call answers: the structs that code and definitions share. Document 01 as definitions is in specs/.
+
+// A node is a place.
+pub struct Place {
+    pub x: i32,
+    pub y: i32,
+}
+
+// A triangle is three node numbers: p is its newest vertex, q-r its refinement edge.
+//
+//           p
+//          / \
+//       u /   \ v
+//        /     \
+//       q-------r
+//           m
+pub struct Tri {
+    pub p: u32,
+    pub q: u32,
+    pub r: u32,
+}
+
+// What stands in the way of a mesh: the number of a refusal, with the lowest node or row at fault. 0 at 0: nothing does.
+pub struct Fault {
+    pub number: u32,
+    pub at: usize,
+}
+
+// What a call says: its number, the counts after it, and the passes it made.
+pub struct Answer {
+    pub number: u32,
+    pub n: usize,
+    pub t: usize,
+    pub passes: usize,
+}

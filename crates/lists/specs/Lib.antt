@@ -1,4 +1,5 @@
 pub mod Lists
 pub mod ListsLaw
+pub mod MembersLaw
 pub mod Tally
 pub mod Search

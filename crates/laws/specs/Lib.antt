@@ -1,3 +1,5 @@
 pub mod Area
 pub mod Edges
 pub mod Closure
+pub mod Cut
+pub mod Bisected

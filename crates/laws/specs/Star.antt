@@ -6,25 +6,25 @@ use mathlib.Core.Logic.{_↔_, _≢_}
 use mathlib.Core.Path.{_≡_, refl, sym, subst, subst⁻¹, ap, ap₂, _∙_}
 use Prim.Native.Nat.{ℕ, zero, suc, min, max, _+_, _*_, _≤_, _<_}
 use native.Mathlib.Omega.{arith}
-use lib.Dec.{eqb}
+use lib.Dec.{eqb, leb, ltb}
 use lib.IntN.{ℤ, pos, negℤ, _+ℤ_}
 use lib.Signed.{leZ, _<ℤ_}
 use lib.ListN.{length}
-use borrow.Author.Tests.{eqb-true, eqb-false, eq-eqb, not-true}
-use Rattle.lists.specs.Lists.{all, only, All, nil, cons}
+use borrow.Author.Tests.{eqb-true, eqb-false, eq-eqb, not-true, leb-true, le-leb, le-ltb, ltb-false}
+use Rattle.lists.specs.Lists.{all, only, upTo, All, nil, cons}
 use Rattle.lists.specs.ListsLaw.{clash, and-both, and-left, and-right, or-left, or-right, All-imp, All-both, All-at, All-of, all-yes, yes-all, any-none}
-use Rattle.lists.specs.MembersLaw.{only-keeps, none-any}
+use Rattle.lists.specs.MembersLaw.{only-keeps, none-any, upTo-below, upTo-in}
 use Rattle.lists.specs.Tally.{tally, tally-le, tally-add, tally-length, tally-only, count-tally, only-le}
 use Rattle.whole.specs.Diff.{onℤ, sumℤ, negℤ-ud}
 use Rattle.whole.specs.Order.{le-of-eq, le-antisymm}
 use Rattle.whole.specs.Tests.{leZ-true, le-leZ}
 use Rattle.meaning.specs.declared.Place.{Place}
 use Rattle.meaning.specs.declared.Tri.{Tri}
-use Rattle.meaning.specs.Mesh.{Mesh, Edge, Arrow, edge, arrow, holdsNode, holdsEdge, at, turn, twiceArea}
+use Rattle.meaning.specs.Mesh.{Mesh, Edge, Arrow, edge, arrow, sameEdge, holdsNode, holdsEdge, at, turn, twiceArea}
 use Rattle.meaning.specs.Lawful.{Named, Lawful}
-use Rattle.meaning.specs.Good.{Middle, Brothers, father, rowsOf, pairs, spanOf, span, closes, sameZ, isMiddle, G1, G2, G3, G4, G1-4}
+use Rattle.meaning.specs.Good.{Middle, Brothers, father, rowsOf, pairs, spanOf, span, closes, sameZ, isMiddle, G1, G2, G3, G4, G1-4, G5, good}
 use Rattle.laws.specs.Area.{turn-mirror, bisect-area, middle-either, middle-edge}
-use Rattle.laws.specs.Edges.{edge-comm, hit, hits, hit-self, hit-le}
+use Rattle.laws.specs.Edges.{edge-comm, sameEdge-eq, sameEdge-refl, hit, hits, hit-self, hit-le}
 use Rattle.laws.specs.Pairs.{RowsOnce, ArrowsOnce, arrows-once, row-once, only-once, Matched, matched-rows, matched-all, matched-off, off-half, off-length, off-matched}
 
 -- ---- a pair of brothers
@@ -360,3 +360,65 @@ module _ (m : Mesh) (z : ℕ) (law : Lawful m) (below : z < length (m .nodes)) w
   -- IN A LAWFUL MESH A NODE MEETS G1 TO G4 EXACTLY WHERE ITS ROWS ARE A STAR
   pub star-is : (G1-4 m z ≡ true) ↔ Star m z
   star-is = (test-star m z law, star-test)
+
+-- ---- a good node
+
+-- G5 as well: no other node numbered n0 or above has the same pair
+pub record GoodStar (n0 : ℕ) (m : Mesh) (z : ℕ) : Type 0 where
+  pub added : n0 ≤ z
+  pub round : Star m z
+  pub alone : (y : ℕ) → n0 ≤ y → y < length (m .nodes) → Star m y → span m z ≡ span m y → y ≡ z
+
+-- G5, as a test of each node, and as a fact of each that meets G1 to G4
+module _ (n0 : ℕ) (m : Mesh) (z : ℕ) where
+  pub G5-alone : G5 n0 m z ≡ true → (y : ℕ) → n0 ≤ y → y < length (m .nodes) → G1-4 m y ≡ true → span m z ≡ span m y → y ≡ z
+  G5-alone e y a b g d =
+      go (eqb y z) refl (ltb y n0) (le-ltb y n0 a) (G1-4 m y) g (sameEdge (span m z) (span m y)) (subst (λ c. sameEdge (span m z) c ≡ true) d (sameEdge-refl (span m z)))
+      (All-at (all-yes _ (upTo (length (m .nodes))) e) (upTo-in (length (m .nodes)) b))
+    where
+      go : (b : Bool) → eqb y z ≡ b → (c : Bool) → c ≡ false → (d : Bool) → d ≡ true → (f : Bool) → f ≡ true → c || b || not d || not f ≡ true → y ≡ z
+      go true w c p d q f r h = eqb-true y z w
+      go false w true p d q f r h = clash p
+      go false w false p false q f r h = clash (sym q)
+      go false w false p true q false r h = clash (sym r)
+      go false w false p true q true r h = clash (sym h)
+
+  pub alone-G5 : ((y : ℕ) → n0 ≤ y → y < length (m .nodes) → G1-4 m y ≡ true → span m z ≡ span m y → y ≡ z) → G5 n0 m z ≡ true
+  alone-G5 alone =
+      yes-all (All-imp (λ y l. other y l (ltb y n0) refl (eqb y z) refl (G1-4 m y) refl (sameEdge (span m z) (span m y)) refl) (upTo-below (length (m .nodes))))
+    where
+      other : (y : ℕ) → y < length (m .nodes) → (a : Bool) → ltb y n0 ≡ a → (b : Bool) → eqb y z ≡ b → (c : Bool) → G1-4 m y ≡ c → (d : Bool) → sameEdge (span m z) (span m y) ≡ d → a || b || not c || not d ≡ true
+      other y l true p b q c r d s = refl
+      other y l false p true q c r d s = refl
+      other y l false p false q false r d s = refl
+      other y l false p false q true r false s = refl
+      other y l false p false q true r true s = absurd (eqb-false y z q (alone y (ltb-false y n0 p) l r (sameEdge-eq (span m z) (span m y) s)))
+
+  -- the parts of the test
+  pub good-added : good n0 m z ≡ true → n0 ≤ z
+  unfolding good
+  good-added e = leb-true n0 z (and-left (leb n0 z) (G1-4 m z) (and-left (leb n0 z && G1-4 m z) (G5 n0 m z) e))
+
+  pub good-meets : good n0 m z ≡ true → G1-4 m z ≡ true
+  unfolding good
+  good-meets e = and-right (leb n0 z) (G1-4 m z) (and-left (leb n0 z && G1-4 m z) (G5 n0 m z) e)
+
+  pub good-alone : good n0 m z ≡ true → G5 n0 m z ≡ true
+  unfolding good
+  good-alone e = and-right (leb n0 z && G1-4 m z) (G5 n0 m z) e
+
+  pub good-yes : n0 ≤ z → G1-4 m z ≡ true → G5 n0 m z ≡ true → good n0 m z ≡ true
+  unfolding good
+  good-yes a g f = and-both (and-both (le-leb n0 z a) g) f
+
+module _ (n0 : ℕ) (m : Mesh) (z : ℕ) (law : Lawful m) where
+  pub good-star : good n0 m z ≡ true → GoodStar n0 m z
+  good-star e = record {
+    added = good-added n0 m z e;
+    round = test-star m z law (good-meets n0 m z e);
+    alone = λ y a b s d. G5-alone n0 m z (good-alone n0 m z e) y a b (star-is m y law b .1 s) d;
+  }
+
+  pub star-good : z < length (m .nodes) → GoodStar n0 m z → good n0 m z ≡ true
+  star-good below h =
+      good-yes n0 m z (h .added) (star-is m z law below .1 (h .round)) (alone-G5 n0 m z (λ y a b g d. h .alone y a b (test-star m y law g) d))

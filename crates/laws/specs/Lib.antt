@@ -6,3 +6,4 @@ pub mod Star
 pub mod CoarsenRows
 pub mod Without
 pub mod Coarsen
+pub mod Restore

@@ -6,3 +6,11 @@ pub mod Check
 pub mod Closure
 pub mod Cut
 pub mod Bisected
+pub mod Stay
+pub mod Pairs
+pub mod Star
+pub mod CoarsenRows
+pub mod Without
+pub mod Coarsen
+pub mod Restore
+pub mod Brotherly

@@ -2,3 +2,6 @@ pub mod Lists
 pub mod ListsLaw
 pub mod Tally
 pub mod Search
+pub mod SearchLaw
+pub mod IterLaw
+pub mod FillLaw

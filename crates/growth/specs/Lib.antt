@@ -1,0 +1,2 @@
+-- Demand 3: what refining and coarsening make of a compatibly labelled base goes back to the base.
+pub mod Labels

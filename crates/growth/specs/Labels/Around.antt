@@ -122,7 +122,7 @@ module _ (B : List (Corners ℕ)) (C : Compatible B) (t : ℕ) (lab : ℕ → La
         record {
           left = P .left;
           right = P .right;
-          order = left-first B t lab (name z) P (F .ordered);
+          order = left-first P (F .ordered);
           right-below = P .right-below;
           left-is = λ i. record { p = lp i; q = rows (P .left) .q; r = lr i };
           right-is = λ i. record { p = rp i; q = rq i; r = rr i };
@@ -141,7 +141,7 @@ module _ (B : List (Corners ℕ)) (C : Compatible B) (t : ℕ) (lab : ℕ → La
       → ((j : ℕ) → j < t → Holds z (rows j) → z ≡ rows j .p)
       → ((j k : ℕ) → j < t → k < t → (a b : ℕ) → Arrow (rows j) a b → Arrow (rows k) a b → j ≡ k)
       → (j : ℕ) → j < t → Holds z (rows j) → ((k : ℕ) → k < t → Holds z (rows k) → j ≤ k) → Around B t lab name rows z j
-  around z lz x y e newest once j lj h low = go (pair-of B C t lab (F .covers) (name z) x y e new j lj (rw (N .names j lj) at (holds-named name z (rows j) h)))
+  around z lz x y e newest once j lj h low = go (pair-of C (F .covers) (record { one = x; two = y; halves = e }) new j lj (rw (N .names j lj) at (holds-named name z (rows j) h)))
     where
       new : NewestEverywhere B t lab (name z)
       new = newest-named z lz newest
@@ -150,7 +150,7 @@ module _ (B : List (Corners ℕ)) (C : Compatible B) (t : ℕ) (lab : ℕ → La
       held k l m = rw (N .names k l) at (holds-named name z (rows k) m)
 
       go : (P : Pair B t lab (name z)) × In j P → Around B t lab name rows z j
-      go (P, inP) = build (star B C t lab (F .covers) (name z) x y e new (arrows-named once) P)
+      go (P, inP) = build (star C (F .covers) (record { one = x; two = y; halves = e }) new (arrows-named once) P)
         where
           b : ℕ
           b = rows (P .left) .r
@@ -174,7 +174,7 @@ module _ (B : List (Corners ℕ)) (C : Compatible B) (t : ℕ) (lab : ℕ → La
           halves = P .halves ∙ ap₂ mid (sym eb) (sym ec)
 
           first : j ≡ P .left
-          first = lowest-is-left B t lab (name z) P (F .ordered) j inP (λ k l m. low k l (holds-number z lz k l m))
+          first = lowest-is-left P (F .ordered) j inP (λ k l m. low k l (holds-number z lz k l m))
 
           build : Star P → Around B t lab name rows z j
           build (two all) =
@@ -188,7 +188,7 @@ module _ (B : List (Corners ℕ)) (C : Compatible B) (t : ℕ) (lab : ℕ → La
               let ofP : (k : ℕ) → Of k A → In k P = λ k s. elim s [ inl u ↦ inl (u ∙ el) | inr u ↦ inr (u ∙ er) ] in
               let ofQ : (k : ℕ) → Of k D → In k Q = λ k s. elim s [ inl u ↦ inl (u ∙ fl) | inr u ↦ inr (u ∙ fr) ] in
               four-rows a b c d A D (first ∙ sym el) halves
-              (λ k u v. facing-apart B C t lab (F .covers) (name z) P Q f k (ofP k u) (ofQ k v))
+              (λ k u v. facing-apart C (F .covers) P Q f k (ofP k u) (ofQ k v))
               (λ k l m. elim (all k l (held k l m)) [ inl s ↦ inl (toP k s) | inr s ↦ inr (toQ k s) ])
 
   -- G4: no row holds the edge that a present midpoint halves.
@@ -229,7 +229,7 @@ module _ (B : List (Corners ℕ)) (C : Compatible B) (t : ℕ) (lab : ℕ → La
       → (v : ℕ) × (v < n) × ((x : Name) × (y : Name) × (name v ≡ mid x y)) × ((k : ℕ) → k < t → Holds v (rows k) → v ≡ rows k .p)
   good-exists z lz x y e j lj h =
       let held = rw (N .names j lj) at (holds-named name z (rows j) h) in
-      let (k, lk, pos, top) = some-newest B C t lab (F .covers) j lj (made (lab j .from) (lab j .path) (name z) x y e held) in
+      let (k, lk, pos, top) = some-newest C (F .covers) j lj (made (lab j .from) (lab j .path) (name z) x y e held) in
       let here : name (rows k .p) ≡ corners-of B (lab k) .p = ap (λ (r : Corners Name). r .p) (N .names k lk) in
       let (a, b, f) = newest-is-mid (lab k .from) (lab k .path) pos in (
         rows k .p,
@@ -254,7 +254,7 @@ module _ (B : List (Corners ℕ)) (C : Compatible B) (t : ℕ) (lab : ℕ → La
               absurd (base≢mid (rows j .p) a b (sym (based _ (N .nodes j l _ (is-p refl))) ∙ ap (λ (r : Corners Name). r .p) (N .names j l) ∙ f))
 
       whole : (t ≡ length B) × ((j : ℕ) → j < t → lab j ≡ rooted j)
-      whole = forest-end B t lab F empty
+      whole = forest-end F empty
 
       same : (j : ℕ) → j < t → rows j ≡ row B j
       same j l =

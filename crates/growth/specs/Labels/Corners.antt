@@ -7,7 +7,7 @@ use native.Mathlib.Nat.{zero-add}
 use native.Mathlib.Numerals.{unary-clauses}
 use native.Mathlib.Omega.{arith}
 use lib.ListN.{length, getD}
-use Rattle.growth.specs.Labels.Names.{Name, base, mid, base≢mid}
+use Rattle.growth.specs.Labels.Names.{Name, base, mid, Halfway, base-not-halfway}
 use Rattle.growth.specs.Labels.Paths.{Side, L, R, Path, Stream, on, _⊑_, ⊑-refl, ⊑-step, along, along-past, on-along, on-same-length}
 
 -- Three corners: p is the newest, q–r the refinement edge. Of numbers (a base row) or of names.
@@ -25,7 +25,7 @@ abbrev pub half : Side → Corners Name → Corners Name
 half L t = record { p = mid t.q t.r; q = t.p; r = t.q }
 half R t = record { p = mid t.q t.r; q = t.r; r = t.p }
 
--- T(i, w): the corners of the triangle that the way w leads to from base row i.
+-- T(i, w): the corners of the triangle that the path w leads to from base row i.
 abbrev pub corners : List (Corners ℕ) → ℕ → Path → Corners Name
 corners B i [] = record { p = base (row B i .p); q = base (row B i .q); r = base (row B i .r) }
 corners B i (x ∷ w) = half x (corners B i w)
@@ -56,7 +56,7 @@ half-keeps z t (is-p e) = (L, is-q e)
 half-keeps z t (is-q e) = (L, is-r e)
 half-keeps z t (is-r e) = (R, is-q e)
 
--- z came in as the newest corner on the way w: at the step `side` after the way `upto`.
+-- z came in as the newest corner on the path w: at the step `side` after the path `upto`.
 pub record Born (B : List (Corners ℕ)) (i : ℕ) (w : Path) (z : Name) : Type 0 where
   pub side : Side
   pub upto : Path
@@ -86,11 +86,11 @@ module _ (B : List (Corners ℕ)) (i : ℕ) (z : Name) where
   base-corner (is-r e) = (_, e)
 
   -- A midpoint that is a corner of T(i, w) was born on the way.
-  pub mid-is-born : (x y : Name) → z ≡ mid x y → (w : Path) → Holds z (corners B i w) → Born B i w z
-  mid-is-born x y e w h = go (corner-origin w h)
+  pub mid-is-born : Halfway z → (w : Path) → Holds z (corners B i w) → Born B i w z
+  mid-is-born H w h = go (corner-origin w h)
     where
       go : Holds z (corners B i []) ⊎ Born B i w z → Born B i w z
-      go (inl b) = absurd (base≢mid (base-corner b .0) x y (sym (base-corner b .1) ∙ e))
+      go (inl b) = absurd (base-not-halfway _ (base-corner b .1) H)
       go (inr b) = b
 
   module _ (w : Path) (h : Holds z (corners B i w)) where
@@ -105,7 +105,7 @@ module _ (B : List (Corners ℕ)) (i : ℕ) (z : Name) where
     steps : Stream
     steps n = half-keeps z (corners B i (keeping n .0)) (keeping n .1) .0
 
-    -- After n steps the way is n longer.
+    -- After n steps the path is n longer.
     keeping-length : (n : ℕ) → length (keeping n .0) ≡ n + length w
     unfolding keeping
     keeping-length zero = simp zero-add
@@ -117,7 +117,7 @@ module _ (B : List (Corners ℕ)) (i : ℕ) (z : Name) where
     keeping-on zero = on-along w steps
     keeping-on (suc n) = (rw (keeping-length n) (along-past w steps n), keeping-on n)
 
--- A stream through w on which every longer way leads to a triangle that holds z.
+-- A stream through w on which every longer path leads to a triangle that holds z.
 pub record Kept (B : List (Corners ℕ)) (i : ℕ) (w : Path) (z : Name) : Type 0 where
   pub stream : Stream
   pub begins : on w stream

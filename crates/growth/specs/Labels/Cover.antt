@@ -9,7 +9,7 @@ use Rattle.growth.specs.Labels.Names.{Name, mid, mid-injective, Same, st
 use Rattle.growth.specs.Labels.Paths.{Side, L, Path, Stream, on, _⊑_, ⊑-refl, ⊑-step, ⊑-trans, ⊑-length, on-⊑, on-shorter, along, on-along}
 use Rattle.growth.specs.Labels.Corners.{Corners, half-keeps, mid-is-born, Born, corners, Holds, is-p, is-q, is-r, Kept, kept-stream}
 
--- A label: a base row and a way down from it.
+-- A label: a base row and a path down from it.
 pub record Label : Type 0 where
   pub from : ℕ
   pub path : Path
@@ -34,7 +34,7 @@ pub record Meets (t : ℕ) (lab : ℕ → Label) (i : ℕ) (s : Stream) : Type 0
   pub label : lab index ≡ at i by
   pub begins : on by s
 
--- A row whose way goes on from u and that holds z.
+-- A row whose path goes on from u and that holds z.
 pub record Keeps (B : List (Corners ℕ)) (t : ℕ) (lab : ℕ → Label) (i : ℕ) (u : Path) (z : Name) : Type 0 where
   pub index : ℕ
   pub below : index < t
@@ -43,7 +43,7 @@ pub record Keeps (B : List (Corners ℕ)) (t : ℕ) (lab : ℕ → Label) (i : �
   pub part : u ⊑ by
   pub holds : Holds z (corners B i by)
 
--- The triangle T(i, u) has been halved: a row's way goes on from it.
+-- The triangle T(i, u) has been halved: a row's path goes on from it.
 pub record Halved (t : ℕ) (lab : ℕ → Label) (i : ℕ) (u : Path) : Type 0 where
   pub index : ℕ
   pub below : index < t
@@ -69,7 +69,7 @@ same-holds : (x y : Name) (t : Corners Name) → Same x y t.q t.r → Holds x t
 same-holds x y t (straight e f) = is-q e
 same-holds x y t (crossed e f) = is-r e
 
-module _ (B : List (Corners ℕ)) (t : ℕ) (lab : ℕ → Label) (cov : Covers B t lab) where
+module _ {B : List (Corners ℕ)} {t : ℕ} {lab : ℕ → Label} (cov : Covers B t lab) where
   -- Two rows have two labels.
   pub same-label : (j k : ℕ) → j < t → k < t → lab j ≡ lab k → j ≡ k
   same-label j k lj lk e =
@@ -78,7 +78,7 @@ module _ (B : List (Corners ℕ)) (t : ℕ) (lab : ℕ → Label) (cov : Covers 
       (record { index = j; below = lj; by = l .path; label = e; begins = on-along (l .path) (λ _. L) })
       (record { index = k; below = lk; by = l .path; label = refl; begins = on-along (l .path) (λ _. L) })
 
-  -- No row's way is an earlier part of another's below one base row.
+  -- No row's path is an earlier part of another's below one base row.
   pub no-shorter-row : (i : ℕ) (u w : Path) (j k : ℕ) → j < t → k < t → lab j ≡ at i u → lab k ≡ at i w → u ⊑ w → u ≡ w
   no-shorter-row i u w j k lj lk ej ek h =
       let s : Stream = along w (λ _. L) in
@@ -87,7 +87,7 @@ module _ (B : List (Corners ℕ)) (t : ℕ) (lab : ℕ → Label) (cov : Covers 
       (record { index = k; below = lk; by = w; label = ek; begins = on-along w (λ _. L) }) in
       ap (λ (l : Label). l .path) (sym ej ∙ ap lab e ∙ ek)
 
-  -- If T(i, u) has been halved, no row's way is a part of u.
+  -- If T(i, u) has been halved, no row's path is a part of u.
   halved-no-row : (i : ℕ) (u : Path) → Halved t lab i u → (v : Path) (k : ℕ) → k < t → lab k ≡ at i v → v ⊑ u → ⊥
   halved-no-row i u H v k l e h =
       let part = ⊑-trans h (⊑-trans (⊑-step (H .side) (⊑-refl u)) (H .part)) in
@@ -121,7 +121,7 @@ module _ (B : List (Corners ℕ)) (t : ℕ) (lab : ℕ → Label) (cov : Covers 
   end-kept x y P =
       let l = lab (P .index) in
       let known = cov .known (P .index) (P .below) in
-      let b = mid-is-born B (l .from) (mid x y) x y refl (l .path) (P .holds) in
+      let b = mid-is-born B (l .from) (mid x y) (record { one = x; two = y; halves = refl }) (l .path) (P .holds) in
       let H : Halved t lab (l .from) (b .upto) = record { index = P .index; below = P .below; by = l .path; label = refl; side = b .side; part = b .part } in
       let end = same-holds x y (corners B (l .from) (b .upto)) (mid-injective _ _ _ _ (b .is-mid)) in
       let k = half-keeps x (corners B (l .from) (b .upto)) end in

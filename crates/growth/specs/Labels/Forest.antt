@@ -50,8 +50,8 @@ forest-base B = record {
 }
 
 -- A forest with no halved row is the base.
-pub forest-end : (B : List (Corners ℕ)) (t : ℕ) (lab : ℕ → Label) → Forest B t lab → ((j : ℕ) → j < t → lab j .path ≡ []) → (t ≡ length B) × ((j : ℕ) → j < t → lab j ≡ rooted j)
-forest-end B t lab F empty = (count (decLe t (length B)), λ j l. whole j l)
+pub forest-end : {B : List (Corners ℕ)} {t : ℕ} {lab : ℕ → Label} → Forest B t lab → ((j : ℕ) → j < t → lab j .path ≡ []) → (t ≡ length B) × ((j : ℕ) → j < t → lab j ≡ rooted j)
+forest-end {B} {t} {lab} F empty = (count (decLe t (length B)), λ j l. whole j l)
   where
     count : Dec (t ≤ length B) → t ≡ length B
     count (yes h) = omega (arith, F .enough)

@@ -15,7 +15,7 @@ use Rattle.growth.specs.Labels.Newest.{NewestEverywhere, brother, newest
 use Rattle.growth.specs.Labels.Forest.{Forest}
 use Rattle.growth.specs.Labels.Groups.{total, owner, keep, close-old, close-new, close-increasing}
 
--- The way's last step is R.
+-- The path's last step is R.
 abbrev pub EndsR : Path → Type 0
 EndsR [] = ⊥
 EndsR (L ∷ w) = ⊥
@@ -91,8 +91,8 @@ module _ (B : List (Corners ℕ)) (C : Compatible B) (Z : Name → Type 0) (Z? :
       → (y : Side) → (k : ℕ) × (k < t) × (lab k ≡ at i (y ∷ w))
   both-rows j l L i w e z L = (j, l, e)
   both-rows j l R i w e z R = (j, l, e)
-  both-rows j l L i w e z R = brother B C t lab (F .covers) _ (good _ z) j l i L w e (rw e (is-p refl))
-  both-rows j l R i w e z L = brother B C t lab (F .covers) _ (good _ z) j l i R w e (rw e (is-p refl))
+  both-rows j l L i w e z R = brother C (F .covers) _ (good _ z) j l i L w e (rw e (is-p refl))
+  both-rows j l R i w e z L = brother C (F .covers) _ (good _ z) j l i R w e (rw e (is-p refl))
 
   -- A joined row's label is lifted to its father's.
   lift-half : (j : ℕ) (x : Side) (i : ℕ) (w : Path) → lab j ≡ at i (x ∷ w) → Z (corners-of B (lab j) .p) → lift B Z Z? (lab j) ≡ at i w
@@ -109,7 +109,7 @@ module _ (B : List (Corners ℕ)) (C : Compatible B) (Z : Name → Type 0) (Z? :
     where
       longer : (i : ℕ) (x : Side) (w : Path) (a b : ℕ) → a < t → b < t → lab a ≡ at i w → lab b ≡ at i (x ∷ w) → ⊥
       longer i x w a b la lb ea eb =
-          let s = ap length (no-shorter-row B t lab (F .covers) i w (x ∷ w) a b la lb ea eb (⊑-step x (⊑-refl w))) in
+          let s = ap length (no-shorter-row (F .covers) i w (x ∷ w) a b la lb ea eb (⊑-step x (⊑-refl w))) in
           omega arith
 
       left : (a : ℕ) (x : Side) (i : ℕ) (w : Path) → ¬ Goes B Z (lab a) → lab a ≡ at i (x ∷ w) → Z (corners-of B (lab a) .p) → x ≡ L
@@ -117,14 +117,14 @@ module _ (B : List (Corners ℕ)) (C : Compatible B) (Z : Name → Type 0) (Z? :
       left a R i w g f z = absurd (g (z, rw f tt))
 
       go : Fate j → Fate k → j ≡ k
-      go (keeps m) (keeps n) = same-label B t lab (F .covers) j k lj lk (sym (lift-keeps B Z Z? (lab j) m) ∙ e ∙ lift-keeps B Z Z? (lab k) n)
+      go (keeps m) (keeps n) = same-label (F .covers) j k lj lk (sym (lift-keeps B Z Z? (lab j) m) ∙ e ∙ lift-keeps B Z Z? (lab k) n)
       go (keeps m) (joins y i w f z) = absurd (longer i y w j k lj lk (sym (lift-keeps B Z Z? (lab j) m) ∙ e ∙ lift-half k y i w f z) f)
       go (joins x i w f z) (keeps n) = absurd (longer i x w k j lk lj (sym (lift-keeps B Z Z? (lab k) n) ∙ sym e ∙ lift-half j x i w f z) f)
       go (joins x i w f z) (joins y i′ w′ f′ z′) =
           let a = left j x i w gj f z in
           let b = left k y i′ w′ gk f′ z′ in
           let c = sym (lift-half j x i w f z) ∙ e ∙ lift-half k y i′ w′ f′ z′ in
-          same-label B t lab (F .covers) j k lj lk (f ∙ ap (λ (s : Side). at i (s ∷ w)) (a ∙ sym b) ∙ ap (λ (l : Label). at (l .from) (y ∷ l .path)) c ∙ sym f′)
+          same-label (F .covers) j k lj lk (f ∙ ap (λ (s : Side). at i (s ∷ w)) (a ∙ sym b) ∙ ap (λ (l : Label). at (l .from) (y ∷ l .path)) c ∙ sym f′)
 
   module _ (t′ : ℕ) (lab′ : ℕ → Label) (D : Coarsened B Z Z? t lab t′ lab′) where
     -- Every old row has an heir, with its lifted label.
@@ -274,8 +274,8 @@ module _ (B : List (Corners ℕ)) (C : Compatible B) (Z : Name → Type 0) (Z? :
             let h : Holds z (corners B i w) = rw (D .label (P .index) (P .below) ∙ lift-half o x i w e z′) at (P .holds) in
             let (y, k) = half-keeps z (corners B i w) h in
             let (a, la, f) = both-rows o lo x i w e z′ y in
-            let b = newest-birth B C t lab (F .covers) z (good z zz) i (y ∷ w) a la f k in
-            omega (arith, birth-le-gen B (length w) (corners B i w) z (static B C i (rw e at (F .covers .known o lo)) w) h)
+            let b = newest-birth C (F .covers) z (good z zz) i (y ∷ w) a la f k in
+            omega (arith, birth-le-gen (static B C i (rw e at (F .covers .known o lo)) w) h)
 
     -- Nothing hangs afterwards.
     no-hang-after : (k : ℕ) → k < t′ → (x y : Name) → Edge (corners-of B (lab′ k)) x y → ¬ Present B t′ lab′ (mid x y)
@@ -390,7 +390,7 @@ module _ (B : List (Corners ℕ)) (C : Compatible B) (Z : Name → Type 0) (Z? :
             let s′ : suc (length w) ≡ suc g = sym (ap gen e) ∙ s in
             (k, lk, ap gen (f ∙ lift-half j x i w e z) ∙ omega arith)
 
--- Whether a way ends in R is decided.
+-- Whether a path ends in R is decided.
 endsR? : (w : Path) → Dec (EndsR w)
 endsR? [] = no (λ h. h)
 endsR? (L ∷ w) = no (λ h. h)

@@ -9,11 +9,11 @@ use lib.ListN.{length}
 use Rattle.growth.specs.Labels.Names.{Name, mid, mid-sym, mid-injective, mid-same, Same, straight, crossed, same-sym}
 use Rattle.growth.specs.Labels.Paths.{Path, Stream, Side, L, R, AllL, allL-anchor, anchor, anchor-⊑, on, on-⊑, _⊑_, ⊑-refl, ⊑-step, ⊑-trans, ⊑-length}
 use Rattle.growth.specs.Labels.Corners.{Corners, half, corners, half-newest, half-holds, Holds, is-p, is-q, is-r}
-use Rattle.growth.specs.Labels.Levels.{Compatible, Edge, edge-qr, edge-pq, edge-rp}
+use Rattle.growth.specs.Labels.Levels.{Edge, edge-qr, edge-pq, edge-rp}
 use Rattle.growth.specs.Labels.Cover.{Label, at, corners-of, Meets, Covers, Present, no-shorter-row, same-label, ends-present}
 use Rattle.growth.specs.Labels.Forest.{Forest}
 
--- w′ is one of the ways that w is cut into, where `cut v` says that T(v) is halved: w itself, a half, or a half of a half.
+-- w′ is one of the paths that w is cut into, where `cut v` says that T(v) is halved: w itself, a half, or a half of a half.
 pub data Piece (cut : Path → Type 0) (w w′ : Path) : Type 0 where
   whole : ¬ cut w → w′ ≡ w → Piece cut w w′
   one : (x : Side) → cut w → ¬ cut (x ∷ w) → w′ ≡ x ∷ w → Piece cut w w′
@@ -87,7 +87,7 @@ edge-holds t x y (edge-pq (crossed e f)) = is-q e
 edge-holds t x y (edge-rp (straight e f)) = is-r e
 edge-holds t x y (edge-rp (crossed e f)) = is-p e
 
-module _ (B : List (Corners ℕ)) (C : Compatible B) (S : Name → Name → Type 0) (t : ℕ) (lab : ℕ → Label) (F : Forest B t lab) (K : Closed B t lab S) where
+module _ {B : List (Corners ℕ)} {S : Name → Name → Type 0} {t : ℕ} {lab : ℕ → Label} (F : Forest B t lab) (K : Closed B t lab S) where
   -- A new node: the midpoint of an edge of S.
   New : Name → Type 0
   New z = (a : Name) × (b : Name) × S a b × (z ≡ mid a b)
@@ -108,7 +108,7 @@ module _ (B : List (Corners ℕ)) (C : Compatible B) (S : Name → Name → Type
 
   -- The midpoint of a pair with a new end is no node before, and is no new node.
   new-end : (x y : Name) → New x → ¬ Present B t lab (mid x y)
-  new-end x y n P = new-absent x n (ends-present B t lab (F .covers) x y P)
+  new-end x y n P = new-absent x n (ends-present (F .covers) x y P)
 
   -- Nor a new node.
   new-end-new : (x y : Name) → New x → ¬ New (mid x y)
@@ -189,15 +189,15 @@ module _ (B : List (Corners ℕ)) (C : Compatible B) (S : Name → Name → Type
       go (one s c n e) = step s c (rw e at h)
       go (both s r c d e) = elim (half-holds r (corners B i (s ∷ w)) z (rw e at h)) [ inl f ↦ inr (_, _, d, f) | inr m ↦ step s c m ]
 
-  -- No row's way is a part of what another row's way has below its anchor.
+  -- No row's path is a part of what another row's path has below its anchor.
   no-inner : (a b : ℕ) → a < t → b < t → lab a .from ≡ lab b .from → (v : Path) → anchor (lab b .path) ≡ R ∷ v → lab a .path ⊑ v → ⊥
   no-inner a b la lb e v f h =
       let up : R ∷ v ⊑ lab b .path = rw f at (anchor-⊑ (lab b .path)) in
-      let s = ap length (no-shorter-row B t lab (F .covers) (lab a .from) (lab a .path) (lab b .path) a b la lb refl (λ i. record { from = sym e i; path = lab b .path })
+      let s = ap length (no-shorter-row (F .covers) (lab a .from) (lab a .path) (lab b .path) a b la lb refl (λ i. record { from = sym e i; path = lab b .path })
       (⊑-trans h (⊑-trans (⊑-step R (⊑-refl v)) up))) in
       omega (arith, ⊑-length h, ⊑-length up)
 
-  module _ (t′ : ℕ) (lab′ : ℕ → Label) (D : Refined B S t lab t′ lab′) where
+  module _ {t′ : ℕ} {lab′ : ℕ → Label} (D : Refined B S t lab t′ lab′) where
     -- The father of a new row on a stream is on the stream.
     father-meets : (i : ℕ) (s : Stream) → Meets t′ lab′ i s → Meets t lab i s
     father-meets i s n =
@@ -257,7 +257,7 @@ module _ (B : List (Corners ℕ)) (C : Compatible B) (S : Name → Name → Type
         go (inr (inr n)) (inl p) = new-end y x n (rw (mid-sym y x) p)
         go (inr (inr n)) (inr m) = new-end-new y x n (rw (mid-sym y x) m)
 
-    -- A row past the old ones was cut off to the right of its father's way, or of a part below it.
+    -- A row past the old ones was cut off to the right of its father's path, or of a part below it.
     new-right : (k : ℕ) → t ≤ k → k < t′ → (v : Path) × (anchor (lab′ k .path) ≡ R ∷ v) × (lab (D .father k) .path ⊑ v)
     new-right k h l = go (D .piece k l)
       where
@@ -307,8 +307,8 @@ module _ (B : List (Corners ℕ)) (C : Compatible B) (S : Name → Name → Type
         new h v f u (both R R _ _ g) =
             let here : lab fk .path ≡ v = tail-eq-of-cons-eq (ap anchor (tail-eq-of-cons-eq (sym (ap anchor g) ∙ a)) ∙ sym b ∙ f) in
             let up : lab fk ≡ at (lab fj .from) (lab fk .path) = λ i. record { from = sym from i; path = lab fk .path } in
-            let same = no-shorter-row B t lab (F .covers) (lab fj .from) (lab fj .path) (lab fk .path) fj fk bj bk refl up (subst (λ (x : Path). lab fj .path ⊑ x) (sym here) u) in
-            D .right-last j k lj lk (same-label B t lab (F .covers) fj fk bj bk (λ i. record { from = from i; path = same i }))
+            let same = no-shorter-row (F .covers) (lab fj .from) (lab fj .path) (lab fk .path) fj fk bj bk refl up (subst (λ (x : Path). lab fj .path ⊑ x) (sym here) u) in
+            D .right-last j k lj lk (same-label (F .covers) fj fk bj bk (λ i. record { from = from i; path = same i }))
             (f ∙ ap (R ∷_) (sym here ∙ sym same)) g
 
         go : Dec (j < t) → Dec (k < t) → j < k

@@ -140,7 +140,7 @@ module _ (B : List (Corners ℕ)) (C : Compatible B) (n₀ n t : ℕ) (rows : �
   forest-after : Forest B t′ labels-after
   unfolding labels-after
   forest-after = subst (λ (x : ℕ). Forest B x labels-after) (sym count-same)
-      (forest-refined B C S t lab (G .forest) (closed-by-name B t lab n name rows N E K) _ _
+      (forest-refined (G .forest) (closed-by-name B t lab n name rows N E K)
       (written B S t lab S?))
 
   -- The rows afterwards have the names that the labels say.
@@ -320,7 +320,7 @@ module _ (B : List (Corners ℕ)) (C : Compatible B) (n₀ n t : ℕ) (rows : �
       old-end : (x y : ℕ) → k < n → x < n′ → name-after k ≡ mid (name-after x) (name-after y) → Dec (x < n) → x < n
       old-end x y h lx f (yes m) = m
       old-end x y h lx f (no m) =
-          let P = ends-present B t lab (G .forest .covers) (name-after x) (name-after y) (subst (Present B t lab) (sym (old-name k h) ∙ f) (node-present k h)) in
+          let P = ends-present (G .forest .covers) (name-after x) (name-after y) (subst (Present B t lab) (sym (old-name k h) ∙ f) (node-present k h)) in
           absurd (E-absent _ _ (H .ends x (omega arith) lx .0) (subst (Present B t lab) (added-name x (omega arith)) P))
 
       new-at : (x y : ℕ) → x < n → y < n → E x y → num x y ≡ k → Same (name x) (name y) (name-after a) (name-after b) → IsMid (place′ a) (place′ b) (place′ k)

@@ -135,7 +135,7 @@ module _ (B : List (Corners ℕ)) (C : Compatible B) (n₀ n t : ℕ) (rows : �
           was-below = G .by-names .nodes o lo;
           now = M .row-kept k l m;
         }
-        go (yes d) = joined (pair-of B C t lab (G .forest .covers) (name z) (half .0) (half .1) (half .2) (gone-newest (name z) g) o lo (is-p here))
+        go (yes d) = joined (pair-of C (G .forest .covers) (record { one = half .0; two = half .1; halves = half .2 }) (gone-newest (name z) g) o lo (is-p here))
           where
             z : ℕ
             z = rows o .p

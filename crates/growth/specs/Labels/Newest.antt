@@ -5,27 +5,27 @@ use Prim.Native.Nat.{ℕ, zero, suc, _+_, _≤_, _<_}
 use native.Mathlib.Decide.{decLe, ℕ-discrete}
 use native.Mathlib.Omega.{arith}
 use lib.ListN.{length}
-use Rattle.growth.specs.Labels.Names.{Name, mid}
+use Rattle.growth.specs.Labels.Names.{Name}
 use Rattle.growth.specs.Labels.Paths.{Side, other, Path, _⊑_, ⊑-refl, ⊑-length, ⊑-whole}
 use Rattle.growth.specs.Labels.Corners.{Corners, half-newest, corners, Holds, is-p, is-q, is-r}
 use Rattle.growth.specs.Labels.Levels.{Compatible, birth, Static, static}
-use Rattle.growth.specs.Labels.Cover.{Label, at, corners-of, gen, Covers, Halved, Keeps, Present, kept-row, end-kept}
+use Rattle.growth.specs.Labels.Cover.{Label, at, corners-of, gen, Covers, Halved, Keeps, kept-row}
 
 -- z is the newest corner of every row that holds it.
 abbrev pub NewestEverywhere : List (Corners ℕ) → ℕ → (ℕ → Label) → Name → Type 0
 NewestEverywhere B t lab z = (j : ℕ) → j < t → Holds z (corners-of B (lab j)) → z ≡ corners-of B (lab j) .p
 
 -- A corner was born no later than its triangle, and the newest corner with it.
-pub birth-le-gen : (B : List (Corners ℕ)) (g : ℕ) (t : Corners Name) (z : Name) → Static B g t → Holds z t → birth B z ≤ g
-birth-le-gen B g t z h (is-p e) = rw e (omega arith)
-birth-le-gen B g t z h (is-q e) = rw e (omega arith)
-birth-le-gen B g t z h (is-r e) = rw e (omega arith)
+pub birth-le-gen : {B : List (Corners ℕ)} {g : ℕ} {t : Corners Name} {z : Name} → Static B g t → Holds z t → birth B z ≤ g
+birth-le-gen h (is-p e) = rw e (omega arith)
+birth-le-gen h (is-q e) = rw e (omega arith)
+birth-le-gen h (is-r e) = rw e (omega arith)
 
 -- From generation 1 on a corner as young as its triangle is the newest.
-pub newest-if-young : (B : List (Corners ℕ)) (g : ℕ) (t : Corners Name) (z : Name) → Static B g t → Holds z t → 1 ≤ g → g ≤ birth B z → z ≡ t.p
-newest-if-young B g t z h (is-p e) l k = e
-newest-if-young B g t z h (is-q e) l k = let k′ = rw e at k in absurd (omega arith)
-newest-if-young B g t z h (is-r e) l k = let k′ = rw e at k in absurd (omega arith)
+pub newest-if-young : {B : List (Corners ℕ)} {g : ℕ} {t : Corners Name} {z : Name} → Static B g t → Holds z t → 1 ≤ g → g ≤ birth B z → z ≡ t.p
+newest-if-young h (is-p e) l k = e
+newest-if-young h (is-q e) l k = let k′ = rw e at k in absurd (omega arith)
+newest-if-young h (is-r e) l k = let k′ = rw e at k in absurd (omega arith)
 
 -- Among finitely many numbers, at least one, there is a greatest.
 pub greatest : (f : ℕ → ℕ) (t : ℕ) → 1 ≤ t → (j : ℕ) × (j < t) × ((k : ℕ) → k < t → f k ≤ f j)
@@ -44,7 +44,7 @@ greatest f (suc (suc t)) h = go (greatest f (suc t) (omega arith))
         pick (yes u) = (suc t, omega arith, λ k lk. over (f (suc t)) u (omega arith) k lk (ℕ-discrete k (suc t)))
         pick (no u) = (j, omega arith, λ k lk. over (f j) (omega arith) (omega arith) k lk (ℕ-discrete k (suc t)))
 
-module _ (B : List (Corners ℕ)) (C : Compatible B) (t : ℕ) (lab : ℕ → Label) (cov : Covers B t lab) where
+module _ {B : List (Corners ℕ)} (C : Compatible B) {t : ℕ} {lab : ℕ → Label} (cov : Covers B t lab) where
   -- The static facts of a row.
   pub row-static : (j : ℕ) → j < t → Static B (gen (lab j)) (corners-of B (lab j))
   row-static j l = static B C (lab j .from) (cov .known j l) (lab j .path)
@@ -62,24 +62,17 @@ module _ (B : List (Corners ℕ)) (C : Compatible B) (t : ℕ) (lab : ℕ → La
       let known : i < length B = rw e at (cov .known j l) in
       let newest : z ≡ corners B i (x ∷ w) .p = rw e at (N j l (rw e h)) in
       let H : Halved t lab i w = record { index = j; below = l; by = x ∷ w; label = e; side = x; part = ⊑-refl (x ∷ w) } in
-      let K = kept-row B t lab cov i known w H (other x) z (is-p (newest ∙ half-newest x (corners B i w) ∙ sym (half-newest (other x) (corners B i w)))) in
+      let K = kept-row cov i known w H (other x) z (is-p (newest ∙ half-newest x (corners B i w) ∙ sym (half-newest (other x) (corners B i w)))) in
       let b₁ = newest-birth z N i (x ∷ w) j l e h in
       let b₂ = newest-birth z N i (K .by) (K .index) (K .below) (K .label) (K .holds) in
       (K .index, K .below, K .label ∙ ap (at i) (sym (⊑-whole (K .part) (omega arith))))
-
-  -- An end of a midpoint that is a corner of a row is not newest everywhere.
-  pub end-not-newest : (x y : Name) → Present B t lab (mid x y) → ¬ NewestEverywhere B t lab x
-  end-not-newest x y P N =
-      let (i, u, a, l, h, K) = end-kept B t lab cov x y P in
-      let b₁ = newest-birth x N i (K .by) (K .index) (K .below) (K .label) (K .holds) in
-      omega (arith, ⊑-length (K .part), birth-le-gen B (length u) (corners B i u) x (static B C i l u) h)
 
   -- THE TOP: the newest corner of a row of greatest generation is newest everywhere.
   pub greatest-newest : (j : ℕ) → j < t → 1 ≤ gen (lab j) → ((k : ℕ) → k < t → gen (lab k) ≤ gen (lab j)) → NewestEverywhere B t lab (corners-of B (lab j) .p)
   greatest-newest j l pos top k lk h =
       let b = row-static j l .birth-p in
-      let le = birth-le-gen B (gen (lab k)) (corners-of B (lab k)) _ (row-static k lk) h in
-      newest-if-young B (gen (lab k)) (corners-of B (lab k)) _ (row-static k lk) h (omega arith) (omega (arith, top k lk))
+      let le = birth-le-gen (row-static k lk) h in
+      newest-if-young (row-static k lk) h (omega arith) (omega (arith, top k lk))
 
   -- So while some row has been made by halving, some added node is newest everywhere.
   pub some-newest : (j : ℕ) → j < t → 1 ≤ gen (lab j) → (k : ℕ) × (k < t) × (1 ≤ gen (lab k)) × NewestEverywhere B t lab (corners-of B (lab k) .p)

@@ -1,15 +1,15 @@
--- Ways through a tree of halves, the last step first; endless streams of steps; anchors. Assumes nothing.
+-- Paths through a tree of halves, the last step first; endless streams of steps; anchors. Assumes nothing.
 use mathlib.Core.Path.{_≡_, refl, sym, ap, ap₂, subst, _∙_}
-use mathlib.Core.Logic.{_⊎_, inl, inr, _≢_, _↔_}
+use mathlib.Core.Logic.{_≢_, _↔_}
 use mathlib.Core.List.{List, [], _∷_, _++_, append-assoc, cons≢nil}
 use Prim.Native.Nat.{ℕ, zero, suc, _+_, _≤_, _<_}
 use native.Mathlib.Nat.{zero-add}
-use native.Mathlib.Decide.{le-ind, decLe}
+use native.Mathlib.Decide.{le-ind}
 use native.Mathlib.Numerals.{unary-clauses}
 use native.Mathlib.Omega.{arith}
 use lib.ListN.{length, length-append}
 
--- The two halves of a triangle, and a way down from a base triangle: the LAST step first.
+-- The two halves of a triangle.
 pub data Side : Type 0 where
   L R : Side
   deriving Discrete as Side-discrete
@@ -19,11 +19,11 @@ abbrev pub other : Side → Side
 other L = R
 other R = L
 
--- A way: the LAST step first.
+-- A path down from a base triangle, the LAST step first, so that all recursion is structural.
 abbrev pub Path : Type 0
 Path = List Side
 
--- A way that ends in L is none that ends in R.
+-- A path that ends in L is none that ends in R.
 pub L≢R : {u w : Path} → L ∷ u ≢ R ∷ w
 L≢R e = let z : _≡_ {A = ℕ} 0 1 = cc in omega arith
 
@@ -31,12 +31,12 @@ L≢R e = let z : _≡_ {A = ℕ} 0 1 = cc in omega arith
 abbrev pub Stream : Type 0
 Stream = ℕ → Side
 
--- The way w begins the stream s.
+-- The path w begins the stream s.
 abbrev pub on : Path → Stream → Type 0
 on [] s = Unit {0}
 on (x ∷ w) s = (s (length w) ≡ x) × on w s
 
--- The first n steps of a stream, as a way.
+-- The first n steps of a stream, as a path.
 abbrev pub start : Stream → ℕ → Path
 start s zero = []
 start s (suc n) = s n ∷ start s n
@@ -47,11 +47,11 @@ pub record _⊑_ (u w : Path) : Type 0 where
   pub joins : rest ++ u ≡ w
 
 infix 4 _⊑_
--- A way is an earlier part of itself, and of itself with one step more.
+-- A path is an earlier part of itself,
 pub ⊑-refl : (w : Path) → w ⊑ w
 ⊑-refl w = record { rest = []; joins = refl }
 
--- It is one of itself with a step more.
+-- and of what goes on from it by a step.
 pub ⊑-step : (x : Side) {u w : Path} → u ⊑ w → u ⊑ x ∷ w
 ⊑-step x h = record { rest = x ∷ h.rest; joins = ap (x ∷_) h.joins }
 
@@ -63,7 +63,7 @@ pub ⊑-trans : {u v w : Path} → u ⊑ v → v ⊑ w → u ⊑ w
 pub ⊑-length : {u w : Path} → u ⊑ w → length u ≤ length w
 ⊑-length {u} h = omega (arith, simp length-append at (ap length h.joins))
 
--- A stream holds its own starts, of every length.
+-- A stream has a start of every length.
 pub length-start : (s : Stream) (n : ℕ) → length (start s n) ≡ n
 length-start s zero = refl
 length-start s (suc n) = ap suc (length-start s n)
@@ -73,12 +73,12 @@ pub on-start : (s : Stream) (n : ℕ) → on (start s n) s
 on-start s zero = tt
 on-start s (suc n) = (ap s (length-start s n), on-start s n)
 
--- A way on a stream is the stream's start of that length: so there is one of each length.
+-- A path on a stream is the stream's start of that length: so there is one of each length.
 pub is-start : (w : Path) (s : Stream) → on w s → start s (length w) ≡ w
 is-start [] s h = refl
 is-start (x ∷ w) s h = ap₂ _∷_ (h .0) (is-start w s (h .1))
 
--- Two ways on one stream and of one length are one.
+-- Two paths on one stream and of one length are one.
 pub on-same-length : (u w : Path) (s : Stream) → on u s → on w s → length u ≡ length w → u ≡ w
 on-same-length u w s hu hw e = sym (is-start u s hu) ∙ ap (start s) e ∙ is-start w s hw
 
@@ -86,19 +86,11 @@ on-same-length u w s hu hw e = sym (is-start u s hu) ∙ ap (start s) e ∙ is-s
 pub start-⊑ : (s : Stream) (m n : ℕ) → m ≤ n → start s m ⊑ start s n
 start-⊑ s m = le-ind (λ n. start s m ⊑ start s n) (⊑-refl (start s m)) (λ n _. ⊑-step (s n))
 
--- Two ways on one stream: the shorter is an earlier part of the longer.
+-- Two paths on one stream: the shorter is an earlier part of the longer.
 pub on-shorter : (u w : Path) (s : Stream) → on u s → on w s → length u ≤ length w → u ⊑ w
 on-shorter u w s hu hw h = rw (is-start u s hu, is-start w s hw) at (start-⊑ s (length u) (length w) h)
 
--- Two ways on one stream are comparable.
-pub on-comparable : (u w : Path) (s : Stream) → on u s → on w s → (u ⊑ w) ⊎ (w ⊑ u)
-on-comparable u w s hu hw = go (decLe (length u) (length w))
-  where
-    go : Dec (length u ≤ length w) → (u ⊑ w) ⊎ (w ⊑ u)
-    go (yes h) = inl (on-shorter u w s hu hw h)
-    go (no h) = inr (on-shorter w u s hw hu (omega arith))
-
--- An earlier part of a way on a stream is on the stream.
+-- An earlier part of a path on a stream is on the stream.
 pub on-⊑ : {u w : Path} (s : Stream) → u ⊑ w → on w s → on u s
 on-⊑ {u} {w} s h o = go h.rest (rw (← h.joins) at o)
   where
@@ -106,12 +98,12 @@ on-⊑ {u} {w} s h o = go h.rest (rw (← h.joins) at o)
     go [] o′ = o′
     go (x ∷ v) o′ = go v (o′ .1)
 
--- The stream that begins with x, and then is s; that begins with the way w, and then is s.
+-- The stream that begins with x, and then is s.
 abbrev pub before : Side → Stream → Stream
 before x s zero = x
 before x s (suc n) = s n
 
--- The stream that begins with the way w, and then is s.
+-- The stream that begins with the path w, and then is s.
 abbrev pub along : Path → Stream → Stream
 along [] s = s
 along (x ∷ w) s = along w (before x s)
@@ -128,59 +120,31 @@ pub on-along : (w : Path) (s : Stream) → on w (along w s)
 on-along [] s = tt
 on-along (x ∷ w) s = (rw zero-add at (along-past w (before x s) 0), on-along w (before x s))
 
--- An earlier part as long as the whole is the whole; one that is shorter is an earlier part of the whole but its last step.
+-- An earlier part as long as the whole is the whole.
 pub ⊑-whole : {u w : Path} → u ⊑ w → length w ≤ length u → u ≡ w
 ⊑-whole {u} {w} h l =
     let s = along w (λ _. L) in
     on-same-length u w s (on-⊑ s h (on-along w (λ _. L))) (on-along w (λ _. L)) (omega (arith, ⊑-length h))
 
--- A shorter part is a part of all but the last step.
-pub ⊑-shorter : {u w : Path} (x : Side) → u ⊑ x ∷ w → length u ≤ length w → u ⊑ w
-⊑-shorter {u} {w} x h l =
-    let s = along (x ∷ w) (λ _. L) in
-    on-shorter u w s (on-⊑ s h (on-along (x ∷ w) (λ _. L))) (on-along (x ∷ w) (λ _. L) .1) l
-
--- A stream goes on from w by one of the two steps.
-pub on-next : (w : Path) (s : Stream) → on w s → on (L ∷ w) s ⊎ on (R ∷ w) s
-on-next w s h = go (s (length w)) refl
-  where
-    go : (x : Side) → s (length w) ≡ x → on (L ∷ w) s ⊎ on (R ∷ w) s
-    go L e = inl (e, h)
-    go R e = inr (e, h)
-
--- So a stream goes through w exactly if it goes through one of w's two halves.
-pub on-halves : (w : Path) (s : Stream) → on w s ↔ (on (L ∷ w) s ⊎ on (R ∷ w) s)
-on-halves w s = (on-next w s, λ h. elim h [ inl k ↦ k .1 | inr k ↦ k .1 ])
-
--- The two steps exclude one another.
-pub on-one-side : (x y : Side) (w : Path) (s : Stream) → on (x ∷ w) s → on (y ∷ w) s → x ≡ y
-on-one-side x y w s hx hy = sym (hx .0) ∙ hy .0
-
--- What is left of a way after its latest L's.
+-- What is left of a path after its latest L's.
 abbrev pub anchor : Path → Path
 anchor [] = []
 anchor (L ∷ w) = anchor w
 anchor (R ∷ w) = R ∷ w
 
--- A way of L's only.
+-- A path of L's only.
 abbrev pub AllL : Path → Type 0
 AllL [] = Unit {0}
 AllL (L ∷ w) = AllL w
 AllL (R ∷ w) = ⊥
 
--- A way is of L's only exactly if its anchor is empty.
+-- A path is of L's only exactly if its anchor is empty.
 pub allL-anchor : (w : Path) → AllL w ↔ (anchor w ≡ [])
 allL-anchor [] = (λ _. refl, λ _. tt)
 allL-anchor (L ∷ w) = allL-anchor w
 allL-anchor (R ∷ w) = (λ h. absurd h, λ e. cons≢nil e)
 
--- An anchor is its own anchor, and is empty or begins with R.
-pub anchor-anchor : (w : Path) → anchor (anchor w) ≡ anchor w
-anchor-anchor [] = refl
-anchor-anchor (L ∷ w) = anchor-anchor w
-anchor-anchor (R ∷ w) = refl
-
--- An anchor is an earlier part of its way.
+-- An anchor is an earlier part of its path.
 pub anchor-⊑ : (w : Path) → anchor w ⊑ w
 anchor-⊑ [] = ⊑-refl []
 anchor-⊑ (L ∷ w) = ⊑-step L (anchor-⊑ w)

@@ -70,7 +70,7 @@ apart-at (x ∷ l) d h zero (suc b) m k = every-at (λ y. x ≢ y) l d (h .0) b 
 apart-at (x ∷ l) d h (suc a) zero m k = absurd (omega arith)
 apart-at (x ∷ l) d h (suc a) (suc b) m k = apart-at l d (h .1) a b (omega arith) (omega arith)
 
--- A way and itself with steps in front differ.
+-- A path and itself with steps in front differ.
 grown≢ : (u w : Path) → length u < length w → u ≢ w
 grown≢ u w h e = let s = ap length e in omega arith
 
@@ -272,7 +272,7 @@ module _ (B : List (Corners ℕ)) (S : Name → Name → Type 0) (t : ℕ) (lab 
     right-right : (n : ℕ) → n < size j → getD (rest j) n [] ≡ R ∷ R ∷ lab j .path → 0 < n
     right-right = right-right-later (Cut B S (lab j .from)) (lab j .path) (m? j) (u? j) (v? j)
 
-    -- What row j leaves has an anchor no longer than its way.
+    -- What row j leaves has an anchor no longer than its path.
     mine-short : length (anchor (mine j)) ≤ length (lab j .path)
     mine-short = rw mine-anchor (⊑-length (anchor-⊑ (lab j .path)))
 

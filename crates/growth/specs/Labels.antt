@@ -11,7 +11,9 @@ pub mod Groups
 pub mod ForestRefined
 pub mod Pieces
 pub mod ForestCoarsened
+pub mod Named
+pub mod Grown
 pub mod Around
 pub mod RowCuts
-pub mod Grown
+pub mod GrownRefined
 pub mod GrownCoarsened

@@ -1,13 +1,12 @@
 -- The corners of every triangle that bisection can make, as names; where a corner comes from and how long it stays. Assumes nothing.
-use mathlib.Core.Path.{_≡_, refl, sym, ap, _∙_}
+use mathlib.Core.Path.{_≡_, refl, sym, _∙_}
 use mathlib.Core.Logic.{_⊎_, inl, inr, _≢_}
-use mathlib.Core.List.{List, [], _∷_, _++_}
-use Prim.Native.Nat.{ℕ, zero, suc, _+_, _-_, _≤_, _<_}
+use mathlib.Core.List.{List, [], _∷_}
+use Prim.Native.Nat.{ℕ, zero, suc, _+_, _-_, _≤_}
 use native.Mathlib.Nat.{zero-add}
-use native.Mathlib.Numerals.{unary-clauses}
 use native.Mathlib.Omega.{arith}
 use lib.ListN.{length, getD}
-use Rattle.growth.specs.Labels.Names.{Name, base, mid, Halfway, base-not-halfway}
+use Rattle.growth.specs.Labels.Names.{Name, base, mid, Halfway, base-not-halfway, Same, straight, crossed}
 use Rattle.growth.specs.Labels.Paths.{Side, L, R, Path, Stream, on, _⊑_, ⊑-refl, ⊑-step, along, along-past, on-along, on-same-length}
 
 -- Three corners: p is the newest, q–r the refinement edge. Of numbers (a base row) or of names.
@@ -35,6 +34,33 @@ pub data Holds {A : Type 0} (z : A) (t : Corners A) : Type 0 where
   is-p : z ≡ t.p → Holds z t
   is-q : z ≡ t.q → Holds z t
   is-r : z ≡ t.r → Holds z t
+
+-- The edge {x, y} is an edge of t, either way round.
+pub data Edge {A : Type 0} (t : Corners A) (x y : A) : Type 0 where
+  edge-qr : Same x y t.q t.r → Edge t x y
+  edge-pq : Same x y t.p t.q → Edge t x y
+  edge-rp : Same x y t.r t.p → Edge t x y
+
+-- The three corners differ.
+pub record Distinct {A : Type 0} (t : Corners A) : Type 0 where
+  pub p≢q : t.p ≢ t.q
+  pub q≢r : t.q ≢ t.r
+  pub r≢p : t.r ≢ t.p
+
+-- t has the directed edge x → y.
+pub data Arrow {A : Type 0} (t : Corners A) (x y : A) : Type 0 where
+  arrow-qr : x ≡ t.q → y ≡ t.r → Arrow t x y
+  arrow-pq : x ≡ t.p → y ≡ t.q → Arrow t x y
+  arrow-rp : x ≡ t.r → y ≡ t.p → Arrow t x y
+
+-- An end of an edge is a corner.
+pub edge-holds : {A : Type 0} {t : Corners A} {x y : A} → Edge t x y → Holds x t
+edge-holds (edge-qr (straight e f)) = is-q e
+edge-holds (edge-qr (crossed e f)) = is-r e
+edge-holds (edge-pq (straight e f)) = is-p e
+edge-holds (edge-pq (crossed e f)) = is-q e
+edge-holds (edge-rp (straight e f)) = is-r e
+edge-holds (edge-rp (crossed e f)) = is-p e
 
 -- Both halves have the midpoint of the refinement edge for their newest corner.
 pub half-newest : (x : Side) (t : Corners Name) → half x t .p ≡ mid t.q t.r

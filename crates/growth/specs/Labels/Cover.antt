@@ -1,13 +1,13 @@
 -- Finite families of labelled rows that meet every stream once, and what that says of their corners. Assumes nothing.
-use mathlib.Core.Path.{_≡_, refl, sym, ap, subst, _∙_}
-use mathlib.Core.List.{List, [], _∷_}
-use Prim.Native.Nat.{ℕ, zero, suc, _+_, _≤_, _<_}
-use native.Mathlib.Decide.{decLe, ℕ-discrete}
+use mathlib.Core.Path.{_≡_, refl, sym, ap, _∙_}
+use mathlib.Core.List.{List, _∷_}
+use Prim.Native.Nat.{ℕ, suc, _≤_, _<_}
+use native.Mathlib.Decide.{decLe}
 use native.Mathlib.Omega.{arith}
 use lib.ListN.{length}
 use Rattle.growth.specs.Labels.Names.{Name, mid, mid-injective, Same, straight, crossed}
 use Rattle.growth.specs.Labels.Paths.{Side, L, Path, Stream, on, _⊑_, ⊑-refl, ⊑-step, ⊑-trans, ⊑-length, on-⊑, on-shorter, along, on-along}
-use Rattle.growth.specs.Labels.Corners.{Corners, half-keeps, mid-is-born, Born, corners, Holds, is-p, is-q, is-r, Kept, kept-stream}
+use Rattle.growth.specs.Labels.Corners.{Corners, half-keeps, mid-is-born, corners, Holds, is-q, is-r, Kept, kept-stream}
 
 -- A label: a base row and a path down from it.
 pub record Label : Type 0 where

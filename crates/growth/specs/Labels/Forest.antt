@@ -1,17 +1,14 @@
 -- The label part of a grown mesh, as one invariant of a finite family of labels; it holds of a base. Assumes nothing.
-use mathlib.Core.Path.{_≡_, refl, sym, ap, subst, _∙_}
-use mathlib.Core.Logic.{_⊎_, inl, inr, _≢_}
-use mathlib.Core.List.{List, [], _∷_, nil≢cons}
-use Prim.Native.Nat.{ℕ, zero, suc, _+_, _≤_, _<_}
+use mathlib.Core.Path.{_≡_, refl, sym, ap, _∙_}
+use mathlib.Core.List.{List, [], nil≢cons}
+use Prim.Native.Nat.{ℕ, _≤_, _<_}
 use native.Mathlib.Decide.{decLe}
 use native.Mathlib.Omega.{arith}
 use lib.ListN.{length}
 use Rattle.growth.specs.Labels.Names.{Name, mid, base≢mid}
-use Rattle.growth.specs.Labels.Paths.{Path, R, AllL, anchor, on, allL-anchor}
-use Rattle.growth.specs.Labels.Corners.{Corners, base-corner}
-use Rattle.growth.specs.Labels.Levels.{Compatible, Edge}
-use Rattle.growth.specs.Labels.Cover.{Label, at, corners-of, gen, Meets, Covers, Present}
-use Rattle.growth.specs.Labels.Newest.{NewestEverywhere}
+use Rattle.growth.specs.Labels.Paths.{AllL}
+use Rattle.growth.specs.Labels.Corners.{Corners, base-corner, Edge}
+use Rattle.growth.specs.Labels.Cover.{Label, at, corners-of, Covers, Present}
 use Rattle.growth.specs.Labels.Star.{Ordered}
 
 -- Nothing hangs: the midpoint of a row's edge is no corner of a row.

@@ -2,14 +2,13 @@
 use mathlib.Core.Path.{_≡_, refl, sym, ap, ap₂, subst, _∙_}
 use mathlib.Core.Logic.{_⊎_, inl, inr, _≢_}
 use mathlib.Core.List.{List, [], _∷_, cons≢nil, tail-eq-of-cons-eq}
-use Prim.Native.Nat.{ℕ, zero, suc, _+_, _≤_, _<_}
-use native.Mathlib.Decide.{decLe, decLt, ℕ-discrete}
+use Prim.Native.Nat.{ℕ, suc, _≤_, _<_}
+use native.Mathlib.Decide.{decLt}
 use native.Mathlib.Omega.{arith}
 use lib.ListN.{length}
-use Rattle.growth.specs.Labels.Names.{Name, mid, mid-sym, mid-injective, mid-same, Same, straight, crossed, same-sym}
-use Rattle.growth.specs.Labels.Paths.{Path, Stream, Side, L, R, AllL, allL-anchor, anchor, anchor-⊑, on, on-⊑, _⊑_, ⊑-refl, ⊑-step, ⊑-trans, ⊑-length}
-use Rattle.growth.specs.Labels.Corners.{Corners, half, corners, half-newest, half-holds, Holds, is-p, is-q, is-r}
-use Rattle.growth.specs.Labels.Levels.{Edge, edge-qr, edge-pq, edge-rp}
+use Rattle.growth.specs.Labels.Names.{Name, mid, mid-sym, mid-injective, Same, straight, crossed, same-sym}
+use Rattle.growth.specs.Labels.Paths.{Path, Stream, Side, L, R, allL-anchor, anchor, anchor-⊑, on, on-⊑, _⊑_, ⊑-refl, ⊑-step, ⊑-trans, ⊑-length}
+use Rattle.growth.specs.Labels.Corners.{Corners, corners, half-newest, half-holds, Holds, Edge, edge-holds, edge-pq, edge-qr, edge-rp}
 use Rattle.growth.specs.Labels.Cover.{Label, at, corners-of, Meets, Covers, Present, no-shorter-row, same-label, ends-present}
 use Rattle.growth.specs.Labels.Forest.{Forest}
 
@@ -78,15 +77,6 @@ pub record Refined (B : List (Corners ℕ)) (S : Name → Name → Type 0) (t : 
   pub right-last : (j k : ℕ) → j < t′ → k < t′ → father j ≡ father k
       → anchor (lab′ j .path) ≡ R ∷ lab (father j) .path → lab′ k .path ≡ R ∷ R ∷ lab (father k) .path → j < k
 
--- An end of an edge is a corner.
-edge-holds : (t : Corners Name) (x y : Name) → Edge t x y → Holds x t
-edge-holds t x y (edge-qr (straight e f)) = is-q e
-edge-holds t x y (edge-qr (crossed e f)) = is-r e
-edge-holds t x y (edge-pq (straight e f)) = is-p e
-edge-holds t x y (edge-pq (crossed e f)) = is-q e
-edge-holds t x y (edge-rp (straight e f)) = is-r e
-edge-holds t x y (edge-rp (crossed e f)) = is-p e
-
 module _ {B : List (Corners ℕ)} {S : Name → Name → Type 0} {t : ℕ} {lab : ℕ → Label} (F : Forest B t lab) (K : Closed B t lab S) where
   -- A new node: the midpoint of an edge of S.
   New : Name → Type 0
@@ -99,7 +89,7 @@ module _ {B : List (Corners ℕ)} {S : Name → Name → Type 0} {t : ℕ} {lab 
 
   -- The ends of an edge of S are nodes, and its midpoint is none.
   S-present : (x y : Name) → S x y → Present B t lab x
-  S-present x y h = let (j, l, e) = K .of-rows x y h in record { index = j; below = l; holds = edge-holds (corners-of B (lab j)) x y e }
+  S-present x y h = let (j, l, e) = K .of-rows x y h in record { index = j; below = l; holds = edge-holds e }
 
   -- The midpoint of an edge of S is no node before.
   new-absent : (z : Name) → New z → ¬ Present B t lab z

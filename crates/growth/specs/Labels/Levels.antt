@@ -1,15 +1,15 @@
 -- The level of a pair of names, the birth of a name, and the static lemma: in a compatibly labelled base the corners of T(i, w)
 -- know the generation, the length of w. Assumes nothing.
-use mathlib.Core.Path.{_≡_, refl, sym, ap, ap₂, subst, _∙_}
+use mathlib.Core.Path.{_≡_, refl, sym, ap, subst, _∙_}
 use mathlib.Core.Logic.{_⊎_, inl, inr, _≢_, Dec·and}
 use mathlib.Core.List.{List, [], _∷_}
-use Prim.Native.Nat.{ℕ, zero, suc, pred, _+_, _≤_, _<_, max}
-use native.Mathlib.Decide.{decLt, ℕ-discrete}
+use Prim.Native.Nat.{ℕ, zero, suc, pred, _≤_, _<_, max}
+use native.Mathlib.Decide.{ℕ-discrete}
 use native.Mathlib.Omega.{arith}
 use lib.ListN.{length}
 use Rattle.growth.specs.Labels.Names.{Name, base, node, mid, mid-cases, base≢mid, name?, Same, straight, crossed, same-sym, same-turn, same-trans, same-base}
 use Rattle.growth.specs.Labels.Paths.{Side, L, R, Path}
-use Rattle.growth.specs.Labels.Corners.{Corners, row, half, corners, Holds, is-p, is-q, is-r}
+use Rattle.growth.specs.Labels.Corners.{Corners, row, half, corners, Distinct, Edge, edge-pq, edge-qr, edge-rp}
 
 -- Two pairs are decided to be the same or not.
 pub same? : {A : Type 0} → Discrete A → (a b c d : A) → Dec (Same a b c d)
@@ -33,18 +33,6 @@ some-below? {P} d (suc n) = go (d n) (some-below? d n)
         older : (j : ℕ) → j < suc n → P j → Dec (j ≡ n) → ⊥
         older j l e (yes same) = h (subst P same e)
         older j l e (no differs) = k (j, omega arith, e)
-
--- The edge {x, y} is an edge of t, either way round.
-pub data Edge {A : Type 0} (t : Corners A) (x y : A) : Type 0 where
-  edge-qr : Same x y t.q t.r → Edge t x y
-  edge-pq : Same x y t.p t.q → Edge t x y
-  edge-rp : Same x y t.r t.p → Edge t x y
-
--- The three corners differ.
-pub record Distinct {A : Type 0} (t : Corners A) : Type 0 where
-  pub p≢q : t.p ≢ t.q
-  pub q≢r : t.q ≢ t.r
-  pub r≢p : t.r ≢ t.p
 
 -- A base whose labelling is compatible: wherever row i holds row j's refinement edge, it is row i's refinement edge too.
 pub record Compatible (B : List (Corners ℕ)) : Type 0 where

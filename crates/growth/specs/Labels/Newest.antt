@@ -1,15 +1,15 @@
 -- Nodes that are the newest corner wherever they are a corner: brothers, and where to find one. Assumes nothing.
-use mathlib.Core.Path.{_≡_, refl, sym, ap, subst, _∙_}
-use mathlib.Core.List.{List, [], _∷_}
-use Prim.Native.Nat.{ℕ, zero, suc, _+_, _≤_, _<_}
+use mathlib.Core.Path.{_≡_, sym, ap, _∙_}
+use mathlib.Core.List.{List, _∷_}
+use Prim.Native.Nat.{ℕ, zero, suc, _≤_, _<_}
 use native.Mathlib.Decide.{decLe, ℕ-discrete}
 use native.Mathlib.Omega.{arith}
 use lib.ListN.{length}
 use Rattle.growth.specs.Labels.Names.{Name}
-use Rattle.growth.specs.Labels.Paths.{Side, other, Path, _⊑_, ⊑-refl, ⊑-length, ⊑-whole}
+use Rattle.growth.specs.Labels.Paths.{Side, other, Path, ⊑-refl, ⊑-whole}
 use Rattle.growth.specs.Labels.Corners.{Corners, half-newest, corners, Holds, is-p, is-q, is-r}
 use Rattle.growth.specs.Labels.Levels.{Compatible, birth, Static, static}
-use Rattle.growth.specs.Labels.Cover.{Label, at, corners-of, gen, Covers, Halved, Keeps, kept-row}
+use Rattle.growth.specs.Labels.Cover.{Label, at, corners-of, gen, Covers, Halved, kept-row}
 
 -- z is the newest corner of every row that holds it.
 abbrev pub NewestEverywhere : List (Corners ℕ) → ℕ → (ℕ → Label) → Name → Type 0

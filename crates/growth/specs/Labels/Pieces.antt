@@ -4,16 +4,17 @@ use mathlib.Core.Logic.{_⊎_, inl, inr, _≢_}
 use mathlib.Core.List.{List, [], _∷_, tail, tail-eq-of-cons-eq}
 use mathlib.Core.Bool.{Bool, true, false}
 use Prim.Native.Nat.{ℕ, zero, suc, _+_, _-_, _≤_, _<_}
-use native.Mathlib.Decide.{decLe, decLt, ℕ-discrete}
+use native.Mathlib.Decide.{decLt}
 use native.Mathlib.Omega.{arith}
 use lib.ListN.{length, getD}
+use Rattle.lists.specs.Lists.{All, nil, cons}
+use Rattle.lists.specs.ListsLaw.{All-getD}
 use Rattle.growth.specs.Labels.Names.{Name}
-use Rattle.growth.specs.Labels.Paths.{Path, Side, L, R, L≢R, anchor, on, on-⊑, _⊑_, ⊑-length, anchor-⊑, along, on-along}
+use Rattle.growth.specs.Labels.Paths.{Path, L, R, L≢R, anchor, ⊑-length, anchor-⊑}
 use Rattle.growth.specs.Labels.Corners.{Corners}
-use Rattle.growth.specs.Labels.Levels.{Compatible}
-use Rattle.growth.specs.Labels.Cover.{Label, at, Covers, Meets}
-use Rattle.growth.specs.Labels.ForestRefined.{Piece, whole, one, both, piece-⊑, Cut, Closed, Refined}
-use Rattle.growth.specs.Labels.Groups.{total, owner, Lies, lies-once, owner-lies, owner-at}
+use Rattle.growth.specs.Labels.Cover.{Label, at}
+use Rattle.growth.specs.Labels.Groups.{total, owner, lies-once, owner-lies, owner-at}
+use Rattle.growth.specs.Labels.ForestRefined.{Piece, whole, one, both, Cut, Closed, Refined}
 
 -- A decision as a test.
 abbrev pub ask : {X : Type 0} → Dec X → Bool
@@ -41,32 +42,21 @@ others true true false w = (R ∷ w) ∷ (R ∷ L ∷ w) ∷ []
 others true false true w = (L ∷ R ∷ w) ∷ (R ∷ R ∷ w) ∷ []
 others true true true w = (L ∷ R ∷ w) ∷ (R ∷ L ∷ w) ∷ (R ∷ R ∷ w) ∷ []
 
--- P holds of every element; no element occurs twice; and what that says of places.
-abbrev pub Every : {A : Type 0} → (A → Type 0) → List A → Type 0
-Every P [] = Unit {0}
-Every P (x ∷ l) = P x × Every P l
-
 -- No element occurs twice.
 abbrev Apart : {A : Type 0} → List A → Type 0
 Apart [] = Unit {0}
-Apart (x ∷ l) = Every (λ y. x ≢ y) l × Apart l
+Apart (x ∷ l) = All (λ y. x ≢ y) l × Apart l
 
--- What holds of all holds at a place,
-pub every-at : {A : Type 0} (P : A → Type 0) (l : List A) (d : A) → Every P l → (n : ℕ) → n < length l → P (getD l n d)
-every-at P [] d h n k = absurd (omega arith)
-every-at P (x ∷ l) d h zero k = h .0
-every-at P (x ∷ l) d h (suc n) k = every-at P l d (h .1) n (omega arith)
-
--- or, of all but the first, at a later place.
-every-later : {A : Type 0} (P : A → Type 0) (l : List A) (d : A) → Every P (tail l) → (n : ℕ) → suc n < length l → P (getD l (suc n) d)
-every-later P [] d h n k = absurd (omega arith)
-every-later P (x ∷ l) d h n k = every-at P l d h n (omega arith)
+-- What holds of all but the first holds at a later place.
+All-later : {A : Type 0} {P : A → Type 0} (l : List A) (d : A) → All P (tail l) → (n : ℕ) → suc n < length l → P (getD l (suc n) d)
+All-later [] d h n k = absurd (omega arith)
+All-later (x ∷ l) d h n k = All-getD h n d (omega arith)
 
 -- Elements at two places differ.
 apart-at : {A : Type 0} (l : List A) (d : A) → Apart l → (a b : ℕ) → a < b → b < length l → getD l a d ≢ getD l b d
 apart-at [] d h a b m k = absurd (omega arith)
 apart-at (x ∷ l) d h zero zero m k = absurd (omega arith)
-apart-at (x ∷ l) d h zero (suc b) m k = every-at (λ y. x ≢ y) l d (h .0) b (omega arith)
+apart-at (x ∷ l) d h zero (suc b) m k = All-getD (h .0) b d (omega arith)
 apart-at (x ∷ l) d h (suc a) zero m k = absurd (omega arith)
 apart-at (x ∷ l) d h (suc a) (suc b) m k = apart-at l d (h .1) a b (omega arith) (omega arith)
 
@@ -88,36 +78,36 @@ module _ (cut : Path → Type 0) (w : Path) where
   leftmost-anchor (yes c) (yes d) = refl
 
   -- The others are pieces, with anchors longer than w, and after the first with anchors longer than R ∷ w.
-  other-pieces : (m : Dec (cut w)) (u : Dec (cut (L ∷ w))) (v : Dec (cut (R ∷ w))) → Every (Piece cut w) (others (ask m) (ask u) (ask v) w)
-  other-pieces (no _) u v = tt
-  other-pieces (yes c) (no d) (no e) = (one R c e refl, tt)
-  other-pieces (yes c) (yes d) (no e) = (one R c e refl, (both L R c d refl, tt))
-  other-pieces (yes c) (no d) (yes e) = (both R L c e refl, (both R R c e refl, tt))
-  other-pieces (yes c) (yes d) (yes e) = (both R L c e refl, (both L R c d refl, (both R R c e refl, tt)))
+  other-pieces : (m : Dec (cut w)) (u : Dec (cut (L ∷ w))) (v : Dec (cut (R ∷ w))) → All (Piece cut w) (others (ask m) (ask u) (ask v) w)
+  other-pieces (no _) u v = nil
+  other-pieces (yes c) (no d) (no e) = cons (one R c e refl) nil
+  other-pieces (yes c) (yes d) (no e) = cons (one R c e refl) (cons (both L R c d refl) nil)
+  other-pieces (yes c) (no d) (yes e) = cons (both R L c e refl) (cons (both R R c e refl) nil)
+  other-pieces (yes c) (yes d) (yes e) = cons (both R L c e refl) (cons (both L R c d refl) (cons (both R R c e refl) nil))
 
   -- Their anchors are longer than w.
-  other-anchors : (m : Dec (cut w)) (u : Dec (cut (L ∷ w))) (v : Dec (cut (R ∷ w))) → Every (λ x. length w < length (anchor x)) (others (ask m) (ask u) (ask v) w)
-  other-anchors (no _) u v = tt
-  other-anchors (yes c) (no d) (no e) = omega arith
-  other-anchors (yes c) (yes d) (no e) = omega arith
-  other-anchors (yes c) (no d) (yes e) = omega arith
-  other-anchors (yes c) (yes d) (yes e) = omega arith
+  other-anchors : (m : Dec (cut w)) (u : Dec (cut (L ∷ w))) (v : Dec (cut (R ∷ w))) → All (λ x. length w < length (anchor x)) (others (ask m) (ask u) (ask v) w)
+  other-anchors (no _) u v = nil
+  other-anchors (yes c) (no d) (no e) = cons {x = R ∷ w} (omega arith) nil
+  other-anchors (yes c) (yes d) (no e) = cons {x = R ∷ w} (omega arith) (cons {x = R ∷ L ∷ w} (omega arith) nil)
+  other-anchors (yes c) (no d) (yes e) = cons {x = L ∷ R ∷ w} (omega arith) (cons {x = R ∷ R ∷ w} (omega arith) nil)
+  other-anchors (yes c) (yes d) (yes e) = cons {x = L ∷ R ∷ w} (omega arith) (cons {x = R ∷ L ∷ w} (omega arith) (cons {x = R ∷ R ∷ w} (omega arith) nil))
 
   -- After the first their anchors are longer than R ∷ w.
-  later-anchors : (m : Dec (cut w)) (u : Dec (cut (L ∷ w))) (v : Dec (cut (R ∷ w))) → Every (λ x. suc (length w) < length (anchor x)) (tail (others (ask m) (ask u) (ask v) w))
-  later-anchors (no _) u v = tt
-  later-anchors (yes c) (no d) (no e) = tt
-  later-anchors (yes c) (yes d) (no e) = omega arith
-  later-anchors (yes c) (no d) (yes e) = omega arith
-  later-anchors (yes c) (yes d) (yes e) = omega arith
+  later-anchors : (m : Dec (cut w)) (u : Dec (cut (L ∷ w))) (v : Dec (cut (R ∷ w))) → All (λ x. suc (length w) < length (anchor x)) (tail (others (ask m) (ask u) (ask v) w))
+  later-anchors (no _) u v = nil
+  later-anchors (yes c) (no d) (no e) = nil
+  later-anchors (yes c) (yes d) (no e) = cons {x = R ∷ L ∷ w} (omega arith) nil
+  later-anchors (yes c) (no d) (yes e) = cons {x = R ∷ R ∷ w} (omega arith) nil
+  later-anchors (yes c) (yes d) (yes e) = cons {x = R ∷ L ∷ w} (omega arith) (cons {x = R ∷ R ∷ w} (omega arith) nil)
 
   -- No two of the others are the same.
   others-apart : (m : Dec (cut w)) (u : Dec (cut (L ∷ w))) (v : Dec (cut (R ∷ w))) → Apart (others (ask m) (ask u) (ask v) w)
   others-apart (no _) u v = tt
-  others-apart (yes c) (no d) (no e) = (tt, tt)
-  others-apart (yes c) (yes d) (no e) = ((grown≢ _ _ (omega arith), tt), (tt, tt))
-  others-apart (yes c) (no d) (yes e) = ((L≢R, tt), (tt, tt))
-  others-apart (yes c) (yes d) (yes e) = ((L≢R, (L≢R, tt)), ((λ f. L≢R (tail-eq-of-cons-eq f), tt), (tt, tt)))
+  others-apart (yes c) (no d) (no e) = (nil, tt)
+  others-apart (yes c) (yes d) (no e) = (cons {x = R ∷ L ∷ w} (grown≢ (R ∷ w) (R ∷ L ∷ w) (omega arith)) nil, (nil, tt))
+  others-apart (yes c) (no d) (yes e) = (cons L≢R nil, (nil, tt))
+  others-apart (yes c) (yes d) (yes e) = (cons L≢R (cons L≢R nil), (cons (λ f. L≢R (tail-eq-of-cons-eq f)) nil, (nil, tt)))
 
   -- Every piece is the leftmost or one of the others.
   every-piece : (m : Dec (cut w)) (u : Dec (cut (L ∷ w))) (v : Dec (cut (R ∷ w))) (w′ : Path) → Piece cut w w′
@@ -151,18 +141,18 @@ module _ (cut : Path → Type 0) (w : Path) where
   right-right-later (yes c) (no d) (yes e) zero h f = absurd (L≢R f)
   right-right-later (yes c) (yes d) (yes e) zero h f = absurd (L≢R f)
 
-module _ (B : List (Corners ℕ)) (S : Name → Name → Type 0) (t : ℕ) (lab : ℕ → Label) (S? : (x y : Name) → Dec (S x y)) where
+module _ {B : List (Corners ℕ)} {S : Name → Name → Type 0} {t : ℕ} {lab : ℕ → Label} (K : Closed B t lab S) where
   -- Whether row j, its left half and its right half are halved.
   abbrev pub m? : (j : ℕ) → Dec (Cut B S (lab j .from) (lab j .path))
-  m? j = S? _ _
+  m? j = K .decided _ _
 
   -- Its left half,
   abbrev pub u? : (j : ℕ) → Dec (Cut B S (lab j .from) (L ∷ lab j .path))
-  u? j = S? _ _
+  u? j = K .decided _ _
 
   -- its right half.
   abbrev pub v? : (j : ℕ) → Dec (Cut B S (lab j .from) (R ∷ lab j .path))
-  v? j = S? _ _
+  v? j = K .decided _ _
 
   -- What row j leaves in its place, and what it appends.
   abbrev pub mine : ℕ → Path
@@ -234,7 +224,7 @@ module _ (B : List (Corners ℕ)) (S : Name → Name → Type 0) (t : ℕ) (lab 
 
     -- What row j appends are pieces.
     rest-piece : (n : ℕ) → n < size j → Piece (Cut B S (lab j .from)) (lab j .path) (getD (rest j) n [])
-    rest-piece = every-at (Piece (Cut B S (lab j .from)) (lab j .path)) (rest j) [] (other-pieces (Cut B S (lab j .from)) (lab j .path) (m? j) (u? j) (v? j))
+    rest-piece n l = All-getD (other-pieces (Cut B S (lab j .from)) (lab j .path) (m? j) (u? j) (v? j)) n [] l
 
     -- What row j leaves keeps the anchor.
     mine-anchor : anchor (mine j) ≡ anchor (lab j .path)
@@ -244,7 +234,7 @@ module _ (B : List (Corners ℕ)) (S : Name → Name → Type 0) (t : ℕ) (lab 
     rest-anchor : (n : ℕ) → n < size j → anchor (getD (rest j) n []) ≢ anchor (lab j .path)
     rest-anchor n l e =
         let s = ap length e in
-        let long : length (lab j .path) < length (anchor (getD (rest j) n [])) = every-at (λ x. length (lab j .path) < length (anchor x)) (rest j) [] (other-anchors (Cut B S (lab j .from)) (lab j .path) (m? j) (u? j) (v? j)) n l in
+        let long : length (lab j .path) < length (anchor (getD (rest j) n [])) = All-getD (other-anchors (Cut B S (lab j .from)) (lab j .path) (m? j) (u? j) (v? j)) n [] l in
         omega (arith, ⊑-length (anchor-⊑ (lab j .path)))
 
     -- It appends nothing twice.
@@ -264,7 +254,7 @@ module _ (B : List (Corners ℕ)) (S : Name → Name → Type 0) (t : ℕ) (lab 
     right-first zero l e = refl
     right-first (suc n) l e =
         let long : suc (length (lab j .path)) < length (anchor (getD (rest j) (suc n) []))
-        = every-later (λ x. suc (length (lab j .path)) < length (anchor x)) (rest j) [] (later-anchors (Cut B S (lab j .from)) (lab j .path) (m? j) (u? j) (v? j)) n l in
+        = All-later (rest j) [] (later-anchors (Cut B S (lab j .from)) (lab j .path) (m? j) (u? j) (v? j)) n l in
         let s = ap length e in
         absurd (omega arith)
 

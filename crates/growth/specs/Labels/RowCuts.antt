@@ -1,20 +1,17 @@
 -- Refining in node numbers: rows cut by pattern at numbered midpoints are named by the refined labels. Assumes nothing.
-use mathlib.Core.Path.{_≡_, refl, sym, ap, ap₂, subst, _∙_}
-use mathlib.Core.Logic.{_⊎_, inl, inr, _≢_, Dec·and}
+use mathlib.Core.Path.{_≡_, refl, ap, ap₂, _∙_}
+use mathlib.Core.Logic.{Dec·and}
 use mathlib.Core.List.{List, [], _∷_, map}
 use mathlib.Core.Bool.{Bool, true, false}
-use Prim.Native.Nat.{ℕ, zero, suc, _+_, _≤_, _<_}
-use native.Mathlib.Decide.{decLt}
-use native.Mathlib.Omega.{arith}
-use lib.ListN.{length}
-use Rattle.growth.specs.Labels.Names.{Name, name?, mid, Same, straight, crossed}
-use Rattle.growth.specs.Labels.Paths.{Path, Side, L, R}
-use Rattle.growth.specs.Labels.Corners.{Corners, half, corners, Holds, is-p, is-q, is-r}
-use Rattle.growth.specs.Labels.Levels.{Edge, edge-qr, edge-pq, edge-rp, some-below?}
+use Prim.Native.Nat.{ℕ, _<_}
+use Rattle.growth.specs.Labels.Names.{Name, name?, mid}
+use Rattle.growth.specs.Labels.Paths.{Side, L, R}
+use Rattle.growth.specs.Labels.Corners.{Corners, half, corners, Edge}
+use Rattle.growth.specs.Labels.Levels.{some-below?}
 use Rattle.growth.specs.Labels.Cover.{Label, at, corners-of}
-use Rattle.growth.specs.Labels.ForestRefined.{Cut, Closed}
+use Rattle.growth.specs.Labels.ForestRefined.{Closed}
 use Rattle.growth.specs.Labels.Pieces.{ask, ask-same, leftmost, others, m?, u?, v?, mine, rest}
-use Rattle.growth.specs.Labels.Around.{Named, named}
+use Rattle.growth.specs.Labels.Named.{Named, edge-name, edge-number, named, p-below, q-below, r-below}
 
 -- The halves of a row at the numbered midpoint of its refinement edge.
 abbrev pub split : (ℕ → ℕ → ℕ) → Side → Corners ℕ → Corners ℕ
@@ -42,17 +39,8 @@ pub record ClosedRows (t : ℕ) (rows : ℕ → Corners ℕ) (E : ℕ → ℕ �
   pub of-rows : (a b : ℕ) → E a b → (j : ℕ) × (j < t) × Edge (rows j) a b
   pub closed : (j : ℕ) → j < t → (a b : ℕ) → Edge (rows j) a b → E a b → E (rows j .q) (rows j .r)
 
--- The ends of an edge are corners.
-pub edge-first : (r : Corners ℕ) (a b : ℕ) → Edge r a b → Holds a r
-edge-first r a b (edge-qr (straight e f)) = is-q e
-edge-first r a b (edge-qr (crossed e f)) = is-r e
-edge-first r a b (edge-pq (straight e f)) = is-p e
-edge-first r a b (edge-pq (crossed e f)) = is-q e
-edge-first r a b (edge-rp (straight e f)) = is-r e
-edge-first r a b (edge-rp (crossed e f)) = is-p e
-
-module _ (B : List (Corners ℕ)) (t : ℕ) (lab : ℕ → Label) (n : ℕ) (name : ℕ → Name) (rows : ℕ → Corners ℕ) (N : Named B t lab n name rows)
-    (E : ℕ → ℕ → Type 0) (K : ClosedRows t rows E) where
+module _ {B : List (Corners ℕ)} {t : ℕ} {lab : ℕ → Label} {n : ℕ} {name : ℕ → Name} {rows : ℕ → Corners ℕ} (N : Named B t lab n name rows)
+    {E : ℕ → ℕ → Type 0} (K : ClosedRows t rows E) where
   -- The set by names.
   pub record ByName (x y : Name) : Type 0 where
     pub one : ℕ
@@ -82,32 +70,6 @@ module _ (B : List (Corners ℕ)) (t : ℕ) (lab : ℕ → Label) (n : ℕ) (nam
       go (yes (a, la, (e, (b, lb, (f, h))))) = yes (record { one = a; two = b; one-below = la; two-below = lb; one-name = e; two-name = f; inside = h })
       go (no m) = no (λ h. m (h .one, h .one-below, (h .one-name, (h .two, h .two-below, (h .two-name, h .inside)))))
 
-  -- An edge of numbers is one of names, and back.
-  pub edge-names : (j : ℕ) → j < t → (a b : ℕ) → Edge (rows j) a b → Edge (corners-of B (lab j)) (name a) (name b)
-  edge-names j l a b h = rw (N .names j l) at (go h)
-    where
-      pair : {c d : ℕ} → Same a b c d → Same (name a) (name b) (name c) (name d)
-      pair (straight e f) = straight (ap name e) (ap name f)
-      pair (crossed e f) = crossed (ap name e) (ap name f)
-
-      go : Edge (rows j) a b → Edge (named name (rows j)) (name a) (name b)
-      go (edge-qr s) = edge-qr (pair s)
-      go (edge-pq s) = edge-pq (pair s)
-      go (edge-rp s) = edge-rp (pair s)
-
-  -- An edge of names is one of numbers.
-  edge-numbers : (j : ℕ) → j < t → (a b : ℕ) → a < n → b < n → Edge (corners-of B (lab j)) (name a) (name b) → Edge (rows j) a b
-  edge-numbers j l a b la lb h = go (rw (← N .names j l) at h)
-    where
-      pair : {c d : ℕ} → c < n → d < n → Same (name a) (name b) (name c) (name d) → Same a b c d
-      pair lc ld (straight e f) = straight (N .differ _ _ la lc e) (N .differ _ _ lb ld f)
-      pair lc ld (crossed e f) = crossed (N .differ _ _ la ld e) (N .differ _ _ lb lc f)
-
-      go : Edge (named name (rows j)) (name a) (name b) → Edge (rows j) a b
-      go (edge-qr s) = edge-qr (pair (N .nodes j l _ (is-q refl)) (N .nodes j l _ (is-r refl)) s)
-      go (edge-pq s) = edge-pq (pair (N .nodes j l _ (is-p refl)) (N .nodes j l _ (is-q refl)) s)
-      go (edge-rp s) = edge-rp (pair (N .nodes j l _ (is-r refl)) (N .nodes j l _ (is-p refl)) s)
-
   -- THE SAME CLOSED SET, by names.
   pub closed-by-name : Closed B t lab ByName
   closed-by-name = record { decided = by-name?; either-way = either; of-rows = of; closed = shut }
@@ -124,49 +86,38 @@ module _ (B : List (Corners ℕ)) (t : ℕ) (lab : ℕ → Label) (n : ℕ) (nam
       }
 
       of : (x y : Name) → ByName x y → (j : ℕ) × (j < t) × Edge (corners-of B (lab j)) x y
-      of x y h = let (j, l, e) = K .of-rows (h .one) (h .two) (h .inside) in (j, l, rw (h .one-name, h .two-name) (edge-names j l (h .one) (h .two) e))
+      of x y h = let (j, l, e) = K .of-rows (h .one) (h .two) (h .inside) in (j, l, rw (h .one-name, h .two-name) (edge-name N j l e))
 
       shut : (j : ℕ) → j < t → (x y : Name) → Edge (corners-of B (lab j)) x y → ByName x y → ByName (corners-of B (lab j) .q) (corners-of B (lab j) .r)
       shut j l x y e h =
-          let e′ = edge-numbers j l (h .one) (h .two) (h .one-below) (h .two-below) (rw (h .one-name, h .two-name) at e) in
-          rw (← N .names j l) (by-name _ _ (N .nodes j l _ (is-q refl)) (N .nodes j l _ (is-r refl)) (K .closed j l (h .one) (h .two) e′ (h .inside)))
+          let e′ = edge-number N j l (h .one) (h .two) (h .one-below) (h .two-below) (rw (h .one-name, h .two-name) at e) in
+          rw (← N .names j l) (by-name _ _ (q-below N j l) (r-below N j l) (K .closed j l (h .one) (h .two) e′ (h .inside)))
 
   -- Whether row j is halved, and its halves: by names and by numbers the same tests.
   module _ (j : ℕ) (l : j < t) where
-    pin : rows j .p < n
-    pin = N .nodes j l _ (is-p refl)
-
-    -- The second,
-    qin : rows j .q < n
-    qin = N .nodes j l _ (is-q refl)
-
-    -- and the third.
-    rin : rows j .r < n
-    rin = N .nodes j l _ (is-r refl)
-
     -- The test on q–r.
-    m-same : ask (m? B ByName t lab by-name? j) ≡ ask (K .decided (rows j .q) (rows j .r))
+    m-same : ask (m? closed-by-name j) ≡ ask (K .decided (rows j .q) (rows j .r))
     m-same = ask-same
-        (λ (h : ByName (corners-of B (lab j) .q) (corners-of B (lab j) .r)). by-number _ _ qin rin (rw (← N .names j l) at h))
-        (λ (h : E (rows j .q) (rows j .r)). rw (← N .names j l) (by-name _ _ qin rin h))
-        (m? B ByName t lab by-name? j) (K .decided (rows j .q) (rows j .r))
+        (λ (h : ByName (corners-of B (lab j) .q) (corners-of B (lab j) .r)). by-number _ _ (q-below N j l) (r-below N j l) (rw (← N .names j l) at h))
+        (λ (h : E (rows j .q) (rows j .r)). rw (← N .names j l) (by-name _ _ (q-below N j l) (r-below N j l) h))
+        (m? closed-by-name j) (K .decided (rows j .q) (rows j .r))
 
     -- The test on p–q.
-    u-same : ask (u? B ByName t lab by-name? j) ≡ ask (K .decided (rows j .p) (rows j .q))
+    u-same : ask (u? closed-by-name j) ≡ ask (K .decided (rows j .p) (rows j .q))
     u-same = ask-same
-        (λ (h : ByName (corners-of B (lab j) .p) (corners-of B (lab j) .q)). by-number _ _ pin qin (rw (← N .names j l) at h))
-        (λ (h : E (rows j .p) (rows j .q)). rw (← N .names j l) (by-name _ _ pin qin h))
-        (u? B ByName t lab by-name? j) (K .decided (rows j .p) (rows j .q))
+        (λ (h : ByName (corners-of B (lab j) .p) (corners-of B (lab j) .q)). by-number _ _ (p-below N j l) (q-below N j l) (rw (← N .names j l) at h))
+        (λ (h : E (rows j .p) (rows j .q)). rw (← N .names j l) (by-name _ _ (p-below N j l) (q-below N j l) h))
+        (u? closed-by-name j) (K .decided (rows j .p) (rows j .q))
 
     -- The test on r–p.
-    v-same : ask (v? B ByName t lab by-name? j) ≡ ask (K .decided (rows j .r) (rows j .p))
+    v-same : ask (v? closed-by-name j) ≡ ask (K .decided (rows j .r) (rows j .p))
     v-same = ask-same
-        (λ (h : ByName (corners-of B (lab j) .r) (corners-of B (lab j) .p)). by-number _ _ rin pin (rw (← N .names j l) at h))
-        (λ (h : E (rows j .r) (rows j .p)). rw (← N .names j l) (by-name _ _ rin pin h))
-        (v? B ByName t lab by-name? j) (K .decided (rows j .r) (rows j .p))
+        (λ (h : ByName (corners-of B (lab j) .r) (corners-of B (lab j) .p)). by-number _ _ (r-below N j l) (p-below N j l) (rw (← N .names j l) at h))
+        (λ (h : E (rows j .r) (rows j .p)). rw (← N .names j l) (by-name _ _ (r-below N j l) (p-below N j l) h))
+        (v? closed-by-name j) (K .decided (rows j .r) (rows j .p))
 
   -- New nodes have the numbers `num`, and the names of the midpoints.
-  module _ (num : ℕ → ℕ → ℕ) (name′ : ℕ → Name) (old : (k : ℕ) → k < n → name′ k ≡ name k)
+  module _ {num : ℕ → ℕ → ℕ} {name′ : ℕ → Name} (old : (k : ℕ) → k < n → name′ k ≡ name k)
       (new : (a b : ℕ) → E a b → name′ (num a b) ≡ mid (name a) (name b)) where
     -- A half of a named row is named by the half.
     named-split : (x : Side) (r : Corners ℕ) (T : Corners Name) → named name′ r ≡ T → name′ (num (r .q) (r .r)) ≡ mid (T .q) (T .r) → named name′ (split num x r) ≡ half x T
@@ -176,7 +127,7 @@ module _ (B : List (Corners ℕ)) (t : ℕ) (lab : ℕ → Label) (n : ℕ) (nam
     module _ (j : ℕ) (l : j < t) where
       -- The row itself, and its two halves.
       still : named name′ (rows j) ≡ corners-of B (lab j)
-      still = (λ i. record { p = old _ (pin j l) i; q = old _ (qin j l) i; r = old _ (rin j l) i }) ∙ N .names j l
+      still = (λ i. record { p = old _ (p-below N j l) i; q = old _ (q-below N j l) i; r = old _ (r-below N j l) i }) ∙ N .names j l
 
       -- A half of row j.
       halved : (x : Side) → E (rows j .q) (rows j .r) → named name′ (split num x (rows j)) ≡ half x (corners-of B (lab j))
@@ -208,10 +159,10 @@ module _ (B : List (Corners ℕ)) (t : ℕ) (lab : ℕ → Label) (n : ℕ) (nam
 
       -- THE ROWS WRITTEN have the corners that the labels written say.
       pub mine-named : named name′ (first-row num (ask (K .decided (rows j .q) (rows j .r))) (ask (K .decided (rows j .p) (rows j .q))) (rows j))
-          ≡ corners B (lab j .from) (mine B ByName t lab by-name? j)
+          ≡ corners B (lab j .from) (mine closed-by-name j)
       mine-named = rw (m-same j l, u-same j l) (first-named (K .decided (rows j .q) (rows j .r)) (K .decided (rows j .p) (rows j .q)))
 
       -- And so have those appended.
       pub rest-named : map (named name′) (more-rows num (ask (K .decided (rows j .q) (rows j .r))) (ask (K .decided (rows j .p) (rows j .q))) (ask (K .decided (rows j .r) (rows j .p))) (rows j))
-          ≡ map (corners B (lab j .from)) (rest B ByName t lab by-name? j)
+          ≡ map (corners B (lab j .from)) (rest closed-by-name j)
       rest-named = rw (m-same j l, u-same j l, v-same j l) (more-named (K .decided (rows j .q) (rows j .r)) (K .decided (rows j .p) (rows j .q)) (K .decided (rows j .r) (rows j .p)))

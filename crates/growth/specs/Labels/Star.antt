@@ -1,23 +1,16 @@
 -- The rows around a node that is newest everywhere: one pair of brothers or two, facing each other. Assumes nothing.
-use mathlib.Core.Path.{_≡_, refl, sym, ap, subst, _∙_}
+use mathlib.Core.Path.{_≡_, refl, sym, ap, _∙_}
 use mathlib.Core.Logic.{_⊎_, inl, inr, _≢_, Dec·and, Dec·not}
 use mathlib.Core.List.{List, [], _∷_}
-use Prim.Native.Nat.{ℕ, zero, suc, _+_, _≤_, _<_}
-use native.Mathlib.Decide.{decLe, ℕ-discrete}
+use Prim.Native.Nat.{ℕ, _≤_, _<_}
+use native.Mathlib.Decide.{ℕ-discrete}
 use native.Mathlib.Omega.{arith}
-use lib.ListN.{length}
 use Rattle.growth.specs.Labels.Names.{Name, name?, mid, mid-injective, Halfway, base-not-halfway, Same, straight, crossed}
-use Rattle.growth.specs.Labels.Paths.{Side, L, R, L≢R, other, Path, anchor}
-use Rattle.growth.specs.Labels.Corners.{Corners, half-newest, base-corner, corners, Holds, is-p, is-q, is-r}
-use Rattle.growth.specs.Labels.Levels.{Compatible, Static, static, Distinct, some-below?}
+use Rattle.growth.specs.Labels.Paths.{L, R, L≢R, Path, anchor}
+use Rattle.growth.specs.Labels.Corners.{Corners, base-corner, corners, Holds, is-p, is-q, is-r, Arrow, arrow-pq, arrow-rp}
+use Rattle.growth.specs.Labels.Levels.{Compatible, static, some-below?}
 use Rattle.growth.specs.Labels.Cover.{Label, at, corners-of, Covers}
-use Rattle.growth.specs.Labels.Newest.{NewestEverywhere, brother, row-static}
-
--- t has the directed edge x → y.
-pub data Arrow {A : Type 0} (t : Corners A) (x y : A) : Type 0 where
-  arrow-qr : x ≡ t.q → y ≡ t.r → Arrow t x y
-  arrow-pq : x ≡ t.p → y ≡ t.q → Arrow t x y
-  arrow-rp : x ≡ t.r → y ≡ t.p → Arrow t x y
+use Rattle.growth.specs.Labels.Newest.{NewestEverywhere, brother}
 
 -- Whether z is a corner of t is decided.
 pub holds? : (z : Name) (t : Corners Name) → Dec (Holds z t)

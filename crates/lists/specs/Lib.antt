@@ -1,4 +1,6 @@
 pub mod Lists
 pub mod ListsLaw
+pub mod MembersLaw
 pub mod Tally
 pub mod Search
+pub mod SearchLaw

@@ -91,13 +91,7 @@ module _ {B : List (Corners ℕ)} {n₀ n t : ℕ} {rows : ℕ → Corners ℕ} 
         refl,
       )
 
-  -- The ends of a pair, in node numbers.
-  abbrev b-of : {z : ℕ} → Pair B t (G .lab) (G .name z) → ℕ
-  b-of P = rows (P .left) .r
-
-  abbrev c-of : {z : ℕ} → Pair B t (G .lab) (G .name z) → ℕ
-  c-of P = rows (P .right) .q
-
+  -- The ends of a pair, by names.
   b-name : {z : ℕ} (P : Pair B t (G .lab) (G .name z)) → G .name (rows (P .left) .r) ≡ father P .q
   b-name P = ap (λ (r : Corners Name). r .r) (N .names (P .left) (P .left-below) ∙ ap (corners-of B) (P .left-label))
 

@@ -1,0 +1,1 @@
+// Theorems about the definitions of document 01, in specs/: no code.

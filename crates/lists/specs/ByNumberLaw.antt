@@ -1,4 +1,5 @@
--- Lists by number: members of `items`, parts of `items`, and searches up to a lower end. Assumes nothing.
+-- Lists by number: members of `items`, parts of `items`, searches up to a lower end; what a counting loop has reached.
+-- Assumes nothing.
 use mathlib.Core.Bool.{Bool, true, false}
 use mathlib.Core.List.{List, [], _∷_, _++_, append-assoc, List·Memᴰ, List·Memᴰ·head, List·Memᴰ·tail}
 use mathlib.Core.Path.{_≡_, refl, sym, subst, ap, _∙_}
@@ -11,7 +12,7 @@ use Rattle.lists.specs.declared.Found.the-variants.{At, Nothing}
 use Rattle.lists.specs.Lists.{All}
 use Rattle.lists.specs.ListsLaw.{clash, All-of}
 use Rattle.lists.specs.MembersLaw.{mem-at, at-mem}
-use Rattle.lists.specs.Search.{lowest, lowestFrom, items, itemsFrom}
+use Rattle.lists.specs.Search.{lowest, lowestFrom, items, itemsFrom, iter, iterFrom}
 use Rattle.lists.specs.SearchLaw.{at-some, lowest-below, lowest-true, lowest-nothing}
 use Rattle.lists.specs.IterLaw.{length-items, getD-items}
 
@@ -111,3 +112,15 @@ module _ (f : ℕ → Bool) where
 
   pub lowest-none-below : (t i : ℕ) → lowest f 0 t ≡ Nothing → i ≤ t → lowest f 0 i ≡ Nothing
   lowest-none-below t i e h = lowest-no i (λ k b. lowest-nothing f t k e (omega arith))
+
+-- ---- a loop that has reached i
+
+module _ {S : Type 0} (f : ℕ → S → S) (P : ℕ → S → Type 1) where
+  from-reach : (i k t : ℕ) (s : S) → i + k ≡ t → ((j : ℕ) (r : S) → j < t → P j r → P (j + 1) (f j r)) → P i s → P t (iterFrom f i k s)
+  unfolding iterFrom
+  from-reach i zero t s e h p = let q : i ≡ t = omega arith in subst (λ (n : ℕ). P n s) q p
+  from-reach i (suc k) t s e h p = from-reach (i + 1) k t (f i s) (omega arith) h (h i s (omega arith) p)
+
+  pub iter-reach : (t : ℕ) (s : S) → ((j : ℕ) (r : S) → j < t → P j r → P (j + 1) (f j r)) → P 0 s → P t (iter f 0 t s)
+  unfolding iter
+  iter-reach t s h p = from-reach 0 (t - 0) t s (omega arith) h p

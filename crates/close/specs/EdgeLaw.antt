@@ -17,8 +17,8 @@ use Rattle.lists.specs.ListsLaw.{clash, and-both, and-left, and-right, any-at, 
 use Rattle.lists.specs.MembersLaw.{any-count, joined-in}
 use Rattle.lists.specs.Search.{lowest, items}
 use Rattle.lists.specs.SearchLaw.{lowest-below, lowest-true, lowest-nothing}
-use Rattle.lists.specs.ByNumberLaw.{items-in, items-split}
-use Rattle.lists.specs.PartsLaw.{joined-append}
+use Rattle.lists.specs.ByNumberLaw.{items-in, items-around}
+use Rattle.lists.specs.ItemsLaw.{joined-append}
 use Rattle.meaning.specs.declared.Tri.{Tri}
 use Rattle.meaning.specs.declared.Place.{Place}
 use Rattle.meaning.specs.Mesh.{Edge, Arrow, edge, edges, base, arrow, arrows, sameArrow, holdsArrow, mesh}
@@ -137,7 +137,7 @@ once-at l t few i j x y h k p q = go (decLt i j) (decLt j i)
             any-at (sameArrow e) (r .2) (joined-in arrows (items-in (rowAt l) b a c) (r .1)) in
         let m : count (sameArrow e) (joined arrows (items (rowAt l) 0 t)) ≡
             count (sameArrow e) (joined arrows (items (rowAt l) 0 b)) + (count (sameArrow e) (arrows (rowAt l b)) + count (sameArrow e) (joined arrows (items (rowAt l) (b + 1) t))) =
-            ap (λ (ts : List Tri). count (sameArrow e) (joined arrows ts)) (items-split (rowAt l) t b d)
+            ap (λ (ts : List Tri). count (sameArrow e) (joined arrows ts)) (items-around (rowAt l) t b d)
             ∙ ap (count (sameArrow e)) (joined-append arrows (items (rowAt l) 0 b) (rowAt l b ∷ items (rowAt l) (b + 1) t))
             ∙ count-append (sameArrow e) (joined arrows (items (rowAt l) 0 b)) (arrows (rowAt l b) ++ joined arrows (items (rowAt l) (b + 1) t))
             ∙ ap (λ (n : ℕ). count (sameArrow e) (joined arrows (items (rowAt l) 0 b)) + n) (count-append (sameArrow e) (arrows (rowAt l b)) (joined arrows (items (rowAt l) (b + 1) t))) in

@@ -1,7 +1,7 @@
 -- Lists by number: members of `items`, parts of `items`, searches up to a lower end; what a counting loop has reached.
 -- Assumes nothing.
 use mathlib.Core.Bool.{Bool, true, false}
-use mathlib.Core.List.{List, [], _∷_, _++_, append-assoc, List·Memᴰ, List·Memᴰ·head, List·Memᴰ·tail}
+use mathlib.Core.List.{List, [], _∷_, _++_, List·Memᴰ, List·Memᴰ·head, List·Memᴰ·tail}
 use mathlib.Core.Path.{_≡_, refl, sym, subst, ap, _∙_}
 use Prim.Native.Nat.{ℕ, zero, suc, _+_, _-_, _≤_, _<_}
 use native.Mathlib.Omega.{arith}
@@ -12,9 +12,10 @@ use Rattle.lists.specs.declared.Found.the-variants.{At, Nothing}
 use Rattle.lists.specs.Lists.{All}
 use Rattle.lists.specs.ListsLaw.{clash, All-of}
 use Rattle.lists.specs.MembersLaw.{mem-at, at-mem}
-use Rattle.lists.specs.Search.{lowest, lowestFrom, items, itemsFrom, iter, iterFrom}
+use Rattle.lists.specs.Search.{lowest, lowestFrom, items, iter, iterFrom}
 use Rattle.lists.specs.SearchLaw.{at-some, lowest-below, lowest-true, lowest-nothing}
 use Rattle.lists.specs.IterLaw.{length-items, getD-items}
+use Rattle.lists.specs.ItemsLaw.{items-cons, items-split}
 
 module _ {A : Type 0} (f : ℕ → A) where
   -- ---- members
@@ -33,39 +34,10 @@ module _ {A : Type 0} (f : ℕ → A) where
   pub items-all : {P : A → Type 0} (t : ℕ) → ((i : ℕ) → i < t → P (f i)) → All P (items f 0 t)
   items-all {P} t h = All-of (items f 0 t) (λ a m. let r = items-of t m in subst P (sym (r .2)) (h (r .0) (r .1)))
 
-  -- ---- parts
+  -- ---- those below i, the i-th, the rest
 
-  pub items-none : (i : ℕ) → items f i i ≡ []
-  unfolding items itemsFrom
-  items-none i = let e : i - i ≡ 0 = omega arith in rw e
-
-  pub items-cons : (i t : ℕ) → i < t → items f i t ≡ f i ∷ items f (i + 1) t
-  unfolding items itemsFrom
-  items-cons i t h = let e : t - i ≡ suc (t - (i + 1)) = omega arith in rw e
-
-  from-snoc : (i k : ℕ) → itemsFrom f i (suc k) ≡ itemsFrom f i k ++ (f (i + k) ∷ [])
-  unfolding itemsFrom
-  from-snoc i zero = let e : i + 0 ≡ i = omega arith in rw e
-  from-snoc i (suc k) = let e : i + suc k ≡ i + 1 + k = omega arith in rw e (ap (λ (r : List A). f i ∷ r) (from-snoc (i + 1) k))
-
-  pub items-snoc : (t : ℕ) → items f 0 (t + 1) ≡ items f 0 t ++ (f t ∷ [])
-  unfolding items
-  items-snoc t =
-      let e : t + 1 - 0 ≡ suc (t - 0) = omega arith in
-      let g : 0 + (t - 0) ≡ t = omega arith in
-      rw e (rw g at (from-snoc 0 (t - 0)))
-
-  -- those below k, and the rest
-  pub items-part : (t k : ℕ) → k ≤ t → items f 0 t ≡ items f 0 k ++ items f k t
-  items-part t zero h = rw (items-none 0)
-  items-part t (suc k) h =
-      let e : suc k ≡ k + 1 = omega arith in
-      let b : k < t = omega arith in
-      items-part t k (omega arith) ∙ rw (e, items-snoc k, items-cons k t b, append-assoc)
-
-  -- those below i, the i-th, the rest
-  pub items-split : (t i : ℕ) → i < t → items f 0 t ≡ items f 0 i ++ (f i ∷ items f (i + 1) t)
-  items-split t i h = items-part t i (omega arith) ∙ ap (λ (r : List A). items f 0 i ++ r) (items-cons i t h)
+  pub items-around : (t i : ℕ) → i < t → items f 0 t ≡ items f 0 i ++ (f i ∷ items f (i + 1) t)
+  items-around t i h = items-split f 0 i t (omega arith) (omega arith) ∙ ap (λ (r : List A). items f 0 i ++ r) (items-cons f i t h)
 
 -- ---- the same search, up to a lower end
 

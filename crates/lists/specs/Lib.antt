@@ -6,5 +6,6 @@ pub mod Search
 pub mod SearchLaw
 pub mod IterLaw
 pub mod FillLaw
+pub mod ItemsLaw
 pub mod ByNumberLaw
 pub mod PartsLaw

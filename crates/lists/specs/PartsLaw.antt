@@ -1,6 +1,6 @@
 -- Lists in two parts: filtered, searched, joined; members of lists that are filtered or joined. Assumes nothing.
 use mathlib.Core.Bool.{Bool, true, false, _||_}
-use mathlib.Core.List.{List, [], _∷_, _++_, append-assoc, List·Memᴰ, List·Memᴰ·head, List·Memᴰ·tail}
+use mathlib.Core.List.{List, [], _∷_, _++_, List·Memᴰ, List·Memᴰ·head, List·Memᴰ·tail}
 use mathlib.Core.Path.{_≡_, refl, sym, subst, ap, _∙_}
 use Prim.Native.Nat.{ℕ, zero, suc, _+_, _<_}
 use native.Mathlib.Omega.{arith}
@@ -51,10 +51,6 @@ module _ {A : Type 0} (f : A → Bool) where
   where-nowhere (x ∷ xs) n = let h = or-no (f x) (any f xs) n in rw (h .0, where-nowhere xs (h .1))
 
 module _ {A B : Type 0} (f : A → List B) where
-  pub joined-append : (xs ys : List A) → joined f (xs ++ ys) ≡ joined f xs ++ joined f ys
-  joined-append [] ys = refl
-  joined-append (x ∷ xs) ys = rw (joined-append xs ys, append-assoc)
-
   pub in-joined : {y : B} (l : List A) → List·Memᴰ y (joined f l) → (x : A) × List·Memᴰ x l × List·Memᴰ y (f x)
   in-joined {y} (z ∷ zs) i = go (f z) refl i (in-joined zs)
     where

@@ -4,7 +4,7 @@ use mathlib.Core.Bool.{Bool, true, false, _&&_}
 use mathlib.Core.List.{List, [], _∷_}
 use Prim.Native.Nat.{ℕ, zero, suc, _+_, _*_, _-_, _/_, _^_, _≤_, _<_}
 use native.Mathlib.Omega.{arith}
-use borrow.Author.Tests.{eq-eqb, ne-eqb, lt-ltb, ltb-true, ltb-false}
+use borrow.Author.Tests.{eq-eqb, ne-eqb, lt-ltb, le-ltb}
 use lib.Dec.{eqb, ltb}
 use lib.ListN.{length, getD, set, drop, length-set}
 use Rattle.lists.specs.declared.Found.{Found}
@@ -17,7 +17,8 @@ use Rattle.meaning.specs.Tables.{rowAt}
 use Rattle.tables.specs.Arrow.{arrowAt}
 use Rattle.tables.specs.Sized.{indexAt}
 use Rattle.tables.specs.Ready.{Ready, ready-sized, ready-put}
-use Rattle.notes.specs.Notes.{Note, note, noteAt, packed, Tight}
+use Rattle.notes.specs.declared.Note.{Note}
+use Rattle.notes.specs.Notes.{note, noteAt, packed, Tight}
 use Rattle.close.specs.Drawn.{onFound}
 use Rattle.number.specs.Numbered.{Met, met, baseSplit, metBy, metBase, metAcross, noteBy, noteOf, Numbers, numbers, noted, numberRow}
 
@@ -28,6 +29,14 @@ base-yes w b x y e = rw e
 pub base-no : (w : Tri) (b x y : ℕ) → eqb b 1 && eqb (w .q) x && eqb (w .r) y ≡ false → 0 ≡ baseSplit w b x y
 unfolding baseSplit
 base-no w b x y e = rw e
+
+pub by-lower : (on j i : ℕ) → j < i → met on 0 ≡ metBy on j i
+unfolding metBy
+by-lower on j i h = rw (lt-ltb j i h)
+
+pub by-first : (on j i : ℕ) → i ≤ j → met on on ≡ metBy on j i
+unfolding metBy
+by-first on j i h = rw (le-ltb j i h)
 
 -- a row that was found is in the table, and its note in scratch
 module _ (l : List ℕ) (L t j x y : ℕ) (r : Found) (e : r ≡ lowest (arrowAt l x y) 0 t) (a : r ≡ At j) where
@@ -125,12 +134,13 @@ pub note-tight : (l s : List ℕ) (nc t i k : ℕ) (c : Note) → Ready s nc l t
 note-tight l s nc t i k c r h b e q = rw q (tight-of l t s i k (omega (arith, few-rows l s nc t i k r h b e)))
 
 module _ (l s s′ : List ℕ) (t i k r : ℕ) (e : numbers s′ r ≡ numberRow l t i (numbers s k)) where
-  pub count-next : k ≤ 3 * i → k ≤ 16_777_216 → r ≤ 3 * (i + 1)
+  pub count-next : (nc : ℕ) → Ready s nc l t → 3 * t ≤ length l → i < t → k ≤ 3 * i → r ≤ 3 * (i + 1)
   unfolding numberRow
-  count-next h u =
+  count-next nc a h b u =
       let c = noteOf l t s i k in
       let z : r ≡ k + c .fm + c .fu + c .fv = ap (λ (n : Numbers). n .count) e in
-      let b = tight-of l t s i k u in
+      let f = few-rows l s nc t i k a h b u in
+      let g = tight-of l t s i k (omega arith) in
       omega arith
 
   table-next : s′ ≡ set s i (packed (noteOf l t s i k))
@@ -143,7 +153,7 @@ module _ (l s s′ : List ℕ) (t i k r : ℕ) (e : numbers s′ r ≡ numberRow
   pub length-next : length s′ ≡ length s
   length-next = ap length table-next ∙ length-set s i (packed (noteOf l t s i k))
 
-pub row-noted : (l s s′ : List ℕ) (t i k p : ℕ) (c : Note) → c ≡ noteOf l t s i k → p ≡ packed c → s′ ≡ set s i p →
-    numbers s′ (k + c .fm + c .fu + c .fv) ≡ numberRow l t i (numbers s k)
+pub row-noted : (l s s′ : List ℕ) (t i k p r : ℕ) (c : Note) → c ≡ noteOf l t s i k → p ≡ packed c → s′ ≡ set s i p → r ≡ k + c .fm + c .fu + c .fv →
+    numbers s′ r ≡ numberRow l t i (numbers s k)
 unfolding numberRow
-row-noted l s s′ t i k p c e f g = rw (← e, ← f, g)
+row-noted l s s′ t i k p r c e f g h = rw (← e, ← f, g, h)

@@ -11,7 +11,8 @@ use Rattle.lists.specs.Search.{lowest}
 use Rattle.meaning.specs.declared.Tri.{Tri}
 use Rattle.meaning.specs.Tables.{rowAt}
 use Rattle.tables.specs.Arrow.{arrowAt}
-use Rattle.notes.specs.Notes.{Note, note, noteAt, packed}
+use Rattle.notes.specs.declared.Note.{Note}
+use Rattle.notes.specs.Notes.{note, noteAt, packed}
 use Rattle.close.specs.Drawn.{onFound}
 pub use Rattle.number.specs.declared.Met.{Met}
 

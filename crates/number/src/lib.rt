@@ -5,7 +5,7 @@ ghost use Prim.Native.Nat.{ℕ, _+_, _*_, _≤_, _<_};
 ghost use lib.ListN.{length};
 ghost use Rattle.lists.specs.Search.{iter};
 ghost use Rattle.tables.specs.Ready.{Ready};
-ghost use Rattle.notes.specs.Notes.{noteAt};
+ghost use Rattle.notes.specs.Notes.{noteAt, Tight};
 ghost use Rattle.number.specs.Numbered.{baseSplit, metBy, metBase, metAcross, noteOf, numbers, numberRow};
 use lists::Found;
 use meaning::Tri;
@@ -87,6 +87,14 @@ fn note_of(tri: &[u32], s: &[u32], nc: usize, t: usize, i: usize, k: u32) -> Not
     Note { m: a.on, u: b.on, v: c.on, fm: a.first, fu: b.first, fv: c.first, before: k }
 }
 
+fn with_new(k: u32, c: Note) -> u32
+    requires { ⌜ k ≤ 300_000 ⌝ }
+    requires { ⌜ Tight c ⌝ }
+    ensures { λ r. ⌜ r ≡ k + c .fm + c .fu + c .fv ⌝ }
+{
+    k + c.fm + c.fu + c.fv
+}
+
 // Puts the note of row i, and returns how many new nodes the rows up to it have.
 fn number_row(tri: &[u32], s: &mut [u32], nc: usize, t: usize, i: usize, k: u32) -> u32
     requires { ⌜ i < t ⌝ }
@@ -98,7 +106,7 @@ fn number_row(tri: &[u32], s: &mut [u32], nc: usize, t: usize, i: usize, k: u32)
 {
     let c = note_of(tri, s, nc, t, i, k);
     tables::put_note(s, i, notes::pack(c));
-    k + c.fm + c.fu + c.fv
+    with_new(k, c)
 }
 
 // The notes are 1 where a row is split, else 0. Returns how many new nodes there are.

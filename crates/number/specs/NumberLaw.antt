@@ -33,6 +33,7 @@ use Rattle.laws.specs.Edges.{edge-comm, sameEdge-eq, sameEdge-refl}
 use Rattle.tables.specs.Arrow.{arrowAt}
 use Rattle.notes.specs.declared.Note.{Note}
 use Rattle.notes.specs.Notes.{note, packed, unpacked, Tight, noteAt, ownM, ownU, ownV, ownOn, across, midFor, mids, midsAt}
+use Rattle.notes.specs.Notes as Noted
 use Rattle.notes.specs.NotesLaw.{unpacked-packed, mids-path}
 use Rattle.close.specs.Drawn.{onFound}
 use Rattle.close.specs.EdgeLaw.{OnceAt, Side, side-m, side-u, side-v, side-at, side-edge, edge-side, edge-ends, found-is, found-side}
@@ -350,3 +351,172 @@ module _ (l : List ℕ) (t n : ℕ) (only-one : OnceAt l t) (named : (i : ℕ) �
     length-v =
         ap (λ (r : List Edge). length (once sameEdge r)) met-next ∙ ap length once-v ∙ length-append (once sameEdge (afterU i)) _
         ∙ ap (λ (k : ℕ). length (once sameEdge (afterU i)) + k) (length-if (news i (edge (rowAt l i .r) (rowAt l i .p))) (edge (rowAt l i .r) (rowAt l i .p)))
+
+  -- ---- the numbers, from n on
+
+  num-out : (e : Edge) → mem e ≡ false → num n scanned e ≡ 0
+  num-out e q = rw (where-nowhere (sameEdge e) scanned none-there)
+    where
+      none-there : any (sameEdge e) scanned ≡ false
+      none-there = any-once e (metTo t) ∙ not-so (any (sameEdge e) (metTo t)) (λ a. go (any-row (sameEdge e) (metTo t) a))
+        where
+          go : (x : Edge) × List·Memᴰ x (metTo t) × (sameEdge e x ≡ true) → ⊥
+          go (x, i, a) =
+              let m = in-only mem (joined edges (items (rowAt l) 0 t)) i .1 in
+              let f : true ≡ false = sym m ∙ ap mem (sym (sameEdge-eq e x a)) ∙ q in
+              clash f
+
+  num-new : (P Q : List Edge) (e : Edge) → metTo t ≡ P ++ consIf (mem e) e Q → mem e ≡ true → any (sameEdge e) P ≡ false → num n scanned e ≡ n + length (once sameEdge P)
+  num-new P Q e q m a =
+      let f : scanned ≡ once sameEdge (P ++ (e ∷ Q)) = ap (once sameEdge) (q ∙ ap (λ (b : Bool). P ++ consIf b e Q) m) in
+      rw (f, once-place P Q e a)
+
+  not-yes : (b : Bool) → not b ≡ true → b ≡ false
+  not-yes true e = sym e
+  not-yes false e = refl
+
+  news-in : (i : ℕ) (e : Edge) → news i e ≡ true → mem e ≡ true
+  news-in i e a = and-left (mem e) (not (any (sameEdge e) (metTo i))) a
+
+  news-none : (i : ℕ) (e : Edge) → news i e ≡ true → any (sameEdge e) (metTo i) ≡ false
+  news-none i e a = not-yes (any (sameEdge e) (metTo i)) (and-right (mem e) (not (any (sameEdge e) (metTo i))) a)
+
+  -- a row's own numbers
+  module _ (i : ℕ) (h : i < t) where
+    own-m : news i (base (rowAt l i)) ≡ true → ownM n (noteFor i) ≡ num n scanned (base (rowAt l i))
+    own-m a = sym (num-new (metTo i) _ (base (rowAt l i)) (split-m i h) (news-in i (base (rowAt l i)) a) (news-none i (base (rowAt l i)) a))
+
+    own-u : news i (edge (rowAt l i .p) (rowAt l i .q)) ≡ true → ownU n (noteFor i) ≡ num n scanned (edge (rowAt l i .p) (rowAt l i .q))
+    own-u a =
+        let e : Edge = edge (rowAt l i .p) (rowAt l i .q) in
+        let k = num-new (afterM i) _ e (split-u i h) (news-in i e a) (any-u i h ∙ news-none i e a) in
+        let g = length-m i h in
+        let z : ownU n (noteFor i) ≡ n + length (once sameEdge (afterM i)) = omega arith in
+        z ∙ sym k
+
+    own-v : news i (edge (rowAt l i .r) (rowAt l i .p)) ≡ true → ownV n (noteFor i) ≡ num n scanned (edge (rowAt l i .r) (rowAt l i .p))
+    own-v a =
+        let e : Edge = edge (rowAt l i .r) (rowAt l i .p) in
+        let k = num-new (afterU i) _ e (split-v i h) (news-in i e a) (any-v i h ∙ news-none i e a) in
+        let g = length-m i h in
+        let f = length-u i h in
+        let z : ownV n (noteFor i) ≡ n + length (once sameEdge (afterU i)) = omega arith in
+        z ∙ sym k
+
+  own-is : (i : ℕ) → i < t → {x y : ℕ} → Side (rowAt l i) x y → news i (edge x y) ≡ true → ownOn n (rowAt l i) (noteFor i) x y ≡ num n scanned (edge x y)
+  unfolding ownOn
+  own-is i h side-m a = rw (eq-eqb (rowAt l i .q) (rowAt l i .q) refl, eq-eqb (rowAt l i .r) (rowAt l i .r) refl) (own-m i h a)
+  own-is i h side-u a =
+      rw (ne-eqb (rowAt l i .q) (rowAt l i .p) (λ e. named i h .p≢q (sym e)), eq-eqb (rowAt l i .p) (rowAt l i .p) refl, eq-eqb (rowAt l i .q) (rowAt l i .q) refl)
+      (own-u i h a)
+  own-is i h side-v a =
+      rw (ne-eqb (rowAt l i .q) (rowAt l i .r) (named i h .q≢r), ne-eqb (rowAt l i .p) (rowAt l i .r) (λ e. named i h .r≢p (sym e)))
+      (own-v i h a)
+
+  -- where the notes of the rows up to i say what they are to say
+  module _ (s : List ℕ) (i : ℕ) (h : i < t) (notes : (j : ℕ) → j ≤ i → noteAt s j ≡ noteFor j) where
+    -- the edge was met in a lower row, the one across
+    across-num : (x y : ℕ) → Side (rowAt l i) x y → mem (edge x y) ≡ true → any (sameEdge (edge x y)) (metTo i) ≡ true → across n l s i x y ≡ num n scanned (edge x y)
+    unfolding across
+    across-num x y side m a = go (lowest (arrowAt l y x) 0 i) refl
+      where
+        go : (w : Found) → lowest (arrowAt l y x) 0 i ≡ w → Noted.onFound w (λ j. ownOn n (rowAt l j) (noteAt s j) y x) 0 ≡ num n scanned (edge x y)
+        go Nothing e = clash (sym a ∙ met-new i x y h side e)
+        go (At j) e =
+            let f = found-side l i (one-below i (omega arith)) j y x e in
+            let b = f .0 in
+            let first : lowest (arrowAt l x y) 0 j ≡ Nothing =
+                lowest-no (arrowAt l x y) j (λ k u. not-so (arrowAt l x y k) (λ q. let z = only-one k i x y (omega arith) h q (side-at l i side) in omega arith)) in
+            let c : mem (edge y x) ≡ true = ap mem (edge-comm y x) ∙ m in
+            let d : news j (edge y x) ≡ true = and-both c (ap not (met-new j y x (omega arith) (f .1) first)) in
+            ap (λ (w : Note). ownOn n (rowAt l j) w y x) (notes j (omega arith)) ∙ own-is j (omega arith) (f .1) d ∙ ap (num n scanned) (edge-comm y x)
+
+    for-num : (x y own : ℕ) → Side (rowAt l i) x y → (news i (edge x y) ≡ true → own ≡ num n scanned (edge x y)) →
+        midFor n l s i (bit (mem (edge x y))) (bit (news i (edge x y))) own x y ≡ num n scanned (edge x y)
+    unfolding midFor
+    for-num x y own side f = go (mem (edge x y)) refl (any (sameEdge (edge x y)) (metTo i)) refl f
+      where
+        go : (b : Bool) → mem (edge x y) ≡ b → (c : Bool) → any (sameEdge (edge x y)) (metTo i) ≡ c → (b && not c ≡ true → own ≡ num n scanned (edge x y)) →
+            cases (eqb (bit b) 0) 0 (cases (eqb (bit (b && not c)) 1) own (across n l s i x y)) ≡ num n scanned (edge x y)
+        go true m true a g = across-num x y side m a
+        go true m false a g = g refl
+        go false m c a g = sym (num-out (edge x y) m)
+
+    pub mids-num : midsAt n l s i ≡ numsOf n scanned (rowAt l i)
+    unfolding midsAt
+    mids-num =
+        rw (notes i (omega arith))
+        (mids-path _ _ _ _ _ _
+        (for-num (rowAt l i .q) (rowAt l i .r) (ownM n (noteFor i)) side-m (own-m i h))
+        (for-num (rowAt l i .p) (rowAt l i .q) (ownU n (noteFor i)) side-u (own-u i h))
+        (for-num (rowAt l i .r) (rowAt l i .p) (ownV n (noteFor i)) side-v (own-v i h)))
+
+  -- ---- all rows
+
+  -- the sweep has reached row i; N is the length of scratch
+  pub record Reached (N i : ℕ) (st : Numbers) : Type 0 where
+    pub done : (j : ℕ) → j < i → noteAt (st .table) j ≡ noteFor j
+    pub todo : (j : ℕ) → i ≤ j → j < t → noteAt (st .table) j .m ≡ bit (mem (base (rowAt l j)))
+    pub counted : st .count ≡ length (once sameEdge (metTo i))
+    pub few : st .count ≤ 3 * i
+    pub long : length (st .table) ≡ N
+
+  for-tight : (i : ℕ) → length (once sameEdge (metTo i)) ≤ 16_777_216 → Tight (noteFor i)
+  for-tight i k = record {
+    m-bit = bit-le (mem (base (rowAt l i)));
+    u-bit = bit-le (mem (edge (rowAt l i .p) (rowAt l i .q)));
+    v-bit = bit-le (mem (edge (rowAt l i .r) (rowAt l i .p)));
+    fm-bit = bit-le (news i (base (rowAt l i)));
+    fu-bit = bit-le (news i (edge (rowAt l i .p) (rowAt l i .q)));
+    fv-bit = bit-le (news i (edge (rowAt l i .r) (rowAt l i .p)));
+    few = k;
+  }
+
+  module _ (N : ℕ) (long : t ≤ N) (small : 3 * t ≤ 16_777_216) where
+    reach : (i : ℕ) (st : Numbers) → i < t → Reached N i st → Reached N (i + 1) (numberRow l t i st)
+    unfolding numberRow noteAt
+    reach i st h d = rw is (record {
+      done = λ j a. at j a (ℕ-discrete j i);
+      todo = λ j a c. ap (λ (k : ℕ). unpacked k .m) (getD-set-other (st .table) i j (packed (noteFor i)) 0 (omega arith)) ∙ d .todo j (omega arith) c;
+      counted = (let a = length-m i h in let b = length-u i h in let c = length-v i h in let k = d .counted in omega arith);
+      few = (let a = for-tight i few′ in let k = d .few in omega arith);
+      long = length-set (st .table) i (packed (noteFor i)) ∙ d .long;
+    })
+      where
+        few′ : length (once sameEdge (metTo i)) ≤ 16_777_216
+        few′ = let a = d .counted in let b = d .few in omega arith
+
+        bits : (j : ℕ) → j < t → noteAt (st .table) j .m ≡ bit (mem (base (rowAt l j)))
+        bits j g = by (decLt j i)
+          where
+            by : Dec (j < i) → noteAt (st .table) j .m ≡ bit (mem (base (rowAt l j)))
+            by (yes a) = ap (λ (c : Note). c .m) (d .done j a)
+            by (no a) = d .todo j (omega arith) g
+
+        is : noteOf l t (st .table) i (st .count) ≡ noteFor i
+        is = rw (d .counted) (of-is (st .table) bits i h)
+
+        at : (j : ℕ) → j < i + 1 → Dec (j ≡ i) → unpacked (getD (set (st .table) i (packed (noteFor i))) j 0) ≡ noteFor j
+        at j a (yes e) =
+            rw (e, getD-set-same (st .table) i (packed (noteFor i)) 0 (let y = d .long in omega arith)) (unpacked-packed (noteFor i) (for-tight i few′))
+        at j a (no o) = ap unpacked (getD-set-other (st .table) i j (packed (noteFor i)) 0 o) ∙ d .done j (omega arith)
+
+    -- from notes of 1 where a row is split
+    pub reach-all : (s : List ℕ) → length s ≡ N → ((j : ℕ) → j < t → getD s j 0 ≡ bit (mem (base (rowAt l j)))) → Reached N t (iter (numberRow l t) 0 t (numbers s 0))
+    unfolding noteAt unpacked
+    reach-all s e f =
+        iter-carries (numberRow l t) (λ i st. Reached N i st) t (numbers s 0) reach
+        (record {
+          done = λ j a. absurd (omega arith);
+          todo = λ j a c. rw (f j c) (mod-bit (mem (base (rowAt l j))));
+          counted = none-met;
+          few = omega arith;
+          long = e;
+        })
+      where
+        mod-bit : (b : Bool) → bit b % 2 ≡ bit b
+        mod-bit true = refl
+        mod-bit false = refl
+
+        none-met : 0 ≡ length (once sameEdge (metTo 0))
+        none-met = let z : items (rowAt l) 0 0 ≡ [] = items-none (rowAt l) 0 0 (omega arith) in rw z

@@ -15,7 +15,7 @@ use lib.Seq.{getD-set-same, getD-set-other}
 use Rattle.lists.specs.declared.Found.{Found}
 use Rattle.lists.specs.declared.Found.the-variants.{At, Nothing}
 use Rattle.lists.specs.Lists.{any, only, consIf, once, whereFirst, joined, cases}
-use Rattle.lists.specs.ListsLaw.{clash, and-both, and-left, and-right, any-at, any-row, both-ways}
+use Rattle.lists.specs.ListsLaw.{clash, and-both, and-left, and-right, any-at, any-row, both-ways, All-at, where-none}
 use Rattle.lists.specs.MembersLaw.{only-in, joined-in}
 use Rattle.lists.specs.Tally.{bit}
 use Rattle.lists.specs.Search.{lowest, items, iter, iterFrom}
@@ -52,6 +52,34 @@ num n s e = orZero (numberOf n s e)
 -- the numbers of a row's edges
 abbrev pub numsOf : ℕ → List Edge → Tri → Mids
 numsOf n s w = mids (num n s (base w)) (num n s (edge (w .p) (w .q))) (num n s (edge (w .r) (w .p)))
+
+-- ---- a scan of the rows of a table, for the edges of a set
+
+-- as it meets them in the rows below i
+abbrev pub metIn : List ℕ → (Edge → Bool) → ℕ → List Edge
+metIn l mem i = only mem (joined edges (items (rowAt l) 0 i))
+
+-- each once
+abbrev pub scanOf : List ℕ → (Edge → Bool) → ℕ → List Edge
+scanOf l mem i = once sameEdge (only mem (joined edges (items (rowAt l) 0 i)))
+
+-- e is in the set, and not met below row i
+abbrev pub newsIn : List ℕ → (Edge → Bool) → ℕ → Edge → Bool
+newsIn l mem i e = mem e && not (any (sameEdge e) (metIn l mem i))
+
+-- the edges first met in row i
+abbrev pub firstsIn : List ℕ → (Edge → Bool) → ℕ → List Edge
+firstsIn l mem i =
+    consIf (newsIn l mem i (base (rowAt l i))) (base (rowAt l i))
+    (consIf (newsIn l mem i (edge (rowAt l i .p) (rowAt l i .q))) (edge (rowAt l i .p) (rowAt l i .q))
+    (consIf (newsIn l mem i (edge (rowAt l i .r) (rowAt l i .p))) (edge (rowAt l i .r) (rowAt l i .p)) []))
+
+-- what the note of row i is to say
+abbrev pub noteIn : List ℕ → (Edge → Bool) → ℕ → Note
+noteIn l mem i =
+    note (bit (mem (base (rowAt l i)))) (bit (mem (edge (rowAt l i .p) (rowAt l i .q)))) (bit (mem (edge (rowAt l i .r) (rowAt l i .p))))
+    (bit (newsIn l mem i (base (rowAt l i)))) (bit (newsIn l mem i (edge (rowAt l i .p) (rowAt l i .q)))) (bit (newsIn l mem i (edge (rowAt l i .r) (rowAt l i .p))))
+    (length (scanOf l mem i))
 
 -- ---- small laws
 
@@ -99,24 +127,20 @@ any-still e d P b n = any-append (sameEdge e) P (consIf b d []) ∙ ap (λ (c : 
 module _ (l : List ℕ) (t n : ℕ) (only-one : OnceAt l t) (named : (i : ℕ) → i < t → Named n (rowAt l i)) (mem : Edge → Bool)
     (pull : (i : ℕ) (e : Edge) → i < t → List·Memᴰ e (edges (rowAt l i)) → mem e ≡ true → mem (base (rowAt l i)) ≡ true)
     (held : (e : Edge) → mem e ≡ true → (j : ℕ) × (j < t) × (base (rowAt l j) ≡ e)) where
-  -- its edges as the scan meets them in the rows below i
-  abbrev pub metTo : ℕ → List Edge
-  metTo i = only mem (joined edges (items (rowAt l) 0 i))
+  abbrev metTo : ℕ → List Edge
+  metTo i = metIn l mem i
 
-  -- all, each once
-  abbrev pub scanned : List Edge
-  scanned = once sameEdge (only mem (joined edges (items (rowAt l) 0 t)))
+  abbrev scanned : List Edge
+  scanned = scanOf l mem t
 
-  -- e is in the set, and not met below row i
-  abbrev pub news : ℕ → Edge → Bool
-  news i e = mem e && not (any (sameEdge e) (metTo i))
+  abbrev news : ℕ → Edge → Bool
+  news i e = newsIn l mem i e
 
-  -- what the note of row i is to say
-  abbrev pub noteFor : ℕ → Note
-  noteFor i =
-      note (bit (mem (base (rowAt l i)))) (bit (mem (edge (rowAt l i .p) (rowAt l i .q)))) (bit (mem (edge (rowAt l i .r) (rowAt l i .p))))
-      (bit (news i (base (rowAt l i)))) (bit (news i (edge (rowAt l i .p) (rowAt l i .q)))) (bit (news i (edge (rowAt l i .r) (rowAt l i .p))))
-      (length (once sameEdge (metTo i)))
+  abbrev noteFor : ℕ → Note
+  noteFor i = noteIn l mem i
+
+  abbrev firsts : ℕ → List Edge
+  firsts i = firstsIn l mem i
 
   -- ---- met before
 
@@ -252,21 +276,14 @@ module _ (l : List ℕ) (t n : ℕ) (only-one : OnceAt l t) (named : (i : ℕ) �
 
   -- ---- one row more
 
-  abbrev pub afterM : ℕ → List Edge
+  abbrev afterM : ℕ → List Edge
   afterM i = metTo i ++ consIf (mem (base (rowAt l i))) (base (rowAt l i)) []
 
-  abbrev pub afterU : ℕ → List Edge
+  abbrev afterU : ℕ → List Edge
   afterU i = afterM i ++ consIf (mem (edge (rowAt l i .p) (rowAt l i .q))) (edge (rowAt l i .p) (rowAt l i .q)) []
 
-  abbrev pub afterV : ℕ → List Edge
+  abbrev afterV : ℕ → List Edge
   afterV i = afterU i ++ consIf (mem (edge (rowAt l i .r) (rowAt l i .p))) (edge (rowAt l i .r) (rowAt l i .p)) []
-
-  -- the edges first met in row i
-  abbrev pub firsts : ℕ → List Edge
-  firsts i =
-      consIf (news i (base (rowAt l i))) (base (rowAt l i))
-      (consIf (news i (edge (rowAt l i .p) (rowAt l i .q))) (edge (rowAt l i .p) (rowAt l i .q))
-      (consIf (news i (edge (rowAt l i .r) (rowAt l i .p))) (edge (rowAt l i .r) (rowAt l i .p)) []))
 
   if-front : (b : Bool) (e : Edge) (P xs : List Edge) → P ++ consIf b e xs ≡ (P ++ consIf b e []) ++ xs
   if-front b e P xs = ap (λ (r : List Edge). P ++ r) (consIf-append b e [] xs) ∙ sym (append-assoc P (consIf b e []) xs)
@@ -520,3 +537,27 @@ module _ (l : List ℕ) (t n : ℕ) (only-one : OnceAt l t) (named : (i : ℕ) �
 
         none-met : 0 ≡ length (once sameEdge (metTo 0))
         none-met = let z : items (rowAt l) 0 0 ≡ [] = items-none (rowAt l) 0 0 (omega arith) in rw z
+
+  -- ---- the scan
+
+  firsts-from : (i : ℕ) → i < t → once sameEdge (metTo i) ≡ joined firsts (items (λ k. k) 0 i) → once sameEdge (metTo (i + 1)) ≡ joined firsts (items (λ k. k) 0 (i + 1))
+  firsts-from i h e =
+      firsts-next i h ∙ ap (λ (r : List Edge). r ++ firsts i) e
+      ∙ ap (λ (r : List Edge). joined firsts (items (λ k. k) 0 i) ++ r) (sym (append-nil (firsts i)))
+      ∙ sym (ap (joined firsts) (items-snoc (λ k. k) 0 i (omega arith)) ∙ joined-append firsts (items (λ k. k) 0 i) (i ∷ []))
+
+  -- row by row, the edges that are first met
+  pub scan-firsts : (i : ℕ) → i ≤ t → once sameEdge (metTo i) ≡ joined firsts (items (λ k. k) 0 i)
+  scan-firsts zero h = rw (items-none (rowAt l) 0 0 (omega arith), items-none (λ k. k) 0 0 (omega arith))
+  scan-firsts (suc i) h = let e : suc i ≡ i + 1 = omega arith in rw e (firsts-from i (omega arith) (scan-firsts i (omega arith)))
+
+  -- an edge of a row that is in the set has a number above 0
+  pub num-some : (i : ℕ) (e : Edge) → i < t → List·Memᴰ e (edges (rowAt l i)) → mem e ≡ true → 0 < n → num n scanned e ≡ 0 → ⊥
+  num-some i e h k m b z = go (whereFirst (sameEdge e) scanned) refl
+    where
+      here : any (sameEdge e) scanned ≡ true
+      here = any-once e (metTo t) ∙ any-at (sameEdge e) (sameEdge-refl e) (only-in mem (joined-in edges (items-in (rowAt l) t i h) k) m)
+
+      go : (w : Found) → whereFirst (sameEdge e) scanned ≡ w → ⊥
+      go (At j) q = let y : n + j ≡ 0 = sym (ap (λ (f : Found). orZero (plus n f)) q) ∙ z in omega arith
+      go Nothing q = let r = any-row (sameEdge e) scanned here in clash (sym (r .2) ∙ All-at (where-none (sameEdge e) scanned q) (r .1))

@@ -1,0 +1,93 @@
+-- A lawful mesh, its marked rows closed and then numbered: the notes, the numbers that they tell, and the count of new nodes are those
+-- of document 01's split edges. Assumes nothing.
+use mathlib.Core.Path.{_≡_, refl, sym, ap, _∙_}
+use mathlib.Core.Bool.{Bool, true, false}
+use mathlib.Core.List.{List, [], _∷_, _++_, List·Memᴰ}
+use Prim.Native.Nat.{ℕ, _+_, _*_, _≤_, _<_}
+use native.Mathlib.Omega.{arith}
+use lib.ListN.{length, getD}
+use Rattle.lists.specs.Lists.{joined, consIf}
+use Rattle.lists.specs.ListsLaw.{All-at}
+use Rattle.lists.specs.Tally.{bit}
+use Rattle.lists.specs.Search.{items, iter}
+use Rattle.lists.specs.ByNumberLaw.{items-in}
+use Rattle.meaning.specs.declared.Tri.{Tri}
+use Rattle.meaning.specs.declared.Place.{Place}
+use Rattle.meaning.specs.Mesh.{Mesh, Edge, edge, edges, base, mesh}
+use Rattle.meaning.specs.Lawful.{Lawful, Named}
+use Rattle.meaning.specs.Split.{memEdge, closure, splitEdges, started, newest}
+use Rattle.meaning.specs.Tables.{rowAt}
+use Rattle.laws.specs.Closure.{closure-closed}
+use Rattle.notes.specs.declared.Note.{Note}
+use Rattle.notes.specs.Notes.{noteAt, midsAt}
+use Rattle.close.specs.Drawn.{drawMarked}
+use Rattle.close.specs.DrawLaw.{close-kept}
+use Rattle.close.specs.EdgeLaw.{OnceAt, lawful-once, lawful-named}
+use Rattle.close.specs.CloseLaw.{closed-note, closed-held}
+use Rattle.number.specs.Numbered.{Numbers, numbers, numberRow}
+use Rattle.number.specs.NumberLaw.{num, numsOf, scanOf, noteIn, firstsIn, Reached, reach-all, mids-num, scan-firsts, num-some}
+
+-- the first t notes of s are 0
+module _ (ns : List Place) (l : List ℕ) (t : ℕ) (law : Lawful (mesh ns (items (rowAt l) 0 t))) (marks s : List ℕ) (long : t ≤ length s)
+    (clear : (x : ℕ) → x < t → getD s x 0 ≡ 0) (small : 3 * t ≤ 16_777_216) where
+  abbrev start : List Edge
+  start = started newest marks (items (rowAt l) 0 t)
+
+  -- the split edges
+  abbrev pub split : List Edge
+  split = splitEdges (mesh ns (items (rowAt l) 0 t)) (started newest marks (items (rowAt l) 0 t))
+
+  -- an edge is to be split
+  abbrev pub member : Edge → Bool
+  member e = memEdge e (closure (items (rowAt l) 0 t) (started newest marks (items (rowAt l) 0 t)))
+
+  -- what close and number leave
+  abbrev pub closed : List ℕ
+  closed = iter (drawMarked l t marks) 0 t s
+
+  abbrev pub numbered : Numbers
+  numbered = iter (numberRow l t) 0 t (numbers (iter (drawMarked l t marks) 0 t s) 0)
+
+  one : OnceAt l t
+  one = lawful-once ns l t law
+
+  names : (i : ℕ) → i < t → Named (length ns) (rowAt l i)
+  names = lawful-named ns l t law
+
+  pull : (i : ℕ) (e : Edge) → i < t → List·Memᴰ e (edges (rowAt l i)) → member e ≡ true → member (base (rowAt l i)) ≡ true
+  pull i e h m p = All-at (All-at (closure-closed (items (rowAt l) 0 t) start .pull) (items-in (rowAt l) t i h)) m p
+
+  held : (e : Edge) → member e ≡ true → (j : ℕ) × (j < t) × (base (rowAt l j) ≡ e)
+  held e m = let r = closed-held l t one marks s long clear e m in (r .0, r .1, r .3)
+
+  reached : Reached l t (length ns) one names member pull held (length s) t numbered
+  reached =
+      reach-all l t (length ns) one names member pull held (length s) long small closed
+      (close-kept l t t (omega arith) marks s .0) (closed-note l t one marks s long clear)
+
+  split-is : scanOf l member t ≡ split
+  unfolding splitEdges
+  split-is = refl
+
+  pub notes-say : (i : ℕ) → i < t → noteAt (numbered .table) i ≡ noteIn l member i
+  notes-say i h = reached .done i h
+
+  pub length-say : length (numbered .table) ≡ length s
+  length-say = reached .long
+
+  -- the numbers of a row's edges, 0 for none
+  pub mids-say : (i : ℕ) → i < t → midsAt (length ns) l (numbered .table) i ≡ numsOf (length ns) split (rowAt l i)
+  mids-say i h = mids-num l t (length ns) one names member pull held (numbered .table) i h (λ j k. notes-say j (omega arith)) ∙ ap (λ es. numsOf (length ns) es (rowAt l i)) split-is
+
+  -- how many new nodes there are
+  pub count-say : numbered .count ≡ length split
+  count-say = reached .counted ∙ ap length split-is
+
+  -- the edges first met, row by row, are the split edges in order
+  pub firsts-say : joined (firstsIn l member) (items (λ i. i) 0 t) ≡ split
+  firsts-say = sym (scan-firsts l t (length ns) one names member pull held t (omega arith)) ∙ split-is
+
+  -- an edge of a row that is to be split has a number above 0, and others have 0
+  pub split-some : (i : ℕ) (e : Edge) → i < t → List·Memᴰ e (edges (rowAt l i)) → member e ≡ true → num (length ns) split e ≡ 0 → ⊥
+  split-some i e h k m z =
+      num-some l t (length ns) one names member pull held i e h k m (let a = names i h .p-below in omega arith) (ap (λ es. num (length ns) es e) split-is ∙ z)

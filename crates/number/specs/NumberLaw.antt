@@ -14,7 +14,7 @@ use lib.ListN.{length, getD, set, length-set, length-append}
 use lib.Seq.{getD-set-same, getD-set-other}
 use Rattle.lists.specs.declared.Found.{Found}
 use Rattle.lists.specs.declared.Found.the-variants.{At, Nothing}
-use Rattle.lists.specs.Lists.{any, only, consIf, once, whereFirst, joined, cases}
+use Rattle.lists.specs.Lists.{any, only, consIf, once, whereFirst, joined, upTo, cases}
 use Rattle.lists.specs.ListsLaw.{clash, and-both, and-left, and-right, any-at, any-row, both-ways, All-at, where-none}
 use Rattle.lists.specs.MembersLaw.{only-in, joined-in}
 use Rattle.lists.specs.Tally.{bit}
@@ -34,6 +34,7 @@ use Rattle.tables.specs.Arrow.{arrowAt}
 use Rattle.notes.specs.declared.Note.{Note}
 use Rattle.notes.specs.Notes.{note, packed, unpacked, Tight, noteAt, ownM, ownU, ownV, ownOn, across, midFor, mids, midsAt}
 use Rattle.notes.specs.Notes as Noted
+use Rattle.notes.specs.Met as Met
 use Rattle.notes.specs.NotesLaw.{unpacked-packed, mids-path}
 use Rattle.close.specs.Drawn.{onFound}
 use Rattle.close.specs.EdgeLaw.{OnceAt, Side, side-m, side-u, side-v, side-at, side-edge, edge-side, edge-ends, found-is, found-side}
@@ -540,16 +541,22 @@ module _ (l : List ℕ) (t n : ℕ) (only-one : OnceAt l t) (named : (i : ℕ) �
 
   -- ---- the scan
 
-  firsts-from : (i : ℕ) → i < t → once sameEdge (metTo i) ≡ joined firsts (items (λ k. k) 0 i) → once sameEdge (metTo (i + 1)) ≡ joined firsts (items (λ k. k) 0 (i + 1))
-  firsts-from i h e =
-      firsts-next i h ∙ ap (λ (r : List Edge). r ++ firsts i) e
-      ∙ ap (λ (r : List Edge). joined firsts (items (λ k. k) 0 i) ++ r) (sym (append-nil (firsts i)))
-      ∙ sym (ap (joined firsts) (items-snoc (λ k. k) 0 i (omega arith)) ∙ joined-append firsts (items (λ k. k) 0 i) (i ∷ []))
+  row-met : (s : List ℕ) (i : ℕ) → noteAt s i ≡ noteFor i → Met.metAt l s i ≡ firsts i
+  unfolding Met.metAt
+  row-met s i e =
+      rw (e, bit-one (news i (base (rowAt l i))), bit-one (news i (edge (rowAt l i .p) (rowAt l i .q))), bit-one (news i (edge (rowAt l i .r) (rowAt l i .p))))
 
-  -- row by row, the edges that are first met
-  pub scan-firsts : (i : ℕ) → i ≤ t → once sameEdge (metTo i) ≡ joined firsts (items (λ k. k) 0 i)
-  scan-firsts zero h = rw (items-none (rowAt l) 0 0 (omega arith), items-none (λ k. k) 0 0 (omega arith))
-  scan-firsts (suc i) h = let e : suc i ≡ i + 1 = omega arith in rw e (firsts-from i (omega arith) (scan-firsts i (omega arith)))
+  -- where the notes of the rows below i say what they are to say, the edges first met in them are those of the scan
+  pub scan-met : (s : List ℕ) (i : ℕ) → i ≤ t → ((j : ℕ) → j < i → noteAt s j ≡ noteFor j) → Met.metTo l s i ≡ once sameEdge (metTo i)
+  unfolding Met.metTo Met.metAt
+  scan-met s zero h f = rw (items-none (rowAt l) 0 0 (omega arith))
+  scan-met s (suc i) h f =
+      let e : suc i ≡ i + 1 = omega arith in
+      let a : i < t = omega arith in
+      joined-append (Met.metAt l s) (upTo i) (i ∷ [])
+      ∙ ap (λ (r : List Edge). r ++ (Met.metAt l s i ++ [])) (scan-met s i (omega arith) (λ j k. f j (omega arith)))
+      ∙ ap (λ (r : List Edge). once sameEdge (metTo i) ++ r) (append-nil (Met.metAt l s i) ∙ row-met s i (f i (omega arith)))
+      ∙ sym (firsts-next i a) ∙ ap (λ (k : ℕ). once sameEdge (metTo k)) (sym e)
 
   -- an edge of a row that is in the set has a number above 0
   pub num-some : (i : ℕ) (e : Edge) → i < t → List·Memᴰ e (edges (rowAt l i)) → mem e ≡ true → 0 < n → num n scanned e ≡ 0 → ⊥

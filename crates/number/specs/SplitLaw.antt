@@ -6,7 +6,6 @@ use mathlib.Core.List.{List, [], _∷_, _++_, List·Memᴰ}
 use Prim.Native.Nat.{ℕ, _+_, _*_, _≤_, _<_}
 use native.Mathlib.Omega.{arith}
 use lib.ListN.{length, getD}
-use Rattle.lists.specs.Lists.{joined, consIf}
 use Rattle.lists.specs.ListsLaw.{All-at}
 use Rattle.lists.specs.Tally.{bit}
 use Rattle.lists.specs.Search.{items, iter}
@@ -20,12 +19,13 @@ use Rattle.meaning.specs.Tables.{rowAt}
 use Rattle.laws.specs.Closure.{closure-closed}
 use Rattle.notes.specs.declared.Note.{Note}
 use Rattle.notes.specs.Notes.{noteAt, midsAt}
+use Rattle.notes.specs.Met.{metTo}
 use Rattle.close.specs.Drawn.{drawMarked}
 use Rattle.close.specs.DrawLaw.{close-kept}
 use Rattle.close.specs.EdgeLaw.{OnceAt, lawful-once, lawful-named}
 use Rattle.close.specs.CloseLaw.{closed-note, closed-held}
 use Rattle.number.specs.Numbered.{Numbers, numbers, numberRow}
-use Rattle.number.specs.NumberLaw.{num, numsOf, scanOf, noteIn, firstsIn, Reached, reach-all, mids-num, scan-firsts, num-some}
+use Rattle.number.specs.NumberLaw.{num, numsOf, scanOf, noteIn, Reached, reach-all, mids-num, scan-met, num-some}
 
 -- the first t notes of s are 0
 module _ (ns : List Place) (l : List ℕ) (t : ℕ) (law : Lawful (mesh ns (items (rowAt l) 0 t))) (marks s : List ℕ) (long : t ≤ length s)
@@ -84,8 +84,8 @@ module _ (ns : List Place) (l : List ℕ) (t : ℕ) (law : Lawful (mesh ns (item
   count-say = reached .counted ∙ ap length split-is
 
   -- the edges first met, row by row, are the split edges in order
-  pub firsts-say : joined (firstsIn l member) (items (λ i. i) 0 t) ≡ split
-  firsts-say = sym (scan-firsts l t (length ns) one names member pull held t (omega arith)) ∙ split-is
+  pub met-say : metTo l (numbered .table) t ≡ split
+  met-say = scan-met l t (length ns) one names member pull held (numbered .table) t (omega arith) notes-say ∙ split-is
 
   -- an edge of a row that is to be split has a number above 0, and others have 0
   pub split-some : (i : ℕ) (e : Edge) → i < t → List·Memᴰ e (edges (rowAt l i)) → member e ≡ true → num (length ns) split e ≡ 0 → ⊥

@@ -66,7 +66,7 @@ fn weigh(nodes: &[i32], tri: &[u32], s: &[u32], n: usize, t: usize, k: usize) ->
 }
 
 // The rows that are split and their notes; then 8 and 9. For a lawful mesh.
-fn plan(nodes: &[i32], tri: &[u32], s: &mut [u32], marks: &[u8], n: usize, t: usize) -> Plan
+fn lay_out(nodes: &[i32], tri: &[u32], s: &mut [u32], marks: &[u8], n: usize, t: usize) -> Plan
     requires { ⌜ Sound (now nodes) (now tri) (now s) (now marks) n t ⌝ }
     ensures number { λ r. ⌜ r .number ≡ lateNumber (now (nodes .entry)) (now (tri .entry)) (now (marks .entry)) n t ⌝ }
     ensures plan { λ r. ⌜ (r .number ≡ 0 → Planned (now (nodes .entry)) (now (tri .entry)) (now (s .exit)) (now (marks .entry)) n t (r .n) (r .t)) ⌝ }
@@ -100,7 +100,7 @@ fn judge(
     if f.number != 0 {
         return Plan { number: f.number, n: n, t: t };
     }
-    plan(nodes, tri, s, marks, n, t)
+    lay_out(nodes, tri, s, marks, n, t)
 }
 
 // ---- the work

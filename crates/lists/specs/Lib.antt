@@ -7,3 +7,4 @@ pub mod SearchLaw
 pub mod IterLaw
 pub mod FillLaw
 pub mod ItemsLaw
+pub mod AnyLaw

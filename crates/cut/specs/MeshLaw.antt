@@ -1,4 +1,5 @@
 -- All rows cut are the rows of document 01's refined mesh, where the notes say its numbers; and their count. Assumes nothing.
+use mathlib.Core.Bool.{Bool, true, false}
 use mathlib.Core.Path.{_≡_, refl, sym, ap, _∙_}
 use mathlib.Core.List.{List, [], _∷_, _++_, map, append-nil}
 use mathlib.Core.Option.{Option, none, some}
@@ -7,16 +8,20 @@ use native.Mathlib.Omega.{arith}
 use lib.ListN.{length, length-append, length-map}
 use Rattle.lists.specs.declared.Found.{Found}
 use Rattle.lists.specs.declared.Found.the-variants.{At, Nothing}
-use Rattle.lists.specs.Lists.{joined, whereFirst}
+use Rattle.lists.specs.Lists.{isFound, any, joined, whereFirst}
+use Rattle.lists.specs.ListsLaw.{clash}
+use Rattle.lists.specs.AnyLaw.{any-where}
+use Rattle.lists.specs.Tally.{bit}
 use Rattle.lists.specs.Search.{items}
 use Rattle.lists.specs.ItemsLaw.{items-snoc, items-agree, items-none, items-map, items-length, joined-append, sumTo, sum-more, sum-none, sum-agree}
 use Rattle.meaning.specs.declared.Tri.{Tri}
 use Rattle.meaning.specs.declared.Mids.{Mids}
-use Rattle.meaning.specs.Mesh.{Mesh, Edge, edge, sameEdge}
-use Rattle.meaning.specs.Split.{Cut, Cutting, bisected, plus, numberOf, cutOf, splitAt}
+use Rattle.meaning.specs.Mesh.{Mesh, Edge, edge, base, sameEdge}
+use Rattle.meaning.specs.Split.{Cut, bisected, plus, numberOf, cutOf, memEdge, splitAt}
 use Rattle.meaning.specs.Tables.{rowAt}
 use Rattle.notes.specs.declared.Note.{Note}
 use Rattle.notes.specs.Notes.{noteAt, mids, midsAt}
+use Rattle.notes.specs.Met.{Says}
 use Rattle.cut.specs.Cutting.{opt, cutBy, cutAt, addedAt, cutAll, splitsOf, splits}
 use Rattle.cut.specs.CutLaw.{opt-yes}
 
@@ -124,3 +129,53 @@ pub cut-all-length : (n : ℕ) (l s : List ℕ) (t : ℕ) → length (cutAll (it
 unfolding cutAll
 cut-all-length n l s t =
     rw (length-append, length-map, items-length (cutAt n l s) 0 t, added-length n l s t) (let e : t - 0 ≡ t = omega arith in rw e)
+
+-- ---- document 01's count
+
+on-number : (n : ℕ) (o : Found) → 0 < n → bit (isFound o) ≡ on (orZero (plus n o))
+on-number n Nothing h = refl
+on-number n (At k) h = sym (on-some (n + k) (omega arith))
+  where
+    on-some : (j : ℕ) → 0 < j → on j ≡ 1
+    on-some zero g = absurd (omega arith)
+    on-some (suc j) g = refl
+
+number-none : (n : ℕ) (es : List Edge) (e : Edge) → memEdge e es ≡ false → orZero (numberOf n es e) ≡ 0
+number-none n es e h = go (whereFirst (sameEdge e) es) (sym (any-where (sameEdge e) es) ∙ h)
+  where
+    go : (o : Found) → isFound o ≡ false → orZero (plus n o) ≡ 0
+    go (At k) g = clash g
+    go Nothing g = refl
+
+number-some : (n : ℕ) (es : List Edge) (e : Edge) → 0 < n → orZero (numberOf n es e) ≡ 0 → memEdge e es ≡ false
+number-some n es e z h = any-where (sameEdge e) es ∙ go (whereFirst (sameEdge e) es) h
+  where
+    go : (o : Found) → orZero (plus n o) ≡ 0 → isFound o ≡ false
+    go (At k) g = absurd (omega arith)
+    go Nothing g = refl
+
+-- a note that says which edges are among es tells the numbers of the definition
+pub tells-numbers : (n : ℕ) (es : List Edge) (w : Tri) (c : Note) → 0 < n → Says (λ e. memEdge e es) w c →
+    (memEdge (base w) es ≡ false → (memEdge (edge (w .p) (w .q)) es ≡ false) × (memEdge (edge (w .r) (w .p)) es ≡ false)) → Tells c (numbersOf n es w)
+tells-numbers n es w c z d p = record {
+  m-told = d .m-said ∙ told (base w);
+  u-told = d .u-said ∙ told (edge (w .p) (w .q));
+  v-told = d .v-said ∙ told (edge (w .r) (w .p));
+  pulled = λ h. let q = p (number-some n es (base w) z h) in (number-none n es (edge (w .p) (w .q)) (q .0), number-none n es (edge (w .r) (w .p)) (q .1));
+}
+  where
+    told : (e : Edge) → bit (memEdge e es) ≡ on (orZero (numberOf n es e))
+    told e = ap bit (any-where (sameEdge e) es) ∙ on-number n (whereFirst (sameEdge e) es) z
+
+-- where the notes say the split edges and their numbers, the code's count is that of the refined mesh
+module _ (m : Mesh) (es : List Edge) (n : ℕ) (l s : List ℕ) (t : ℕ) (a : length (m .nodes) ≡ n) (b : m .tris ≡ items (rowAt l) 0 t)
+    (z : (j : ℕ) → j < t → 0 < n) (numbers : (j : ℕ) → j < t → midsAt n l s j ≡ numbersOf n es (rowAt l j))
+    (says : (j : ℕ) → j < t → Says (λ e. memEdge e es) (rowAt l j) (noteAt s j))
+    (pulled : (j : ℕ) → j < t → memEdge (base (rowAt l j)) es ≡ false →
+    (memEdge (edge (rowAt l j .p) (rowAt l j .q)) es ≡ false) × (memEdge (edge (rowAt l j .r) (rowAt l j .p)) es ≡ false)) where
+  pub count-rows : t + sumTo (splits s) t ≡ t + sumTo (addedAt n l s) t
+  count-rows =
+      rows-after-is n l s t (λ j h. rw (numbers j h) (tells-numbers n es (rowAt l j) (noteAt s j) (z j h) (says j h) (pulled j h)))
+
+  pub count-mesh : t + sumTo (splits s) t ≡ length (splitAt bisected m es .tris)
+  count-mesh = count-rows ∙ sym (cut-all-length n l s t) ∙ ap length (cut-mesh m es n l s t a b z numbers)

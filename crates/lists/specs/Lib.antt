@@ -9,3 +9,4 @@ pub mod FillLaw
 pub mod ItemsLaw
 pub mod ByNumberLaw
 pub mod PartsLaw
+pub mod AnyLaw

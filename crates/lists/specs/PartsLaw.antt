@@ -23,14 +23,6 @@ module _ {A : Type 0} (f : A → Bool) where
   only-append [] ys = refl
   only-append (x ∷ xs) ys = ap (consIf (f x) x) (only-append xs ys) ∙ consIf-append (f x) x (only f xs) (only f ys)
 
-  or-assoc : (a b c : Bool) → a || (b || c) ≡ (a || b) || c
-  or-assoc true b c = refl
-  or-assoc false b c = refl
-
-  pub any-append : (xs ys : List A) → any f (xs ++ ys) ≡ any f xs || any f ys
-  any-append [] ys = refl
-  any-append (x ∷ xs) ys = ap (λ (b : Bool). f x || b) (any-append xs ys) ∙ or-assoc (f x) (any f xs) (any f ys)
-
   pub in-only : {x : A} (l : List A) → List·Memᴰ x (only f l) → List·Memᴰ x l × (f x ≡ true)
   in-only {x} (y ∷ ys) i = go (f y) refl i (in-only ys)
     where

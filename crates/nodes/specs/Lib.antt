@@ -1,3 +1,4 @@
 pub mod Nodes
 pub mod NodesLaw
 pub mod PlacedLaw
+pub mod OddLaw

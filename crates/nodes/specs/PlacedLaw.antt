@@ -110,8 +110,11 @@ module _ (nodes : List ℤ) (n : ℕ) (m : Mesh) (same : (k : ℕ) → k < n →
         list =
             rw g
             (items-snoc (placeAt (setPlace now k p)) 0 (n + length es) (omega arith)
-            ∙ rw (items-agree (placeAt (setPlace now k p)) (placeAt now) 0 (n + length es) (λ j u v. place-set-other now k j p (omega arith)), ← e,
-                  place-set-same now k p (omega arith))
+            ∙ rw (
+              items-agree (placeAt (setPlace now k p)) (placeAt now) 0 (n + length es) (λ j u v. place-set-other now k j p (omega arith)),
+              ← e,
+              place-set-same now k p (omega arith),
+            )
             (ap (λ l. l ++ (p ∷ [])) (ap (items (placeAt now) 0) e ∙ d .list)
             ∙ rw (f, map-append (midpoint m) es (edge x y ∷ [])) (append-assoc (items (placeAt nodes) 0 n) (map (midpoint m) es) (midpoint m (edge x y) ∷ []))));
       }
@@ -151,7 +154,7 @@ module _ (nodes : List ℤ) (n : ℕ) (m : Mesh) (same : (k : ℕ) → k < n →
       let d₂ = holds-edge (es ++ A) _ (c .fu) (ownU n c) (w .p) (w .q) (o .p-in) (o .q-in) (omega arith) (omega arith) d₁ in
       let d₃ = holds-edge ((es ++ A) ++ B) _ (c .fv) (ownV n c) (w .r) (w .p) (o .r-in) (o .p-in) (omega arith) (omega arith) d₂ in
       let f : metOf w c ≡ A ++ (B ++ C) =
-          consIf-append (eqb (c .fm) 1) (base w) _ ∙ ap (λ l. A ++ l) (consIf-append (eqb (c .fu) 1) (edge (w .p) (w .q)) C) in
+      consIf-append (eqb (c .fm) 1) (base w) _ ∙ ap (λ l. A ++ l) (consIf-append (eqb (c .fu) 1) (edge (w .p) (w .q)) C) in
       let g : es ++ metOf w c ≡ ((es ++ A) ++ B) ++ C = rw f (simp append-assoc) in
       rw g d₃
 

@@ -1,8 +1,11 @@
 -- The split edges in the order in which they are first met, as the notes say. Assumes nothing.
+use mathlib.Core.Path.{_≡_}
+use mathlib.Core.Bool.{Bool}
 use mathlib.Core.List.{List, [], _∷_}
 use Prim.Native.Nat.{ℕ, _+_}
 use lib.Dec.{eqb}
 use Rattle.lists.specs.Lists.{consIf, joined, upTo}
+use Rattle.lists.specs.Tally.{bit}
 use Rattle.meaning.specs.declared.Tri.{Tri}
 use Rattle.meaning.specs.Mesh.{Edge, edge, base}
 use Rattle.meaning.specs.Tables.{rowAt}
@@ -23,3 +26,9 @@ metTo l s i = joined (metAt l s) (upTo i)
 -- the number of the node that comes next, after a row with note c
 abbrev pub after : ℕ → Note → ℕ
 after n c = n + c .before + c .fm + c .fu + c .fv
+
+-- a note says which edges of its row a test picks
+pub record Says (f : Edge → Bool) (w : Tri) (c : Note) : Type 0 where
+  pub m-said : c .m ≡ bit (f (base w))
+  pub u-said : c .u ≡ bit (f (edge (w .p) (w .q)))
+  pub v-said : c .v ≡ bit (f (edge (w .r) (w .p)))

@@ -22,7 +22,8 @@ use Rattle.lists.specs.Search.{lowest, items, iter, iterFrom}
 use Rattle.lists.specs.SearchLaw.{lowest-below, lowest-nothing}
 use Rattle.lists.specs.ItemsLaw.{joined-append, items-snoc, items-none, iter-carries}
 use Rattle.lists.specs.ByNumberLaw.{items-in, items-of, items-around, lowest-no, lowest-cut, lowest-past, lowest-none-below}
-use Rattle.lists.specs.PartsLaw.{not-so, only-append, any-append, consIf-append, in-only, in-joined, where-nowhere}
+use Rattle.lists.specs.AnyLaw.{any-append}
+use Rattle.lists.specs.PartsLaw.{not-so, only-append, consIf-append, in-only, in-joined, where-nowhere}
 use Rattle.meaning.specs.declared.Tri.{Tri}
 use Rattle.meaning.specs.declared.Mids.{Mids}
 use Rattle.meaning.specs.Mesh.{Edge, edge, edges, base, sameEdge}

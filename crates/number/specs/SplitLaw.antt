@@ -6,26 +6,27 @@ use mathlib.Core.List.{List, [], _∷_, _++_, List·Memᴰ}
 use Prim.Native.Nat.{ℕ, _+_, _*_, _≤_, _<_}
 use native.Mathlib.Omega.{arith}
 use lib.ListN.{length, getD}
-use Rattle.lists.specs.ListsLaw.{All-at}
+use Rattle.lists.specs.ListsLaw.{clash, both-ways, All-at}
 use Rattle.lists.specs.Tally.{bit}
 use Rattle.lists.specs.Search.{items, iter}
 use Rattle.lists.specs.ByNumberLaw.{items-in}
+use Rattle.lists.specs.PartsLaw.{not-so}
 use Rattle.meaning.specs.declared.Tri.{Tri}
 use Rattle.meaning.specs.declared.Place.{Place}
 use Rattle.meaning.specs.Mesh.{Mesh, Edge, edge, edges, base, mesh}
 use Rattle.meaning.specs.Lawful.{Lawful, Named}
 use Rattle.meaning.specs.Split.{memEdge, closure, splitEdges, started, newest}
 use Rattle.meaning.specs.Tables.{rowAt}
-use Rattle.laws.specs.Closure.{closure-closed}
+use Rattle.laws.specs.Closure.{closure-closed, splitEdges-all, splitEdges-exactly, splitEdges-pull}
 use Rattle.notes.specs.declared.Note.{Note}
 use Rattle.notes.specs.Notes.{noteAt, midsAt}
-use Rattle.notes.specs.Met.{metTo}
+use Rattle.notes.specs.Met.{metTo, Says}
 use Rattle.close.specs.Drawn.{drawMarked}
 use Rattle.close.specs.DrawLaw.{close-kept}
-use Rattle.close.specs.EdgeLaw.{OnceAt, lawful-once, lawful-named}
+use Rattle.close.specs.EdgeLaw.{OnceAt, lawful-once, lawful-named, side-m, side-u, side-v, side-edge}
 use Rattle.close.specs.CloseLaw.{closed-note, closed-held}
 use Rattle.number.specs.Numbered.{Numbers, numbers, numberRow}
-use Rattle.number.specs.NumberLaw.{num, numsOf, scanOf, noteIn, Reached, reach-all, mids-num, scan-met, num-some}
+use Rattle.number.specs.NumberLaw.{numsOf, scanOf, noteIn, Reached, reach-all, mids-num, scan-met}
 
 -- the first t notes of s are 0
 module _ (ns : List Place) (l : List ℕ) (t : ℕ) (law : Lawful (mesh ns (items (rowAt l) 0 t))) (marks s : List ℕ) (long : t ≤ length s)
@@ -87,7 +88,43 @@ module _ (ns : List Place) (l : List ℕ) (t : ℕ) (law : Lawful (mesh ns (item
   pub met-say : metTo l (numbered .table) t ≡ split
   met-say = scan-met l t (length ns) one names member pull held (numbered .table) t (omega arith) notes-say ∙ split-is
 
-  -- an edge of a row that is to be split has a number above 0, and others have 0
-  pub split-some : (i : ℕ) (e : Edge) → i < t → List·Memᴰ e (edges (rowAt l i)) → member e ≡ true → num (length ns) split e ≡ 0 → ⊥
-  split-some i e h k m z =
-      num-some l t (length ns) one names member pull held i e h k m (let a = names i h .p-below in omega arith) (ap (λ es. num (length ns) es e) split-is ∙ z)
+  -- each note counts the edges first met below
+  pub before-say : (i : ℕ) → i < t → noteAt (numbered .table) i .before ≡ length (metTo l (numbered .table) i)
+  before-say i h =
+      ap (λ (c : Note). c .before) (notes-say i h)
+      ∙ ap length (sym (scan-met l t (length ns) one names member pull held (numbered .table) i (omega arith) (λ j k. notes-say j (omega arith))))
+
+  pub few-say : numbered .count ≤ 3 * t
+  few-say = reached .few
+
+  -- ---- the bits: which edges of a row are to be split
+
+  pub member-said : (i : ℕ) → i < t → Says member (rowAt l i) (noteAt (numbered .table) i)
+  member-said i h =
+      let e = notes-say i h in
+      record { m-said = ap (λ (c : Note). c .m) e; u-said = ap (λ (c : Note). c .u) e; v-said = ap (λ (c : Note). c .v) e }
+
+  -- an edge of a row is to be split exactly if it is among the split edges
+  among : (i : ℕ) (e : Edge) → i < t → List·Memᴰ e (edges (rowAt l i)) → member e ≡ memEdge e split
+  among i e h k =
+      both-ways (member e) (memEdge e split)
+      (λ m. splitEdges-all (mesh ns (items (rowAt l) 0 t)) start e (rowAt l i, items-in (rowAt l) t i h, k) m)
+      (λ m. splitEdges-exactly (mesh ns (items (rowAt l) 0 t)) start e .0 m .1)
+
+  pub split-said : (i : ℕ) → i < t → Says (λ e. memEdge e split) (rowAt l i) (noteAt (numbered .table) i)
+  split-said i h =
+      let d = member-said i h in
+      record {
+        m-said = d .m-said ∙ ap bit (among i (base (rowAt l i)) h (side-edge (rowAt l i) side-m));
+        u-said = d .u-said ∙ ap bit (among i (edge (rowAt l i .p) (rowAt l i .q)) h (side-edge (rowAt l i) side-u));
+        v-said = d .v-said ∙ ap bit (among i (edge (rowAt l i .r) (rowAt l i .p)) h (side-edge (rowAt l i) side-v));
+      }
+
+  pub split-pulled : (i : ℕ) → i < t → memEdge (base (rowAt l i)) split ≡ false →
+      (memEdge (edge (rowAt l i .p) (rowAt l i .q)) split ≡ false) × (memEdge (edge (rowAt l i .r) (rowAt l i .p)) split ≡ false)
+  split-pulled i h n = (off (edge (rowAt l i .p) (rowAt l i .q)) (side-edge (rowAt l i) side-u), off (edge (rowAt l i .r) (rowAt l i .p)) (side-edge (rowAt l i) side-v))
+    where
+      off : (e : Edge) → List·Memᴰ e (edges (rowAt l i)) → memEdge e split ≡ false
+      off e k =
+          not-so (memEdge e split)
+          (λ m. clash (sym (All-at (All-at (splitEdges-pull (mesh ns (items (rowAt l) 0 t)) start) (items-in (rowAt l) t i h)) k m) ∙ n))

@@ -15,7 +15,7 @@ use lib.Seq.{getD-set-same, getD-set-other}
 use Rattle.lists.specs.declared.Found.{Found}
 use Rattle.lists.specs.declared.Found.the-variants.{At, Nothing}
 use Rattle.lists.specs.Lists.{any, only, consIf, once, whereFirst, joined, upTo, cases}
-use Rattle.lists.specs.ListsLaw.{clash, and-both, and-left, and-right, any-at, any-row, both-ways, All-at, where-none}
+use Rattle.lists.specs.ListsLaw.{clash, and-both, and-left, and-right, any-at, any-row, both-ways}
 use Rattle.lists.specs.MembersLaw.{only-in, joined-in}
 use Rattle.lists.specs.Tally.{bit}
 use Rattle.lists.specs.Search.{lowest, items, iter, iterFrom}
@@ -558,14 +558,3 @@ module _ (l : List ℕ) (t n : ℕ) (only-one : OnceAt l t) (named : (i : ℕ) �
       ∙ ap (λ (r : List Edge). r ++ (Met.metAt l s i ++ [])) (scan-met s i (omega arith) (λ j k. f j (omega arith)))
       ∙ ap (λ (r : List Edge). once sameEdge (metTo i) ++ r) (append-nil (Met.metAt l s i) ∙ row-met s i (f i (omega arith)))
       ∙ sym (firsts-next i a) ∙ ap (λ (k : ℕ). once sameEdge (metTo k)) (sym e)
-
-  -- an edge of a row that is in the set has a number above 0
-  pub num-some : (i : ℕ) (e : Edge) → i < t → List·Memᴰ e (edges (rowAt l i)) → mem e ≡ true → 0 < n → num n scanned e ≡ 0 → ⊥
-  num-some i e h k m b z = go (whereFirst (sameEdge e) scanned) refl
-    where
-      here : any (sameEdge e) scanned ≡ true
-      here = any-once e (metTo t) ∙ any-at (sameEdge e) (sameEdge-refl e) (only-in mem (joined-in edges (items-in (rowAt l) t i h) k) m)
-
-      go : (w : Found) → whereFirst (sameEdge e) scanned ≡ w → ⊥
-      go (At j) q = let y : n + j ≡ 0 = sym (ap (λ (f : Found). orZero (plus n f)) q) ∙ z in omega arith
-      go Nothing q = let r = any-row (sameEdge e) scanned here in clash (sym (r .2) ∙ All-at (where-none (sameEdge e) scanned q) (r .1))

@@ -1,5 +1,5 @@
 -- The parts of the code, in the form of their needs. Assumes nothing.
-use mathlib.Core.Path.{_≡_, refl, sym, ap, _∙_}
+use mathlib.Core.Path.{_≡_, refl, sym, ap, _∙_, subst}
 use mathlib.Core.Bool.{Bool, true, false, _&&_}
 use mathlib.Core.List.{List, [], _∷_}
 use Prim.Native.Nat.{ℕ, zero, suc, _+_, _*_, _-_, _/_, _^_, _≤_, _<_}
@@ -10,7 +10,8 @@ use lib.ListN.{length, getD, set, drop, length-set}
 use Rattle.lists.specs.declared.Found.{Found}
 use Rattle.lists.specs.declared.Found.the-variants.{At, Nothing}
 use Rattle.lists.specs.Lists.{cases}
-use Rattle.lists.specs.Search.{lowest}
+use Rattle.lists.specs.Search.{lowest, iter}
+use Rattle.lists.specs.IterLaw.{iter-keeps}
 use Rattle.lists.specs.SearchLaw.{lowest-below}
 use Rattle.meaning.specs.declared.Tri.{Tri}
 use Rattle.meaning.specs.Tables.{rowAt}
@@ -157,3 +158,13 @@ pub row-noted : (l s s′ : List ℕ) (t i k p r : ℕ) (c : Note) → c ≡ not
     numbers s′ r ≡ numberRow l t i (numbers s k)
 unfolding numberRow
 row-noted l s s′ t i k p r c e f g h = rw (← e, ← f, g, h)
+
+-- ---- all rows: the index stays
+
+pub ready-numbered : (l s s′ : List ℕ) (nc t k : ℕ) → 3 * t ≤ length l → Ready s nc l t → numbers s′ k ≡ iter (numberRow l t) 0 t (numbers s 0) → Ready s′ nc l t
+unfolding numberRow
+ready-numbered l s s′ nc t k h r e =
+    let b : Ready (iter (numberRow l t) 0 t (numbers s 0) .table) nc l t =
+        iter-keeps (numberRow l t) (λ (st : Numbers). Ready (st .table) nc l t) t (numbers s 0)
+        (λ j st u p. ready-put (st .table) (set (st .table) j (packed (noteOf l t (st .table) j (st .count)))) l nc t j (packed (noteOf l t (st .table) j (st .count))) (omega arith) refl p) r in
+    subst (λ (st : Numbers). Ready (st .table) nc l t) (sym e) b

@@ -1,0 +1,227 @@
+-- The steps of refine, in the form of their needs. Assumes nothing.
+use mathlib.Core.Path.{_≡_, refl, sym, ap, _∙_, subst}
+use mathlib.Core.Bool.{Bool, true, false, not, _&&_, _||_}
+use mathlib.Core.List.{List, [], _∷_}
+use mathlib.Core.Option.{Option, none, some}
+use Prim.Native.Nat.{ℕ, zero, suc, _+_, _*_, _/_, _≤_, _<_}
+use native.Mathlib.Omega.{arith}
+use borrow.Author.Tests.{not-true, not-false, ltb-true, ltb-false, leb-true, leb-false, lt-leb, le-leb, le-ltb, lt-ltb, eqb-true}
+use lib.Dec.{eqb, ltb, leb}
+use lib.IntN.{ℤ, pos}
+use lib.ListN.{length, getD, take, replicate, length-append, length-map, getD-replicate, length-replicate}
+use lib.Seq.{ext-getD, getD-take}
+use Rattle.lists.specs.declared.Found.{Found}
+use Rattle.lists.specs.Lists.{all, any, cases, isFound}
+use Rattle.lists.specs.ListsLaw.{clash, or-no, and-left, and-right, All-at, All-getD}
+use Rattle.lists.specs.Search.{lowest, items, iter}
+use Rattle.lists.specs.SearchLaw.{lowest-any}
+use Rattle.lists.specs.IterLaw.{length-items, getD-items}
+use Rattle.lists.specs.ItemsLaw.{sumTo}
+use Rattle.lists.specs.AnyLaw.{any-cong, any-not}
+use Rattle.meaning.specs.declared.Place.{Place}
+use Rattle.meaning.specs.declared.Tri.{Tri}
+use Rattle.meaning.specs.declared.Fault.{Fault}
+use Rattle.meaning.specs.declared.Answer.{Answer}
+use Rattle.meaning.specs.Mesh.{Mesh, Edge, edge, at, mesh, origin}
+use Rattle.meaning.specs.Lawful.{Lawful, InRange, Named, faultOf, refusal}
+use Rattle.meaning.specs.Split.{bisected, splitEdges, splitAt, split, started, newest, refined, halves, memEdge, numberOf}
+use Rattle.meaning.specs.Tables.{Given, given, Outcome, outcome, answer, roomOf, meshOf, rowAt, placeAt, flatNodes, flatRows, filled, cleared}
+use Rattle.meaning.specs.Calls.{unless, orElse, marksFit, fits, refineNo, refines, says, sizesFit, untouched, done, leaves, left, refineOut}
+use Rattle.laws.specs.Lawful.{refusal-lawful}
+use Rattle.tables.specs.Sized.{Sized, Corners, indexAt}
+use Rattle.tables.specs.Ready.{Ready}
+use Rattle.lawful.specs.FaultLaw.{Judged}
+use Rattle.notes.specs.Notes.{noteAt, midsAt}
+use Rattle.notes.specs.NotesLaw.{mids-path}
+use Rattle.notes.specs.Met.{after, metTo, Says}
+use Rattle.nodes.specs.Nodes.{Standing, oddAt, placeRow}
+use Rattle.nodes.specs.OddLaw.{standing-at, odd-found}
+use Rattle.nodes.specs.PlacedLaw.{placed-mesh, rooms}
+use Rattle.close.specs.Drawn.{drawMarked}
+use Rattle.close.specs.EdgeLaw.{lawful-named}
+use Rattle.close.specs.DrawLaw.{ready-closed}
+use Rattle.number.specs.Numbered.{Numbers, numbers, numberRow}
+use Rattle.number.specs.NumberLaw.{numsOf}
+use Rattle.number.specs.NumberLaw as Numbering
+use Rattle.number.specs.SplitLaw.{numbered, member, member-said, split-said, split-pulled, mids-say, count-say, few-say, met-say, before-say, length-say}
+use Rattle.cut.specs.Cutting.{cutAt, addedAt, cutAll, splits}
+use Rattle.cut.specs.MeshLaw.{orZero, numbersOf, cut-mesh, count-rows, count-mesh}
+use Rattle.mesh.specs.declared.refining.Plan.{Plan}
+use Rattle.mesh.specs.Sizes.{fitting, fitting-is, Fit, fit}
+use Rattle.mesh.specs.Refine.{meshIn, splitIn, afterIn, markHigh, planOf, weighed, Weighty, Sound, lateNumber, refineNumber, Carry, Pair, tables, carried, Planned}
+
+-- ---- 2
+
+items-list : (l : List ℕ) → items (λ j. getD l j 0) 0 (length l) ≡ l
+items-list l =
+    ext-getD 0 (items (λ j. getD l j 0) 0 (length l)) l (length-items (λ j. getD l j 0) (length l))
+    (λ i h. getD-items (λ j. getD l j 0) (length l) i 0 (rw (length-items (λ j. getD l j 0) (length l)) at h))
+
+above : (b : ℕ) → ltb 1 b ≡ not (leb b 1)
+above b = go (leb b 1) refl
+  where
+    go : (x : Bool) → leb b 1 ≡ x → ltb 1 b ≡ not x
+    go true e = le-ltb 1 b (leb-true b 1 e)
+    go false e = lt-ltb 1 b (leb-false b 1 e)
+
+high-found : (marks : List ℕ) → isFound (lowest (markHigh marks) 0 (length marks)) ≡ not (all (λ b. leb b 1) marks)
+unfolding markHigh
+high-found marks =
+    lowest-any (λ b. ltb 1 b) (λ j. getD marks j 0) (markHigh marks) (length marks) (λ j h. refl)
+    ∙ ap (any (λ b. ltb 1 b)) (items-list marks) ∙ any-cong (λ b. ltb 1 b) (λ b. not (leb b 1)) above marks ∙ any-not (λ b. leb b 1) marks
+
+not-not : (b : Bool) → not (not b) ≡ b
+not-not true = refl
+not-not false = refl
+
+pub marks-are : (marks : List ℕ) (k : ℕ) (f : Found) (y : Bool) → f ≡ lowest (markHigh marks) 0 (length marks) → y ≡ isFound f →
+    eqb (length marks) k && not y ≡ marksFit k marks
+marks-are marks k f y e g = rw (g, e, high-found marks, not-not (all (λ b. leb b 1) marks))
+
+-- ---- 8 and 9, by the notes
+
+module _ (nodes : List ℤ) (l s : List ℕ) (n t k : ℕ) (f : Found) (y : Bool) (e : f ≡ lowest (oddAt nodes l s) 0 t) (g : y ≡ isFound f) where
+  pub weigh-odd : y ≡ true → planOf 8 n t ≡ weighed nodes l s n t k
+  unfolding weighed
+  weigh-odd h = rw (← e, ← g, h)
+
+  module _ (t1 : ℕ) (h : y ≡ false) (c : t1 ≡ t + sumTo (splits s) t) where
+    pub weigh-short : ltb (length nodes / 2) (n + k) || ltb (length l / 3) t1 ≡ true → planOf 9 n t ≡ weighed nodes l s n t k
+    unfolding weighed
+    weigh-short b = rw (← e, ← g, h, ← c, b)
+
+    pub weigh-done : ltb (length nodes / 2) (n + k) || ltb (length l / 3) t1 ≡ false → planOf 0 (n + k) t1 ≡ weighed nodes l s n t k
+    unfolding weighed
+    weigh-done b = rw (← e, ← g, h, ← c, b)
+
+-- ---- the notes of a lawful mesh, and what they give
+
+zero-same : (o : Option ℕ) → Numbering.orZero o ≡ orZero o
+zero-same none = refl
+zero-same (some k) = refl
+
+nums-same : (n : ℕ) (es : List Edge) (w : Tri) → numsOf n es w ≡ numbersOf n es w
+nums-same n es w =
+    mids-path _ _ _ _ _ _ (zero-same (numberOf n es (edge (w .q) (w .r)))) (zero-same (numberOf n es (edge (w .p) (w .q)))) (zero-same (numberOf n es (edge (w .r) (w .p))))
+
+short-fits : (a b c d : ℕ) → ltb c a || ltb d b ≡ not (leb a c && leb b d)
+short-fits a b c d = go (leb a c) refl (leb b d) refl
+  where
+    go : (x : Bool) → leb a c ≡ x → (y : Bool) → leb b d ≡ y → ltb c a || ltb d b ≡ not (x && y)
+    go true e true f = rw (le-ltb c a (leb-true a c e), le-ltb d b (leb-true b d f))
+    go true e false f = rw (le-ltb c a (leb-true a c e), lt-ltb d b (leb-false b d f))
+    go false e y f = rw (lt-ltb c a (leb-false a c e))
+
+module _ (nodes : List ℤ) (l s₀ marks : List ℕ) (n t : ℕ) (R : Sound nodes l s₀ marks n t) where
+  abbrev ns : List Place
+  ns = items (placeAt nodes) 0 n
+
+  abbrev m : Mesh
+  m = meshIn nodes l n t
+
+  law : Lawful m
+  law = refusal-lawful m (R .law)
+
+  count-nodes : length ns ≡ n
+  count-nodes = length-items (placeAt nodes) n
+
+  pub notes-fit : t ≤ length s₀
+  notes-fit = let a = R .sizes in let b = R .rows-fit in omega arith
+
+  small : 3 * t ≤ 16_777_216
+  small = let a = R .sizes in let b = R .rows-fit in omega arith
+
+  corners : (i : ℕ) → i < t → Corners n (rowAt l i)
+  corners i h =
+      let a : Named (length ns) (rowAt l i) = lawful-named ns l t law i h in
+      let b = count-nodes in
+      record { p-in = omega arith; q-in = omega arith; r-in = omega arith }
+
+  some-node : (i : ℕ) → i < t → 0 < n
+  some-node i h = let a = corners i h in omega arith
+
+  same : (k : ℕ) → k < n → at m k ≡ placeAt nodes k
+  same k h = getD-items (placeAt nodes) n k origin h
+
+  near : (k : ℕ) → k < n → InRange (placeAt nodes k)
+  near k h = subst InRange (same k h) (All-getD (law .range) k origin (rw count-nodes h))
+
+  pub all-standing : (i : ℕ) → i < t → Standing nodes (rowAt l i)
+  all-standing i h = standing-at nodes n (rowAt l i) (R .nodes-fit) near (corners i h)
+
+  -- s₁ after close, s₂ and k after number
+  module _ (s₁ s₂ : List ℕ) (k : ℕ) (e₁ : s₁ ≡ iter (drawMarked l t marks) 0 t s₀) (e₂ : numbers s₂ k ≡ iter (numberRow l t) 0 t (numbers s₁ 0)) where
+    abbrev st : Numbers
+    st = numbered ns l t law marks s₀ notes-fit (R .clear) small
+
+    all-is : numbers s₂ k ≡ st
+    all-is = e₂ ∙ ap (λ (s : List ℕ). iter (numberRow l t) 0 t (numbers s 0)) e₁
+
+    table-is : s₂ ≡ st .table
+    table-is = ap (λ (x : Numbers). x .table) all-is
+
+    abbrev es : List Edge
+    es = splitIn nodes l marks n t
+
+    new-count : k ≡ length es
+    new-count = ap (λ (x : Numbers). x .count) all-is ∙ count-say ns l t law marks s₀ notes-fit (R .clear) small
+
+    pub few-new : k ≤ 3 * t
+    few-new =
+        let a = few-say ns l t law marks s₀ notes-fit (R .clear) small in
+        let b : k ≡ st .count = ap (λ (x : Numbers). x .count) all-is in
+        omega arith
+
+    same-length : length s₂ ≡ length s₀
+    same-length = ap length table-is ∙ length-say ns l t law marks s₀ notes-fit (R .clear) small
+
+    mids-are : (i : ℕ) → i < t → midsAt n l s₂ i ≡ numbersOf n es (rowAt l i)
+    mids-are i h =
+        let a = mids-say ns l t law marks s₀ notes-fit (R .clear) small i h in
+        let b : midsAt n l (st .table) i ≡ numsOf n es (rowAt l i) = subst (λ (c : ℕ). midsAt c l (st .table) i ≡ numsOf c es (rowAt l i)) count-nodes a in
+        ap (λ (s : List ℕ). midsAt n l s i) table-is ∙ b ∙ nums-same n es (rowAt l i)
+
+    said : (i : ℕ) → i < t → Says (member ns l t law marks s₀ notes-fit (R .clear) small) (rowAt l i) (noteAt s₂ i)
+    said i h =
+        subst (λ (s : List ℕ). Says (member ns l t law marks s₀ notes-fit (R .clear) small) (rowAt l i) (noteAt s i)) (sym table-is)
+        (member-said ns l t law marks s₀ notes-fit (R .clear) small i h)
+
+    said-split : (i : ℕ) → i < t → Says (λ e. memEdge e es) (rowAt l i) (noteAt s₂ i)
+    said-split i h =
+        subst (λ (s : List ℕ). Says (λ e. memEdge e es) (rowAt l i) (noteAt s i)) (sym table-is)
+        (split-said ns l t law marks s₀ notes-fit (R .clear) small i h)
+
+    counted : (i : ℕ) → i < t → noteAt s₂ i .before ≡ length (metTo l s₂ i)
+    counted i h =
+        subst (λ (s : List ℕ). noteAt s i .before ≡ length (metTo l s i)) (sym table-is) (before-say ns l t law marks s₀ notes-fit (R .clear) small i h)
+
+    all-met : metTo l s₂ t ≡ es
+    all-met = ap (λ (s : List ℕ). metTo l s t) table-is ∙ met-say ns l t law marks s₀ notes-fit (R .clear) small
+
+    -- 8
+    odd-is : isFound (lowest (oddAt nodes l s₂) 0 t) ≡ not (all (halves m) es)
+    unfolding splitEdges
+    odd-is = odd-found nodes n m same (member ns l t law marks s₀ notes-fit (R .clear) small) l s₂ t corners said
+
+    -- the counts after
+    after-nodes : length (afterIn nodes l marks n t .nodes) ≡ n + k
+    unfolding refined split splitAt
+    after-nodes = length-append ns _ ∙ rw (length-map, count-nodes, ← new-count)
+
+    after-rows : length (afterIn nodes l marks n t .tris) ≡ t + sumTo (splits s₂) t
+    unfolding refined split
+    after-rows = sym (count-mesh m es n l s₂ t count-nodes refl some-node mids-are said-split (split-pulled ns l t law marks s₀ notes-fit (R .clear) small))
+
+    -- 9
+    short-is : ltb (length nodes / 2) (n + k) || ltb (length l / 3) (t + sumTo (splits s₂) t) ≡
+        not (fits (record { nodes = length nodes / 2; rows = length l / 3 }) (afterIn nodes l marks n t))
+    short-is = short-fits (n + k) (t + sumTo (splits s₂) t) (length nodes / 2) (length l / 3) ∙ rw (after-nodes, after-rows)
+
+    chain : (a b : Bool) (x y : ℕ) → cases (not a) (planOf 8 n t) (cases (not b) (planOf 9 n t) (planOf 0 x y)) .number ≡ unless a 8 (unless b 9 0)
+    chain true true x y = refl
+    chain true false x y = refl
+    chain false b x y = refl
+
+    pub late-number : (r : Plan) → r ≡ weighed nodes l s₂ n t k → r .number ≡ lateNumber nodes l marks n t
+    unfolding weighed lateNumber
+    late-number r e = ap (λ (p : Plan). p .number) e ∙ rw (odd-is, short-is) (chain (all (halves m) es) (fits (record { nodes = length nodes / 2; rows = length l / 3 }) (afterIn nodes l marks n t)) (n + k) (t + sumTo (splits s₂) t))

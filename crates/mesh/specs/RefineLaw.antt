@@ -225,3 +225,138 @@ module _ (nodes : List ℤ) (l s₀ marks : List ℕ) (n t : ℕ) (R : Sound nod
     pub late-number : (r : Plan) → r ≡ weighed nodes l s₂ n t k → r .number ≡ lateNumber nodes l marks n t
     unfolding weighed lateNumber
     late-number r e = ap (λ (p : Plan). p .number) e ∙ rw (odd-is, short-is) (chain (all (halves m) es) (fits (record { nodes = length nodes / 2; rows = length l / 3 }) (afterIn nodes l marks n t)) (n + k) (t + sumTo (splits s₂) t))
+
+    -- with room for all, the plan can be carried out
+    room-nodes : fits (record { nodes = length nodes / 2; rows = length l / 3 }) (afterIn nodes l marks n t) ≡ true → n + k ≤ length nodes / 2
+    room-nodes e =
+        let a = leb (length (afterIn nodes l marks n t .nodes)) (length nodes / 2) in
+        let b = leb (length (afterIn nodes l marks n t .tris)) (length l / 3) in
+        let h : length (afterIn nodes l marks n t .nodes) ≤ length nodes / 2 = leb-true (length (afterIn nodes l marks n t .nodes)) (length nodes / 2) (and-left a b e) in
+        rw after-nodes at h
+
+    room-rows : fits (record { nodes = length nodes / 2; rows = length l / 3 }) (afterIn nodes l marks n t) ≡ true → t + sumTo (splits s₂) t ≤ length l / 3
+    room-rows e =
+        let a = leb (length (afterIn nodes l marks n t .nodes)) (length nodes / 2) in
+        let b = leb (length (afterIn nodes l marks n t .tris)) (length l / 3) in
+        let h : length (afterIn nodes l marks n t .tris) ≤ length l / 3 = leb-true (length (afterIn nodes l marks n t .tris)) (length l / 3) (and-right a b e) in
+        rw after-rows at h
+
+    room-plan : Ready s₂ (length nodes / 2) l t → fits (record { nodes = length nodes / 2; rows = length l / 3 }) (afterIn nodes l marks n t) ≡ true →
+        Planned nodes l s₂ marks n t (n + k) (t + sumTo (splits s₂) t)
+    unfolding refined split
+    room-plan ready e =
+        let fn = room-nodes e in
+        let fr = room-rows e in
+        let nc = new-count in
+        let z = R .sizes in
+        let nf = R .nodes-fit in
+        let rf = R .rows-fit in
+        let sl = same-length in
+        let tf = notes-fit in
+        let room : 2 * (n + length es) ≤ length nodes = omega arith in
+        record {
+          carry = record {
+            few-nodes = omega arith;
+            rows-fit = R .rows-fit;
+            notes-fit = omega arith;
+            standing = all-standing;
+            room = rooms nodes n m same l s₂ t corners counted (rw all-met room);
+            ready = ready;
+            count = count-rows m es n l s₂ t count-nodes refl some-node mids-are said-split (split-pulled ns l t law marks s₀ notes-fit (R .clear) small);
+            rows-room = omega arith;
+            nodes-room = omega arith;
+          };
+          nodes-are = subst (λ (x : ℕ). items (placeAt (iter (placeRow n l s₂) 0 t nodes)) 0 (n + x) ≡ splitAt bisected m es .nodes) (sym nc)
+              (placed-mesh nodes n m es bisected l s₂ t refl corners counted all-met room);
+          rows-are = cut-mesh m es n l s₂ t count-nodes refl some-node mids-are;
+          nodes-count = sym after-nodes;
+          rows-count = sym after-rows;
+        }
+
+    pub late-plan : (r : Plan) → Ready s₂ (length nodes / 2) l t → r ≡ weighed nodes l s₂ n t k → r .number ≡ 0 → Planned nodes l s₂ marks n t (r .n) (r .t)
+    unfolding weighed
+    late-plan r ready e z =
+        go (all (halves m) es) (fits (record { nodes = length nodes / 2; rows = length l / 3 }) (afterIn nodes l marks n t)) refl
+        (e ∙ rw (odd-is, short-is))
+      where
+        go : (a b : Bool) → fits (record { nodes = length nodes / 2; rows = length l / 3 }) (afterIn nodes l marks n t) ≡ b →
+            r ≡ cases (not a) (planOf 8 n t) (cases (not b) (planOf 9 n t) (planOf 0 (n + k) (t + sumTo (splits s₂) t))) → Planned nodes l s₂ marks n t (r .n) (r .t)
+        go true true q f = subst (λ (p : Plan). Planned nodes l s₂ marks n t (p .n) (p .t)) (sym f) (room-plan ready q)
+        go true false q f = let y : r .number ≡ 9 = ap (λ (p : Plan). p .number) f in absurd (omega arith)
+        go false b q f = let y : r .number ≡ 8 = ap (λ (p : Plan). p .number) f in absurd (omega arith)
+
+    pub weighty : Weighty nodes l s₂ n t k
+    weighty =
+        let a = R .sizes in
+        let b = R .rows-fit in
+        let c = R .nodes-fit in
+        let d = same-length in
+        let e = notes-fit in
+        let f = few-new in
+        record { rows-fit = R .rows-fit; notes-fit = omega arith; few-rows = omega arith; few-nodes = omega arith; standing = all-standing }
+
+  pub marks-long : t ≤ length marks
+  marks-long = let a = R .marks-fit in omega arith
+
+-- ---- 1 to 9
+
+module _ (nodes : List ℤ) (l s : List ℕ) (n0 n t : ℕ) (marks : List ℕ) (b : Bool) (e : b ≡ fitting (length nodes) (length l) (length s) n0 n t) where
+  fits-are : sizesFit (given nodes l s n t) n0 ≡ b
+  fits-are = sym (e ∙ fitting-is nodes l s n0 n t)
+
+  pub judge-one : not b ≡ true → 1 ≡ refineNumber (given nodes l s n t) n0 marks
+  unfolding refineNumber
+  judge-one h = rw (fits-are, not-true b h)
+
+  module _ (h : not b ≡ false) where
+    all-fit : Fit (length nodes) (length l) (length s) n0 n t
+    all-fit = fit (length nodes) (length l) (length s) n0 n t (sym e ∙ not-false b h)
+
+    pub judge-sizes : Sized (length nodes / 2) (length l) (length s)
+    judge-sizes = all-fit .sizes
+
+    pub judge-nodes : 2 * n ≤ length nodes
+    judge-nodes = all-fit .nodes
+
+    pub judge-rows : 3 * t ≤ length l
+    judge-rows = all-fit .rows
+
+    module _ (y : Bool) (g : y ≡ marksFit t marks) where
+      judge-on : refineNumber (given nodes l s n t) n0 marks ≡ unless y 2 (orElse (refusal (meshIn nodes l n t)) (lateNumber nodes l marks n t))
+      unfolding refineNumber refineNo meshOf lateNumber
+      judge-on = rw (fits-are, not-false b h, length-items (rowAt l) t, ← g)
+
+      pub judge-two : not y ≡ true → 2 ≡ refineNumber (given nodes l s n t) n0 marks
+      judge-two q = sym (judge-on ∙ rw (not-true y q))
+
+      module _ (q : not y ≡ false) (f : Fault) (k : f ≡ faultOf (meshOf (given nodes l s n t))) where
+        fault-is : refusal (meshIn nodes l n t) ≡ f .number
+        unfolding refusal meshOf
+        fault-is = rw k
+
+        judge-late : refineNumber (given nodes l s n t) n0 marks ≡ orElse (f .number) (lateNumber nodes l marks n t)
+        judge-late = judge-on ∙ rw (not-false y q, fault-is)
+
+        pub judge-fault : (f .number ≡ 0 → ⊥) → f .number ≡ refineNumber (given nodes l s n t) n0 marks
+        judge-fault o = sym (judge-late ∙ first-of (f .number) o)
+          where
+            first-of : (j : ℕ) → (j ≡ 0 → ⊥) → orElse j (lateNumber nodes l marks n t) ≡ j
+            first-of zero o = absurd (o refl)
+            first-of (suc j) o = refl
+
+        pub judge-rest : (r : ℕ) → f .number ≡ 0 → r ≡ lateNumber nodes l marks n t → r ≡ refineNumber (given nodes l s n t) n0 marks
+        judge-rest r z d = sym (judge-late ∙ rw z (sym d))
+
+        pub judge-sound : (s′ : List ℕ) → length s′ ≡ length s → Judged f s′ (length nodes / 2) l t → f .number ≡ 0 → Sound nodes l s′ marks n t
+        judge-sound s′ len j z = record {
+          sizes = rw len judge-sizes;
+          nodes-fit = judge-nodes;
+          rows-fit = judge-rows;
+          marks-fit = eqb-true (length marks) t (and-left (eqb (length marks) t) (all (λ c. leb c 1) marks) (sym g ∙ not-false y q));
+          law = fault-is ∙ z;
+          clear = λ x u.
+              let b : x < indexAt (length nodes / 2) (length l) = (let r = judge-rows in omega arith) in
+              sym (getD-take (indexAt (length nodes / 2) (length l)) s′ x 0 b) ∙ ap (λ (v : List ℕ). getD v x 0) (j .notes)
+              ∙ getD-replicate (indexAt (length nodes / 2) (length l)) x 0 0 b;
+          ready = j .ready z;
+        }

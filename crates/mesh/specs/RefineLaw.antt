@@ -26,7 +26,7 @@ use Rattle.meaning.specs.Mesh.{Mesh, Edge, edge, at, mesh, origin}
 use Rattle.meaning.specs.Lawful.{Lawful, InRange, Named, faultOf, refusal}
 use Rattle.meaning.specs.Split.{bisected, splitEdges, splitAt, split, started, newest, refined, halves, memEdge, numberOf}
 use Rattle.meaning.specs.Tables.{Given, given, Outcome, outcome, answer, roomOf, meshOf, rowAt, placeAt, flatNodes, flatRows, filled, cleared}
-use Rattle.meaning.specs.Calls.{unless, orElse, marksFit, fits, refineNo, refines, says, sizesFit, untouched, done, leaves, left, refineOut}
+use Rattle.meaning.specs.Calls.{Reply, unless, orElse, marksFit, fits, refineNo, refines, says, sizesFit, untouched, done, leaves, left, refineOut}
 use Rattle.laws.specs.Lawful.{refusal-lawful}
 use Rattle.tables.specs.Sized.{Sized, Corners, indexAt}
 use Rattle.tables.specs.Ready.{Ready}
@@ -360,3 +360,84 @@ module _ (nodes : List ℤ) (l s : List ℕ) (n0 n t : ℕ) (marks : List ℕ) (
               ∙ getD-replicate (indexAt (length nodes / 2) (length l)) x 0 0 b;
           ready = j .ready z;
         }
+
+-- ---- the work: a, b after placing and cutting; c, d after the rest is cleared
+
+pub carry-done : (nodes a c : List ℤ) (l b d s : List ℕ) (n t n1 t1 : ℕ) → a ≡ iter (placeRow n l s) 0 t nodes → length a ≡ length nodes →
+    items (rowAt b) 0 t1 ≡ cutAll (items (cutAt n l s) 0 t) → length b ≡ length l → c ≡ filled (pos 0) (length a) (flatNodes (items (placeAt a) 0 n1)) →
+    d ≡ filled 0 (length b) (flatRows (items (rowAt b) 0 t1)) → tables c d ≡ carried nodes l s n t n1
+unfolding carried
+carry-done nodes a c l b d s n t n1 t1 p la q lb fc fd = rw (fc, fd, q, la, lb, p)
+
+-- ---- what the call leaves
+
+module _ (g : Given) (n0 : ℕ) (marks : List ℕ) where
+  pub out-refused : (j : ℕ) → refineNumber g n0 marks ≡ suc j → refineOut newest g n0 marks ≡ untouched g (suc j)
+  unfolding refineNumber refineOut refines
+  out-refused j e = go (sizesFit g n0) e
+    where
+      go : (b : Bool) → cases b (refineNo newest (roomOf g) (meshOf g) marks) 1 ≡ suc j →
+          cases b (left g (says (refineNo newest (roomOf g) (meshOf g) marks) (meshOf g) (refined newest (meshOf g) marks) 0)) (untouched g 1) ≡ untouched g (suc j)
+      go true e = rw e
+      go false e = rw e
+
+  pub out-done : refineNumber g n0 marks ≡ 0 → refineOut newest g n0 marks ≡ done g (refined newest (meshOf g) marks) 0
+  unfolding refineNumber refineOut refines
+  out-done e = go (sizesFit g n0) e
+    where
+      go : (b : Bool) → cases b (refineNo newest (roomOf g) (meshOf g) marks) 1 ≡ 0 →
+          cases b (left g (says (refineNo newest (roomOf g) (meshOf g) marks) (meshOf g) (refined newest (meshOf g) marks) 0)) (untouched g 1) ≡ done g (refined newest (meshOf g) marks) 0
+      go true e = rw e
+      go false e = absurd (omega arith)
+
+module _ (nodes : List ℤ) (l s marks : List ℕ) (n0 n t : ℕ) (p : Plan) (z : s ≡ replicate (length s) 0) (e : p .number ≡ refineNumber (given nodes l s n t) n0 marks) where
+  pub work-refused : (p .number ≡ 0 → ⊥) → outcome (answer (p .number) n t 0) nodes l s ≡ refineOut newest (given nodes l s n t) n0 marks
+  work-refused o = go (p .number) refl
+    where
+      go : (k : ℕ) → p .number ≡ k → outcome (answer (p .number) n t 0) nodes l s ≡ refineOut newest (given nodes l s n t) n0 marks
+      go zero q = absurd (o q)
+      go (suc j) q = rw (out-refused (given nodes l s n t) n0 marks j (sym e ∙ q), q) (ap (λ (x : List ℕ). outcome (answer (suc j) n t 0) nodes l x) z)
+
+  pub work-done : (a : List ℤ) (b s′ : List ℕ) → p .number ≡ 0 → (p .number ≡ 0 → Planned nodes l s′ marks n t (p .n) (p .t)) → tables a b ≡ carried nodes l s′ n t (p .n) →
+      outcome (answer 0 (p .n) (p .t) 0) a b s ≡ refineOut newest (given nodes l s n t) n0 marks
+  unfolding carried meshOf
+  work-done a b s′ q f g =
+      let d = f q in
+      let x : a ≡ filled (pos 0) (length nodes) (flatNodes (afterIn nodes l marks n t .nodes)) =
+          ap (λ (y : Pair). y .nodes) g ∙ ap (λ v. filled (pos 0) (length nodes) (flatNodes v)) (d .nodes-are) in
+      let w : b ≡ filled 0 (length l) (flatRows (afterIn nodes l marks n t .tris)) =
+          ap (λ (y : Pair). y .rows) g ∙ ap (λ v. filled 0 (length l) (flatRows v)) (d .rows-are) in
+      all-same (p .n) (p .t) _ _ a _ b _ s _ (d .nodes-count) (d .rows-count) x w z ∙ sym (out-done (given nodes l s n t) n0 marks (sym e ∙ q))
+    where
+      all-same : (n1 t1 n2 t2 : ℕ) (a a′ : List ℤ) (b b′ s s′ : List ℕ) → n1 ≡ n2 → t1 ≡ t2 → a ≡ a′ → b ≡ b′ → s ≡ s′ →
+          outcome (answer 0 n1 t1 0) a b s ≡ outcome (answer 0 n2 t2 0) a′ b′ s′
+      all-same n1 t1 n2 t2 a a′ b b′ s s′ e f g h k = rw (e, f, g, h, k)
+
+-- only the length of scratch matters
+module _ (nodes : List ℤ) (l s s′ marks : List ℕ) (n0 n t : ℕ) (e : length s′ ≡ length s) where
+  leaves-same : (k : ℕ) (a : Mesh) (j : ℕ) → leaves (given nodes l s′ n t) k a j ≡ leaves (given nodes l s n t) k a j
+  leaves-same zero a j = rw e
+  leaves-same (suc k) a j = rw e
+
+  reply : Reply
+  reply = refines newest (roomOf (given nodes l s n t)) (meshIn nodes l n t) marks
+
+  fit-same : sizesFit (given nodes l s′ n t) n0 ≡ sizesFit (given nodes l s n t) n0
+  fit-same = sym (fitting-is nodes l s′ n0 n t) ∙ ap (λ (k : ℕ). fitting (length nodes) (length l) k n0 n t) e ∙ fitting-is nodes l s n0 n t
+
+  out-same : refineOut newest (given nodes l s′ n t) n0 marks ≡ refineOut newest (given nodes l s n t) n0 marks
+  unfolding refineOut meshOf reply
+  out-same = rw fit-same (go (sizesFit (given nodes l s n t) n0))
+    where
+      go : (b : Bool) → cases b (left (given nodes l s′ n t) reply) (untouched (given nodes l s′ n t) 1) ≡
+          cases b (left (given nodes l s n t) reply) (untouched (given nodes l s n t) 1)
+      go true = leaves-same (reply .number) (reply .after) (reply .passes)
+      go false = rw e
+
+pub refined-call : (nodes a : List ℤ) (l b s s₁ s₂ s₃ marks : List ℕ) (n0 n t : ℕ) (r : Answer) → s₁ ≡ replicate (length s) 0 →
+    outcome r a b s₁ ≡ refineOut newest (given nodes l s₁ n t) n0 marks → length s₂ ≡ length s₁ → s₃ ≡ replicate (length s₂) 0 →
+    outcome r a b s₃ ≡ refineOut newest (given nodes l s n t) n0 marks
+refined-call nodes a l b s s₁ s₂ s₃ marks n0 n t r p q c d =
+    let e : length s₁ ≡ length s = ap length p ∙ length-replicate (length s) 0 in
+    let f : s₃ ≡ s₁ = d ∙ ap (λ (k : ℕ). replicate k 0) (c ∙ e) ∙ sym p in
+    ap (λ (x : List ℕ). outcome r a b x) f ∙ q ∙ out-same nodes l s s₁ marks n0 n t e

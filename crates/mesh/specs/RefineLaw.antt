@@ -39,8 +39,9 @@ use Rattle.nodes.specs.OddLaw.{standing-at, odd-found}
 use Rattle.nodes.specs.PlacedLaw.{placed-mesh, rooms}
 use Rattle.close.specs.Drawn.{drawMarked}
 use Rattle.close.specs.EdgeLaw.{lawful-named}
-use Rattle.close.specs.DrawLaw.{ready-closed}
+use Rattle.close.specs.DrawLaw.{close-kept, ready-closed}
 use Rattle.number.specs.Numbered.{Numbers, numbers, numberRow}
+use Rattle.number.specs.NumberStep.{ready-numbered}
 use Rattle.number.specs.NumberLaw.{numsOf}
 use Rattle.number.specs.NumberLaw as Numbering
 use Rattle.number.specs.SplitLaw.{numbered, member, member-said, split-said, split-pulled, mids-say, count-say, few-say, met-say, before-say, length-say}
@@ -273,15 +274,18 @@ module _ (nodes : List ℤ) (l s₀ marks : List ℕ) (n t : ℕ) (R : Sound nod
           rows-count = sym after-rows;
         }
 
-    pub late-plan : (r : Plan) → Ready s₂ (length nodes / 2) l t → r ≡ weighed nodes l s₂ n t k → r .number ≡ 0 → Planned nodes l s₂ marks n t (r .n) (r .t)
+    ready-after : Ready s₂ (length nodes / 2) l t
+    ready-after = ready-numbered l s₁ s₂ (length nodes / 2) t k (R .rows-fit) (ready-closed l s₀ s₁ (length nodes / 2) t (R .rows-fit) (R .ready) marks e₁) e₂
+
+    pub late-plan : (r : Plan) → r ≡ weighed nodes l s₂ n t k → r .number ≡ 0 → Planned nodes l s₂ marks n t (r .n) (r .t)
     unfolding weighed
-    late-plan r ready e z =
+    late-plan r e z =
         go (all (halves m) es) (fits (record { nodes = length nodes / 2; rows = length l / 3 }) (afterIn nodes l marks n t)) refl
         (e ∙ rw (odd-is, short-is))
       where
         go : (a b : Bool) → fits (record { nodes = length nodes / 2; rows = length l / 3 }) (afterIn nodes l marks n t) ≡ b →
             r ≡ cases (not a) (planOf 8 n t) (cases (not b) (planOf 9 n t) (planOf 0 (n + k) (t + sumTo (splits s₂) t))) → Planned nodes l s₂ marks n t (r .n) (r .t)
-        go true true q f = subst (λ (p : Plan). Planned nodes l s₂ marks n t (p .n) (p .t)) (sym f) (room-plan ready q)
+        go true true q f = subst (λ (p : Plan). Planned nodes l s₂ marks n t (p .n) (p .t)) (sym f) (room-plan ready-after q)
         go true false q f = let y : r .number ≡ 9 = ap (λ (p : Plan). p .number) f in absurd (omega arith)
         go false b q f = let y : r .number ≡ 8 = ap (λ (p : Plan). p .number) f in absurd (omega arith)
 
@@ -294,6 +298,12 @@ module _ (nodes : List ℤ) (l s₀ marks : List ℕ) (n t : ℕ) (R : Sound nod
         let e = notes-fit in
         let f = few-new in
         record { rows-fit = R .rows-fit; notes-fit = omega arith; few-rows = omega arith; few-nodes = omega arith; standing = all-standing }
+
+  pub closed-ready : (s₁ : List ℕ) → s₁ ≡ iter (drawMarked l t marks) 0 t s₀ → Ready s₁ (length nodes / 2) l t
+  closed-ready s₁ e = ready-closed l s₀ s₁ (length nodes / 2) t (R .rows-fit) (R .ready) marks e
+
+  pub closed-fit : (s₁ : List ℕ) → s₁ ≡ iter (drawMarked l t marks) 0 t s₀ → t ≤ length s₁
+  closed-fit s₁ e = let a = notes-fit in let b = ap length e ∙ close-kept l t t (omega arith) marks s₀ .0 in omega arith
 
   pub marks-long : t ≤ length marks
   marks-long = let a = R .marks-fit in omega arith
@@ -362,6 +372,16 @@ module _ (nodes : List ℤ) (l s : List ℕ) (n0 n t : ℕ) (marks : List ℕ) (
         }
 
 -- ---- the work: a, b after placing and cutting; c, d after the rest is cleared
+
+module _ (nodes a : List ℤ) (l s : List ℕ) (n t n1 t1 : ℕ) (C : Carry nodes l s n t n1 t1) where
+  pub carry-standing : (i : ℕ) → i < t → Standing nodes (rowAt l i)
+  carry-standing = C .standing
+
+  pub carry-room : (i : ℕ) → i < t → 2 * after n (noteAt s i) ≤ length nodes
+  carry-room = C .room
+
+  pub carry-ready : length a ≡ length nodes → Ready s (length a / 2) l t
+  carry-ready e = rw e (C .ready)
 
 pub carry-done : (nodes a c : List ℤ) (l b d s : List ℕ) (n t n1 t1 : ℕ) → a ≡ iter (placeRow n l s) 0 t nodes → length a ≡ length nodes →
     items (rowAt b) 0 t1 ≡ cutAll (items (cutAt n l s) 0 t) → length b ≡ length l → c ≡ filled (pos 0) (length a) (flatNodes (items (placeAt a) 0 n1)) →

@@ -138,8 +138,8 @@ module _ (l : List ℕ) (t : ℕ) (once : OnceAt l t) (marks s : List ℕ) (long
   start-row e m =
       memEdge-at e
       (starts-all {S = λ d. (j : ℕ) × (j < t) × Up F j × (base (rowAt l j) ≡ d)} marks (items (rowAt l) 0 t) (tri 0 0 0) (λ x h q.
-        let k : x < t = rw (length-items (rowAt l) t) at h in
-        (x, k, raised .begun x k q, ap base (sym (row-is x k))))) m
+      let k : x < t = rw (length-items (rowAt l) t) at h in
+      (x, k, raised .begun x k q, ap base (sym (row-is x k))))) m
 
   pub marked-touched : (i : ℕ) (e : Edge) → i < t → List·Memᴰ e (edges (rowAt l i)) → memEdge e start ≡ true → Up F i
   marked-touched i e h m q =

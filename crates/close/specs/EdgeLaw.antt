@@ -134,13 +134,13 @@ once-at l t few i j x y h k p q = go (decLt i j) (decLt j i)
         let e : Arrow = arrow x y in
         let r = any-row (sameArrow e) (arrows (rowAt l a)) u in
         let s : any (sameArrow e) (joined arrows (items (rowAt l) 0 b)) ≡ true =
-            any-at (sameArrow e) (r .2) (joined-in arrows (items-in (rowAt l) b a c) (r .1)) in
+        any-at (sameArrow e) (r .2) (joined-in arrows (items-in (rowAt l) b a c) (r .1)) in
         let m : count (sameArrow e) (joined arrows (items (rowAt l) 0 t)) ≡
-            count (sameArrow e) (joined arrows (items (rowAt l) 0 b)) + (count (sameArrow e) (arrows (rowAt l b)) + count (sameArrow e) (joined arrows (items (rowAt l) (b + 1) t))) =
-            ap (λ (ts : List Tri). count (sameArrow e) (joined arrows ts)) (items-around (rowAt l) t b d)
-            ∙ ap (count (sameArrow e)) (joined-append arrows (items (rowAt l) 0 b) (rowAt l b ∷ items (rowAt l) (b + 1) t))
-            ∙ count-append (sameArrow e) (joined arrows (items (rowAt l) 0 b)) (arrows (rowAt l b) ++ joined arrows (items (rowAt l) (b + 1) t))
-            ∙ ap (λ (n : ℕ). count (sameArrow e) (joined arrows (items (rowAt l) 0 b)) + n) (count-append (sameArrow e) (arrows (rowAt l b)) (joined arrows (items (rowAt l) (b + 1) t))) in
+        count (sameArrow e) (joined arrows (items (rowAt l) 0 b)) + (count (sameArrow e) (arrows (rowAt l b)) + count (sameArrow e) (joined arrows (items (rowAt l) (b + 1) t))) =
+        ap (λ (ts : List Tri). count (sameArrow e) (joined arrows ts)) (items-around (rowAt l) t b d)
+        ∙ ap (count (sameArrow e)) (joined-append arrows (items (rowAt l) 0 b) (rowAt l b ∷ items (rowAt l) (b + 1) t))
+        ∙ count-append (sameArrow e) (joined arrows (items (rowAt l) 0 b)) (arrows (rowAt l b) ++ joined arrows (items (rowAt l) (b + 1) t))
+        ∙ ap (λ (n : ℕ). count (sameArrow e) (joined arrows (items (rowAt l) 0 b)) + n) (count-append (sameArrow e) (arrows (rowAt l b)) (joined arrows (items (rowAt l) (b + 1) t))) in
         let f = any-count (sameArrow e) (joined arrows (items (rowAt l) 0 b)) s in
         let g = any-count (sameArrow e) (arrows (rowAt l b)) v in
         let o = few e in

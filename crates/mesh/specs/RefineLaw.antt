@@ -411,23 +411,23 @@ module _ (g : Given) (n0 : ℕ) (marks : List ℕ) where
       go false e = absurd (omega arith)
 
 module _ (nodes : List ℤ) (l s marks : List ℕ) (n0 n t : ℕ) (p : Plan) (z : s ≡ replicate (length s) 0) (e : p .number ≡ refineNumber (given nodes l s n t) n0 marks) where
-  pub work-refused : (p .number ≡ 0 → ⊥) → outcome (answer (p .number) n t 0) nodes l s ≡ refineOut newest (given nodes l s n t) n0 marks
-  work-refused o = go (p .number) refl
+  pub work-refused : (r : Answer) → (p .number ≡ 0 → ⊥) → r ≡ answer (p .number) n t 0 → outcome r nodes l s ≡ refineOut newest (given nodes l s n t) n0 marks
+  work-refused r o f = ap (λ (x : Answer). outcome x nodes l s) f ∙ go (p .number) refl
     where
       go : (k : ℕ) → p .number ≡ k → outcome (answer (p .number) n t 0) nodes l s ≡ refineOut newest (given nodes l s n t) n0 marks
       go zero q = absurd (o q)
       go (suc j) q = rw (out-refused (given nodes l s n t) n0 marks j (sym e ∙ q), q) (ap (λ (x : List ℕ). outcome (answer (suc j) n t 0) nodes l x) z)
 
-  pub work-done : (a : List ℤ) (b s′ : List ℕ) → p .number ≡ 0 → (p .number ≡ 0 → Planned nodes l s′ marks n t (p .n) (p .t)) → tables a b ≡ carried nodes l s′ n t (p .n) →
-      outcome (answer 0 (p .n) (p .t) 0) a b s ≡ refineOut newest (given nodes l s n t) n0 marks
+  pub work-done : (r : Answer) (a : List ℤ) (b s′ : List ℕ) → p .number ≡ 0 → (p .number ≡ 0 → Planned nodes l s′ marks n t (p .n) (p .t)) →
+      tables a b ≡ carried nodes l s′ n t (p .n) → r ≡ answer 0 (p .n) (p .t) 0 → outcome r a b s ≡ refineOut newest (given nodes l s n t) n0 marks
   unfolding carried meshOf
-  work-done a b s′ q f g =
+  work-done r a b s′ q f g k =
       let d = f q in
       let x : a ≡ filled (pos 0) (length nodes) (flatNodes (afterIn nodes l marks n t .nodes)) =
-          ap (λ (y : Pair). y .nodes) g ∙ ap (λ v. filled (pos 0) (length nodes) (flatNodes v)) (d .nodes-are) in
+      ap (λ (y : Pair). y .nodes) g ∙ ap (λ v. filled (pos 0) (length nodes) (flatNodes v)) (d .nodes-are) in
       let w : b ≡ filled 0 (length l) (flatRows (afterIn nodes l marks n t .tris)) =
-          ap (λ (y : Pair). y .rows) g ∙ ap (λ v. filled 0 (length l) (flatRows v)) (d .rows-are) in
-      all-same (p .n) (p .t) _ _ a _ b _ s _ (d .nodes-count) (d .rows-count) x w z ∙ sym (out-done (given nodes l s n t) n0 marks (sym e ∙ q))
+      ap (λ (y : Pair). y .rows) g ∙ ap (λ v. filled 0 (length l) (flatRows v)) (d .rows-are) in
+      ap (λ (y : Answer). outcome y a b s) k ∙ all-same (p .n) (p .t) _ _ a _ b _ s _ (d .nodes-count) (d .rows-count) x w z ∙ sym (out-done (given nodes l s n t) n0 marks (sym e ∙ q))
     where
       all-same : (n1 t1 n2 t2 : ℕ) (a a′ : List ℤ) (b b′ s s′ : List ℕ) → n1 ≡ n2 → t1 ≡ t2 → a ≡ a′ → b ≡ b′ → s ≡ s′ →
           outcome (answer 0 n1 t1 0) a b s ≡ outcome (answer 0 n2 t2 0) a′ b′ s′

@@ -7,6 +7,7 @@ ghost use Rattle.meaning.specs.Calls.{checkOut, refineOut};
 ghost use Rattle.mesh.specs.Sizes.{fitting};
 ghost use Rattle.mesh.specs.Check.{checkNumber};
 use meaning::Answer;
+
 mod refining; // refining.rt: the steps of refine
 
 // Not 1, for tables and scratch of these lengths.

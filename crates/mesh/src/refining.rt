@@ -7,7 +7,7 @@ ghost use lib.ListN.{length, replicate};
 ghost use Rattle.lists.specs.Lists.{all, cases};
 ghost use Rattle.lists.specs.Search.{lowest};
 ghost use Rattle.meaning.specs.Split.{newest};
-ghost use Rattle.meaning.specs.Tables.{given, outcome};
+ghost use Rattle.meaning.specs.Tables.{given, outcome, answer};
 ghost use Rattle.meaning.specs.Calls.{marksFit, refineOut};
 ghost use Rattle.mesh.specs.Refine.{markHigh, weighed, Weighty, Sound, lateNumber, refineNumber, Planned, Carry, tables, carried};
 use lists::Found;
@@ -56,13 +56,25 @@ fn weigh(nodes: &[i32], tri: &[u32], s: &[u32], n: usize, t: usize, k: usize) ->
     ensures { λ r. ⌜ r ≡ weighed (now (nodes .entry)) (now (tri .entry)) (now (s .entry)) n t k ⌝ }
 {
     if tables::is_found(nodes::find_odd(nodes, tri, s, t)) {
-        return Plan { number: 8, n: n, t: t };
+        return Plan {
+            number: 8,
+            n: n,
+            t: t,
+        };
     }
     let t1 = cut::rows_after(s, t);
     if (nodes.len() / 2 < n + k) | (tri.len() / 3 < t1) {
-        return Plan { number: 9, n: n, t: t };
+        return Plan {
+            number: 9,
+            n: n,
+            t: t,
+        };
     }
-    Plan { number: 0, n: n + k, t: t1 }
+    Plan {
+        number: 0,
+        n: n + k,
+        t: t1,
+    }
 }
 
 // The rows that are split and their notes; then 8 and 9. For a lawful mesh.
@@ -91,14 +103,26 @@ fn judge(
     ensures plan { λ r. ⌜ (r .number ≡ 0 → Planned (now (nodes .entry)) (now (tri .entry)) (now (s .exit)) (now (marks .entry)) n t (r .n) (r .t)) ⌝ }
 {
     if !super::sizes_fit(nodes.len(), tri.len(), s.len(), n0, n, t) {
-        return Plan { number: 1, n: n, t: t };
+        return Plan {
+            number: 1,
+            n: n,
+            t: t,
+        };
     }
     if !marks_fit(marks, t) {
-        return Plan { number: 2, n: n, t: t };
+        return Plan {
+            number: 2,
+            n: n,
+            t: t,
+        };
     }
     let f = lawful::lowest_fault(nodes, tri, s, n, t);
     if f.number != 0 {
-        return Plan { number: f.number, n: n, t: t };
+        return Plan {
+            number: f.number,
+            n: n,
+            t: t,
+        };
     }
     lay_out(nodes, tri, s, marks, n, t)
 }
@@ -124,6 +148,17 @@ fn carry_out(
     tables::clear_rows_from(tri, t1);
 }
 
+fn said(number: u32, n: usize, t: usize) -> Answer
+    ensures { λ r. ⌜ r ≡ answer number n t 0 ⌝ }
+{
+    Answer {
+        number,
+        n,
+        t,
+        passes: 0,
+    }
+}
+
 // Scratch is all zero before; what it holds after does not matter.
 pub fn work(
     nodes: &mut [i32],
@@ -139,18 +174,8 @@ pub fn work(
 {
     let p = judge(nodes, tri, s, marks, n0, n, t);
     if p.number != 0 {
-        return Answer {
-            number: p.number,
-            n,
-            t,
-            passes: 0,
-        };
+        return said(p.number, n, t);
     }
     carry_out(nodes, tri, s, n, t, p.n, p.t);
-    Answer {
-        number: 0,
-        n: p.n,
-        t: p.t,
-        passes: 0,
-    }
+    said(0, p.n, p.t)
 }

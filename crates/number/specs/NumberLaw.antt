@@ -355,8 +355,8 @@ module _ (l : List ℕ) (t n : ℕ) (only-one : OnceAt l t) (named : (i : ℕ) �
     firsts-next =
         ap (once sameEdge) met-next
         ∙ three (once sameEdge (metTo i)) (once sameEdge (afterM i)) (once sameEdge (afterU i)) (once sameEdge (afterV i))
-          (news i (base (rowAt l i))) (news i (edge (rowAt l i .p) (rowAt l i .q))) (news i (edge (rowAt l i .r) (rowAt l i .p)))
-          (base (rowAt l i)) (edge (rowAt l i .p) (rowAt l i .q)) (edge (rowAt l i .r) (rowAt l i .p)) once-m once-u once-v
+        (news i (base (rowAt l i))) (news i (edge (rowAt l i .p) (rowAt l i .q))) (news i (edge (rowAt l i .r) (rowAt l i .p)))
+        (base (rowAt l i)) (edge (rowAt l i .p) (rowAt l i .q)) (edge (rowAt l i .r) (rowAt l i .p)) once-m once-u once-v
 
     length-m : length (once sameEdge (afterM i)) ≡ length (once sameEdge (metTo i)) + bit (news i (base (rowAt l i)))
     length-m = ap length once-m ∙ length-append (once sameEdge (metTo i)) _ ∙ ap (λ (k : ℕ). length (once sameEdge (metTo i)) + k) (length-if (news i (base (rowAt l i))) (base (rowAt l i)))
@@ -445,7 +445,7 @@ module _ (l : List ℕ) (t n : ℕ) (only-one : OnceAt l t) (named : (i : ℕ) �
             let f = found-side l i (one-below i (omega arith)) j y x e in
             let b = f .0 in
             let first : lowest (arrowAt l x y) 0 j ≡ Nothing =
-                lowest-no (arrowAt l x y) j (λ k u. not-so (arrowAt l x y k) (λ q. let z = only-one k i x y (omega arith) h q (side-at l i side) in omega arith)) in
+            lowest-no (arrowAt l x y) j (λ k u. not-so (arrowAt l x y k) (λ q. let z = only-one k i x y (omega arith) h q (side-at l i side) in omega arith)) in
             let c : mem (edge y x) ≡ true = ap mem (edge-comm y x) ∙ m in
             let d : news j (edge y x) ≡ true = and-both c (ap not (met-new j y x (omega arith) (f .1) first)) in
             ap (λ (w : Note). ownOn n (rowAt l j) w y x) (notes j (omega arith)) ∙ own-is j (omega arith) (f .1) d ∙ ap (num n scanned) (edge-comm y x)

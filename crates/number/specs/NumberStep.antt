@@ -165,6 +165,6 @@ pub ready-numbered : (l s s′ : List ℕ) (nc t k : ℕ) → 3 * t ≤ length l
 unfolding numberRow
 ready-numbered l s s′ nc t k h r e =
     let b : Ready (iter (numberRow l t) 0 t (numbers s 0) .table) nc l t =
-        iter-keeps (numberRow l t) (λ (st : Numbers). Ready (st .table) nc l t) t (numbers s 0)
-        (λ j st u p. ready-put (st .table) (set (st .table) j (packed (noteOf l t (st .table) j (st .count)))) l nc t j (packed (noteOf l t (st .table) j (st .count))) (omega arith) refl p) r in
+    iter-keeps (numberRow l t) (λ (st : Numbers). Ready (st .table) nc l t) t (numbers s 0)
+    (λ j st u p. ready-put (st .table) (set (st .table) j (packed (noteOf l t (st .table) j (st .count)))) l nc t j (packed (noteOf l t (st .table) j (st .count))) (omega arith) refl p) r in
     subst (λ (st : Numbers). Ready (st .table) nc l t) (sym e) b

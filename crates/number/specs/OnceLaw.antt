@@ -78,5 +78,5 @@ pub once-place : (P Q : List Edge) (e : Edge) → any (sameEdge e) P ≡ false �
 once-place P Q e a =
     let r = once-prefix (P ++ (e ∷ [])) Q in
     let f : once sameEdge (P ++ (e ∷ Q)) ≡ once sameEdge P ++ (e ∷ r .0) =
-        ap (once sameEdge) (sym (append-assoc P (e ∷ []) Q)) ∙ r .1 ∙ rw (once-new P e a, append-assoc) in
+    ap (once sameEdge) (sym (append-assoc P (e ∷ []) Q)) ∙ r .1 ∙ rw (once-new P e a, append-assoc) in
     rw (f, where-here (sameEdge e) (once sameEdge P) e (r .0) (any-once e P ∙ a) (sameEdge-refl e))

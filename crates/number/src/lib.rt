@@ -64,7 +64,11 @@ fn met_across(tri: &[u32], s: &[u32], nc: usize, t: usize, i: usize, x: u32, y: 
     ensures { λ r. ⌜ r ≡ metAcross (now (tri .entry)) t (now (s .entry)) i x y ⌝ }
 {
     match tables::find_edge(tri, s, nc, t, y, x) {
-        Found::At(j) => met_by(base_split(tables::row_at(tri, j), split_bit(s, j), y, x), j, i),
+        Found::At(j) => met_by(
+            base_split(tables::row_at(tri, j), split_bit(s, j), y, x),
+            j,
+            i,
+        ),
         Found::Nothing => Met { on: 0, first: 0 },
     }
 }
@@ -78,13 +82,29 @@ fn note_of(tri: &[u32], s: &[u32], nc: usize, t: usize, i: usize, k: u32) -> Not
     ensures { λ r. ⌜ r ≡ noteOf (now (tri .entry)) t (now (s .entry)) i k ⌝ }
 {
     if split_bit(s, i) == 0 {
-        return Note { m: 0, u: 0, v: 0, fm: 0, fu: 0, fv: 0, before: k };
+        return Note {
+            m: 0,
+            u: 0,
+            v: 0,
+            fm: 0,
+            fu: 0,
+            fv: 0,
+            before: k,
+        };
     }
     let w = tables::row_at(tri, i);
     let a = met_base(tri, s, nc, t, i, w.q, w.r);
     let b = met_across(tri, s, nc, t, i, w.p, w.q);
     let c = met_across(tri, s, nc, t, i, w.r, w.p);
-    Note { m: a.on, u: b.on, v: c.on, fm: a.first, fu: b.first, fv: c.first, before: k }
+    Note {
+        m: a.on,
+        u: b.on,
+        v: c.on,
+        fm: a.first,
+        fu: b.first,
+        fv: c.first,
+        before: k,
+    }
 }
 
 fn with_new(k: u32, c: Note) -> u32

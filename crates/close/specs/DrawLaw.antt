@@ -1,8 +1,8 @@
 -- The turns of the closure's loops, in the form of their needs. Assumes nothing.
 use mathlib.Core.Path.{_≡_, refl, sym, ap, _∙_}
-use mathlib.Core.Bool.{Bool, true, false, not}
+use mathlib.Core.Bool.{Bool, true, false}
 use mathlib.Core.List.{List, [], _∷_}
-use Prim.Native.Nat.{ℕ, zero, suc, _+_, _*_, _-_, _/_, _≤_, _<_}
+use Prim.Native.Nat.{ℕ, zero, suc, _*_, _≤_, _<_}
 use native.Mathlib.Omega.{arith}
 use borrow.Author.Tests.{eq-eqb, ne-eqb}
 use lib.Dec.{eqb}
@@ -18,7 +18,7 @@ use Rattle.meaning.specs.Tables.{rowAt}
 use Rattle.tables.specs.Arrow.{arrowAt}
 use Rattle.tables.specs.Sized.{indexAt}
 use Rattle.tables.specs.Ready.{Ready, ready-kept}
-use Rattle.close.specs.Drawn.{onFound, acrossRow, zeros, zeroAt, drawn, draws, drawMarked}
+use Rattle.close.specs.Drawn.{onFound, acrossRow, zeros, drawn, draws, drawMarked}
 
 -- a note that is put
 pub zeros-set : (s : List ℕ) (j : ℕ) → j < length s → getD s j 0 ≡ 0 → zeros s ≡ suc (zeros (set s j 1))

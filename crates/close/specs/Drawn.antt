@@ -1,6 +1,5 @@
 -- The rows that are split, as notes of 1: a starting row, the row across its refinement edge, the row across that one's, and so on.
 -- Assumes nothing.
-use mathlib.Core.Bool.{Bool, true, false}
 use mathlib.Core.List.{List, [], _∷_}
 use Prim.Native.Nat.{ℕ, zero, suc}
 use lib.Dec.{eqb}

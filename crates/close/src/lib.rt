@@ -1,7 +1,7 @@
 // Which rows are split, as 1 in their notes: from each marked row on, the row across the refinement edge, as far as rows are not split.
 // So each split row costs one search, and each marked row one look at its note.
 ghost use mathlib.Core.Path.{_≡_};
-ghost use Prim.Native.Nat.{ℕ, _+_, _*_, _≤_, _<_};
+ghost use Prim.Native.Nat.{_*_, _≤_, _<_};
 ghost use lib.ListN.{length};
 ghost use Rattle.lists.specs.Search.{iter};
 ghost use Rattle.tables.specs.Ready.{Ready};

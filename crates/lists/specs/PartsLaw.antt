@@ -1,14 +1,11 @@
 -- Lists in two parts: filtered, searched, joined; members of lists that are filtered or joined. Assumes nothing.
-use mathlib.Core.Bool.{Bool, true, false, _||_}
+use mathlib.Core.Bool.{Bool, true, false}
 use mathlib.Core.List.{List, [], _∷_, _++_, List·Memᴰ, List·Memᴰ·head, List·Memᴰ·tail}
 use mathlib.Core.Path.{_≡_, refl, sym, subst, ap, _∙_}
-use Prim.Native.Nat.{ℕ, zero, suc, _+_, _<_}
-use native.Mathlib.Omega.{arith}
 use lib.ListN.{length}
-use Rattle.lists.specs.declared.Found.{Found}
 use Rattle.lists.specs.declared.Found.the-variants.{At, Nothing}
-use Rattle.lists.specs.Lists.{any, only, consIf, whereFirst, next, joined}
-use Rattle.lists.specs.ListsLaw.{clash, or-no}
+use Rattle.lists.specs.Lists.{any, only, consIf, whereFirst, joined}
+use Rattle.lists.specs.ListsLaw.{or-no}
 
 pub not-so : (b : Bool) → (b ≡ true → ⊥) → b ≡ false
 not-so true h = absurd (h refl)

@@ -1,7 +1,7 @@
 -- Refine, step by step: what is judged, what is planned, and what is carried out. Assumes nothing.
 use mathlib.Core.Path.{_≡_}
-use mathlib.Core.Bool.{Bool, true, false, _||_}
-use mathlib.Core.List.{List, [], _∷_}
+use mathlib.Core.Bool.{Bool, _||_}
+use mathlib.Core.List.{List}
 use Prim.Native.Nat.{ℕ, _+_, _*_, _/_, _≤_, _<_}
 use lib.Dec.{ltb}
 use lib.IntN.{ℤ, pos}
@@ -9,12 +9,10 @@ use lib.ListN.{length, getD}
 use Rattle.lists.specs.Lists.{all, cases, isFound}
 use Rattle.lists.specs.Search.{lowest, items, iter}
 use Rattle.lists.specs.ItemsLaw.{sumTo}
-use Rattle.meaning.specs.declared.Place.{Place}
-use Rattle.meaning.specs.declared.Tri.{Tri}
 use Rattle.meaning.specs.Mesh.{Mesh, Edge, mesh}
 use Rattle.meaning.specs.Lawful.{refusal}
 use Rattle.meaning.specs.Split.{splitEdges, started, newest, refined, halves}
-use Rattle.meaning.specs.Tables.{Given, Room, roomOf, meshOf, rowAt, placeAt, flatNodes, flatRows, filled}
+use Rattle.meaning.specs.Tables.{Given, roomOf, meshOf, rowAt, placeAt, flatNodes, flatRows, filled}
 use Rattle.meaning.specs.Calls.{unless, fits, sizesFit, refineNo}
 use Rattle.tables.specs.Sized.{Sized}
 use Rattle.tables.specs.Ready.{Ready}

@@ -1,18 +1,18 @@
 -- The steps of refine, in the form of their needs. Assumes nothing.
 use mathlib.Core.Path.{_≡_, refl, sym, ap, _∙_, subst}
 use mathlib.Core.Bool.{Bool, true, false, not, _&&_, _||_}
-use mathlib.Core.List.{List, [], _∷_}
+use mathlib.Core.List.{List}
 use mathlib.Core.Option.{Option, none, some}
 use Prim.Native.Nat.{ℕ, zero, suc, _+_, _*_, _/_, _≤_, _<_}
 use native.Mathlib.Omega.{arith}
-use borrow.Author.Tests.{not-true, not-false, ltb-true, ltb-false, leb-true, leb-false, lt-leb, le-leb, le-ltb, lt-ltb, eqb-true}
+use borrow.Author.Tests.{not-true, not-false, leb-true, leb-false, le-ltb, lt-ltb, eqb-true}
 use lib.Dec.{eqb, ltb, leb}
 use lib.IntN.{ℤ, pos}
-use lib.ListN.{length, getD, take, replicate, length-append, length-map, getD-replicate, length-replicate}
+use lib.ListN.{length, getD, replicate, length-append, length-map, getD-replicate, length-replicate}
 use lib.Seq.{ext-getD, getD-take}
 use Rattle.lists.specs.declared.Found.{Found}
 use Rattle.lists.specs.Lists.{all, any, cases, isFound}
-use Rattle.lists.specs.ListsLaw.{clash, or-no, and-left, and-right, All-at, All-getD}
+use Rattle.lists.specs.ListsLaw.{and-left, and-right, All-getD}
 use Rattle.lists.specs.Search.{lowest, items, iter}
 use Rattle.lists.specs.SearchLaw.{lowest-any}
 use Rattle.lists.specs.IterLaw.{length-items, getD-items}
@@ -22,10 +22,10 @@ use Rattle.meaning.specs.declared.Place.{Place}
 use Rattle.meaning.specs.declared.Tri.{Tri}
 use Rattle.meaning.specs.declared.Fault.{Fault}
 use Rattle.meaning.specs.declared.Answer.{Answer}
-use Rattle.meaning.specs.Mesh.{Mesh, Edge, edge, at, mesh, origin}
+use Rattle.meaning.specs.Mesh.{Mesh, Edge, edge, at, origin}
 use Rattle.meaning.specs.Lawful.{Lawful, InRange, Named, faultOf, refusal}
-use Rattle.meaning.specs.Split.{bisected, splitEdges, splitAt, split, started, newest, refined, halves, memEdge, numberOf}
-use Rattle.meaning.specs.Tables.{Given, given, Outcome, outcome, answer, roomOf, meshOf, rowAt, placeAt, flatNodes, flatRows, filled, cleared}
+use Rattle.meaning.specs.Split.{bisected, splitEdges, splitAt, split, newest, refined, halves, memEdge, numberOf}
+use Rattle.meaning.specs.Tables.{Given, given, outcome, answer, roomOf, meshOf, rowAt, placeAt, flatNodes, flatRows, filled}
 use Rattle.meaning.specs.Calls.{Reply, unless, orElse, marksFit, fits, refineNo, refines, says, sizesFit, untouched, done, leaves, left, refineOut}
 use Rattle.laws.specs.Lawful.{refusal-lawful}
 use Rattle.tables.specs.Sized.{Sized, Corners, indexAt}
@@ -45,7 +45,7 @@ use Rattle.number.specs.NumberStep.{ready-numbered}
 use Rattle.number.specs.NumberLaw.{numsOf}
 use Rattle.number.specs.NumberLaw as Numbering
 use Rattle.number.specs.SplitLaw.{numbered, member, member-said, split-said, split-pulled, mids-say, count-say, few-say, met-say, before-say, length-say}
-use Rattle.cut.specs.Cutting.{cutAt, addedAt, cutAll, splits}
+use Rattle.cut.specs.Cutting.{cutAt, cutAll, splits}
 use Rattle.cut.specs.MeshLaw.{orZero, numbersOf, cut-mesh, count-rows, count-mesh}
 use Rattle.mesh.specs.declared.refining.Plan.{Plan}
 use Rattle.mesh.specs.Sizes.{fitting, fitting-is, Fit, fit}

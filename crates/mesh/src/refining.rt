@@ -1,10 +1,7 @@
 // The steps of refine: all is judged before a node or a row is written.
 ghost use mathlib.Core.Path.{_≡_};
-ghost use mathlib.Core.Bool.{true};
-ghost use Prim.Native.Nat.{ℕ, _+_, _*_, _/_, _≤_, _<_};
-ghost use lib.Dec.{leb};
+ghost use Prim.Native.Nat.{_+_, _/_, _<_};
 ghost use lib.ListN.{length, replicate};
-ghost use Rattle.lists.specs.Lists.{all, cases};
 ghost use Rattle.lists.specs.Search.{lowest};
 ghost use Rattle.meaning.specs.Split.{newest};
 ghost use Rattle.meaning.specs.Tables.{given, outcome, answer};

@@ -1,11 +1,11 @@
 -- What the notes say: which edges of a row are in a set, which of these the scan of document 01 meets first in this row, and how many
 -- it has met before. So each row can tell the numbers of its edges: the places in the order of the scan. Assumes nothing.
 use mathlib.Core.Path.{_≡_, refl, sym, ap, _∙_, subst}
-use mathlib.Core.Logic.{_⊎_, inl, inr, _≢_, ⊎-elim}
+use mathlib.Core.Logic.{_⊎_, inl, inr, ⊎-elim}
 use mathlib.Core.Bool.{Bool, true, false, not, _&&_, _||_}
-use mathlib.Core.List.{List, [], _∷_, _++_, append-assoc, append-nil, List·Memᴰ, List·Memᴰ·head, List·Memᴰ·tail}
+use mathlib.Core.List.{List, [], _∷_, _++_, append-assoc, append-nil, List·Memᴰ}
 use mathlib.Core.Option.{Option, none, some}
-use Prim.Native.Nat.{ℕ, zero, suc, _+_, _*_, _-_, _/_, _%_, _≤_, _<_}
+use Prim.Native.Nat.{ℕ, zero, suc, _+_, _*_, _%_, _≤_, _<_}
 use native.Mathlib.Omega.{arith}
 use native.Mathlib.Decide.{ℕ-discrete, decLt}
 use borrow.Author.Tests.{eqb-true, eq-eqb, ne-eqb, lt-ltb, le-ltb}
@@ -14,11 +14,11 @@ use lib.ListN.{length, getD, set, length-set, length-append}
 use lib.Seq.{getD-set-same, getD-set-other}
 use Rattle.lists.specs.declared.Found.{Found}
 use Rattle.lists.specs.declared.Found.the-variants.{At, Nothing}
-use Rattle.lists.specs.Lists.{any, only, consIf, once, whereFirst, joined, upTo, cases}
+use Rattle.lists.specs.Lists.{any, only, consIf, once, joined, upTo, cases}
 use Rattle.lists.specs.ListsLaw.{clash, and-both, and-left, and-right, any-at, any-row, both-ways}
 use Rattle.lists.specs.MembersLaw.{only-in, joined-in}
 use Rattle.lists.specs.Tally.{bit}
-use Rattle.lists.specs.Search.{lowest, items, iter, iterFrom}
+use Rattle.lists.specs.Search.{lowest, items, iter}
 use Rattle.lists.specs.SearchLaw.{lowest-below, lowest-nothing}
 use Rattle.lists.specs.ItemsLaw.{joined-append, items-snoc, items-none, iter-carries}
 use Rattle.lists.specs.ByNumberLaw.{items-in, items-of, items-around, lowest-no, lowest-cut, lowest-past, lowest-none-below}
@@ -28,7 +28,7 @@ use Rattle.meaning.specs.declared.Tri.{Tri}
 use Rattle.meaning.specs.declared.Mids.{Mids}
 use Rattle.meaning.specs.Mesh.{Edge, edge, edges, base, sameEdge}
 use Rattle.meaning.specs.Lawful.{Named}
-use Rattle.meaning.specs.Split.{plus, numberOf}
+use Rattle.meaning.specs.Split.{numberOf}
 use Rattle.meaning.specs.Tables.{rowAt}
 use Rattle.laws.specs.Edges.{edge-comm, sameEdge-eq, sameEdge-refl}
 use Rattle.tables.specs.Arrow.{arrowAt}

@@ -1,12 +1,12 @@
 -- The parts of the code, in the form of their needs. Assumes nothing.
 use mathlib.Core.Path.{_≡_, refl, sym, ap, _∙_, subst}
 use mathlib.Core.Bool.{Bool, true, false, _&&_}
-use mathlib.Core.List.{List, [], _∷_}
-use Prim.Native.Nat.{ℕ, zero, suc, _+_, _*_, _-_, _/_, _^_, _≤_, _<_}
+use mathlib.Core.List.{List}
+use Prim.Native.Nat.{ℕ, _+_, _*_, _≤_, _<_}
 use native.Mathlib.Omega.{arith}
 use borrow.Author.Tests.{eq-eqb, ne-eqb, lt-ltb, le-ltb}
 use lib.Dec.{eqb, ltb}
-use lib.ListN.{length, getD, set, drop, length-set}
+use lib.ListN.{length, set, length-set}
 use Rattle.lists.specs.declared.Found.{Found}
 use Rattle.lists.specs.declared.Found.the-variants.{At, Nothing}
 use Rattle.lists.specs.Lists.{cases}
@@ -16,12 +16,11 @@ use Rattle.lists.specs.SearchLaw.{lowest-below}
 use Rattle.meaning.specs.declared.Tri.{Tri}
 use Rattle.meaning.specs.Tables.{rowAt}
 use Rattle.tables.specs.Arrow.{arrowAt}
-use Rattle.tables.specs.Sized.{indexAt}
 use Rattle.tables.specs.Ready.{Ready, ready-sized, ready-put}
 use Rattle.notes.specs.declared.Note.{Note}
 use Rattle.notes.specs.Notes.{note, noteAt, packed, Tight}
 use Rattle.close.specs.Drawn.{onFound}
-use Rattle.number.specs.Numbered.{Met, met, baseSplit, metBy, metBase, metAcross, noteBy, noteOf, Numbers, numbers, noted, numberRow}
+use Rattle.number.specs.Numbered.{Met, met, baseSplit, metBy, metBase, metAcross, noteBy, noteOf, Numbers, numbers, numberRow}
 
 pub base-yes : (w : Tri) (b x y : ℕ) → eqb b 1 && eqb (w .q) x && eqb (w .r) y ≡ true → 1 ≡ baseSplit w b x y
 unfolding baseSplit

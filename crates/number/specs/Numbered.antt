@@ -1,11 +1,9 @@
 -- The notes of all rows, made row by row upward from the rows that are split. Assumes nothing.
-use mathlib.Core.Bool.{Bool, true, false, _&&_}
-use mathlib.Core.List.{List, [], _∷_}
+use mathlib.Core.Bool.{_&&_}
+use mathlib.Core.List.{List}
 use Prim.Native.Nat.{ℕ, _+_}
 use lib.Dec.{eqb, ltb}
-use lib.ListN.{getD, set}
-use Rattle.lists.specs.declared.Found.{Found}
-use Rattle.lists.specs.declared.Found.the-variants.{At, Nothing}
+use lib.ListN.{set}
 use Rattle.lists.specs.Lists.{cases}
 use Rattle.lists.specs.Search.{lowest}
 use Rattle.meaning.specs.declared.Tri.{Tri}

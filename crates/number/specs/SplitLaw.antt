@@ -2,8 +2,8 @@
 -- of document 01's split edges. Assumes nothing.
 use mathlib.Core.Path.{_≡_, refl, sym, ap, _∙_}
 use mathlib.Core.Bool.{Bool, true, false}
-use mathlib.Core.List.{List, [], _∷_, _++_, List·Memᴰ}
-use Prim.Native.Nat.{ℕ, _+_, _*_, _≤_, _<_}
+use mathlib.Core.List.{List, List·Memᴰ}
+use Prim.Native.Nat.{ℕ, _*_, _≤_, _<_}
 use native.Mathlib.Omega.{arith}
 use lib.ListN.{length, getD}
 use Rattle.lists.specs.ListsLaw.{clash, both-ways, All-at}
@@ -11,9 +11,8 @@ use Rattle.lists.specs.Tally.{bit}
 use Rattle.lists.specs.Search.{items, iter}
 use Rattle.lists.specs.ByNumberLaw.{items-in}
 use Rattle.lists.specs.PartsLaw.{not-so}
-use Rattle.meaning.specs.declared.Tri.{Tri}
 use Rattle.meaning.specs.declared.Place.{Place}
-use Rattle.meaning.specs.Mesh.{Mesh, Edge, edge, edges, base, mesh}
+use Rattle.meaning.specs.Mesh.{Edge, edge, edges, base, mesh}
 use Rattle.meaning.specs.Lawful.{Lawful, Named}
 use Rattle.meaning.specs.Split.{memEdge, closure, splitEdges, started, newest}
 use Rattle.meaning.specs.Tables.{rowAt}

@@ -1,7 +1,7 @@
 // Which edges of each row are split, which of these are first met there, and how many new nodes lower rows have: the note of each row,
 // made row by row upward. Bit 0 of a note says that the row is split, before as after.
 ghost use mathlib.Core.Path.{_≡_};
-ghost use Prim.Native.Nat.{ℕ, _+_, _*_, _≤_, _<_};
+ghost use Prim.Native.Nat.{_+_, _*_, _≤_, _<_};
 ghost use lib.ListN.{length};
 ghost use Rattle.lists.specs.Search.{iter};
 ghost use Rattle.tables.specs.Ready.{Ready};

@@ -1,10 +1,13 @@
 pub mod Area
 pub mod Edges
+pub mod Lawful
+pub mod Numbers
+pub mod Check
 pub mod Stay
 pub mod Pairs
 pub mod Star
+pub mod Brotherly
 pub mod CoarsenRows
 pub mod Without
 pub mod Coarsen
 pub mod Restore
-pub mod Brotherly

@@ -3,3 +3,4 @@ pub mod ListsLaw
 pub mod MembersLaw
 pub mod Tally
 pub mod Search
+pub mod SearchLaw

@@ -6,18 +6,16 @@ use mathlib.Core.Path.{_≡_, refl, sym, subst, ap, _∙_}
 use Prim.Native.Nat.{ℕ, zero, suc, _+_, _≤_, _<_}
 use native.Mathlib.Omega.{arith}
 use lib.ListN.{length, getD}
-use borrow.Author.Tests.{not-true}
 use Rattle.lists.specs.Lists.{only, consIf, All, nil, cons}
-use Rattle.lists.specs.ListsLaw.{clash, All-imp, All-at}
-use Rattle.lists.specs.MembersLaw.{only-in, only-out, only-passes, mem-at}
-use Rattle.lists.specs.Tally.{bit, tally, bits-some}
+use Rattle.lists.specs.ListsLaw.{clash, All-imp}
+use Rattle.lists.specs.MembersLaw.{in-tail, only-out, mem-at}
 use Rattle.meaning.specs.declared.Tri.{Tri}
 use Rattle.meaning.specs.Mesh.{Mesh, edge, sameTri, holdsEdge, at}
 use Rattle.meaning.specs.Lawful.{Lawful}
 use Rattle.meaning.specs.Good.{Middle, Brothers, brothers, rowsOf, span}
 use Rattle.laws.specs.Area.{middle-edge}
-use Rattle.laws.specs.Edges.{sameTri-eq, sameTri-refl}
-use Rattle.laws.specs.Pairs.{RowsOnce, only-once, but-length, Matched, none-left, pair-first}
+use Rattle.laws.specs.Edges.{sameTri-refl}
+use Rattle.laws.specs.Pairs.{RowsOnce, only-once, not-again, but-in, but-not, but-length, Matched, none-left, pair-first}
 use Rattle.laws.specs.Star.{Star, rows-once, rows-some, span-is, star-from}
 
 -- x stands before y
@@ -48,16 +46,6 @@ pub record Brotherly (bro : Tri → Tri) (ts : List Tri) : Type 0 where
   pub left-first : (t : Tri) → Before t (bro t) ts → bro t .r ≡ t .q
 
 module _ (bro : Tri → Tri) where
-  in-tail : {x t : Tri} {ts : List Tri} → List·Memᴰ x (t ∷ ts) → x ≢ t → List·Memᴰ x ts
-  in-tail (List·Memᴰ·head e) n = absurd (n e)
-  in-tail (List·Memᴰ·tail i) n = i
-
-  not-again : (t : Tri) (ts : List Tri) → tally (λ v. bit (sameTri t v)) (t ∷ ts) ≤ 1 → List·Memᴰ t ts → ⊥
-  not-again t ts h i =
-      let a = bits-some (sameTri t) i (sameTri-refl t) in
-      let b = ap bit (sameTri-refl t) in
-      omega arith
-
   pub brotherly-matched : (k : ℕ) (ts : List Tri) → length ts ≤ k → RowsOnce ts → Brotherly bro ts →
       (bs : List Brothers) × Matched ts bs × All (λ x. (x .right ≡ bro (x .left)) × Before (x .left) (bro (x .left)) ts) bs
   brotherly-matched zero [] l o h = ([], none-left, nil)
@@ -81,15 +69,8 @@ module _ (bro : Tri → Tri) where
       u-later : List·Memᴰ u ts
       u-later = in-tail (h .there t (List·Memᴰ·head refl)) (h .other t (List·Memᴰ·head refl))
 
-      not-u : {v : Tri} → List·Memᴰ v (only keep ts) → v ≡ u → ⊥
-      not-u {v} i e = clash (sym (sameTri-refl u) ∙ subst (λ w. sameTri u w ≡ false) e (not-true (sameTri u v) (All-at (only-passes keep ts) i)))
-
-      kept : (v : Tri) → (v ≡ u → ⊥) → keep v ≡ true
-      kept v n = go (sameTri u v) refl
-        where
-          go : (b : Bool) → sameTri u v ≡ b → not b ≡ true
-          go true e = absurd (n (sym (sameTri-eq u v e)))
-          go false e = refl
+      again : List·Memᴰ t ts → ⊥
+      again i = clash (sym (sameTri-refl t) ∙ not-again t o i)
 
       old : {v : Tri} → List·Memᴰ v (only keep ts) → List·Memᴰ v (t ∷ ts)
       old i = List·Memᴰ·tail (only-out keep ts i)
@@ -97,8 +78,8 @@ module _ (bro : Tri → Tri) where
       rest : Brotherly bro (only keep ts)
       rest = record {
         there = λ v i.
-            only-in keep (in-tail (h .there v (old i)) (λ e. not-u i (sym (h .back v (old i)) ∙ ap bro e)))
-            (kept (bro v) (λ e. not-again t ts (o t) (subst (λ w. List·Memᴰ w ts) (sym (h .back v (old i)) ∙ ap bro e ∙ h .back t (List·Memᴰ·head refl)) (only-out keep ts i))));
+            but-in (in-tail (h .there v (old i)) (λ e. but-not ts i (sym (h .back v (old i)) ∙ ap bro e)))
+            (λ e. again (subst (λ w. List·Memᴰ w ts) (sym (h .back v (old i)) ∙ ap bro e ∙ h .back t (List·Memᴰ·head refl)) (only-out keep ts i)));
         back = λ v i. h .back v (old i);
         other = λ v i. h .other v (old i);
         left-first = λ v b. h .left-first v (later (only-before keep ts b));

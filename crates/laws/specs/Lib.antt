@@ -11,3 +11,4 @@ pub mod CoarsenRows
 pub mod Without
 pub mod Coarsen
 pub mod Restore
+pub mod Good

@@ -9,11 +9,11 @@ use Prim.Native.Nat.{ℕ, zero, suc, _+_, _*_, _≤_}
 use native.Mathlib.Omega.{arith}
 use lib.Dec.{eqb}
 use lib.ListN.{length}
-use borrow.Author.Tests.{eq-eqb}
+use borrow.Author.Tests.{eq-eqb, not-true}
 use Rattle.lists.specs.Lists.{only, sucIf, All, nil, cons}
 use Rattle.lists.specs.ListsLaw.{clash, and-both, or-left, or-right, All-at, All-of, FirstIs, no-row, row, first-is}
-use Rattle.lists.specs.MembersLaw.{only-keeps}
-use Rattle.lists.specs.Tally.{bit, tally, tally-le, tally-length, tally-only, tally-parts, only-le, pick-one}
+use Rattle.lists.specs.MembersLaw.{only-in, only-passes, only-keeps}
+use Rattle.lists.specs.Tally.{bit, tally, tally-le, tally-length, tally-only, tally-parts, only-le, bits-some, pick-one}
 use Rattle.meaning.specs.declared.Tri.{Tri}
 use Rattle.meaning.specs.Mesh.{Mesh, Arrow, arrow, sameArrow, sameTri, holdsNode, holdsArrow}
 use Rattle.meaning.specs.Lawful.{Named, Lawful}
@@ -47,9 +47,32 @@ only-once f ts o u = let a = only-le (λ v. bit (sameTri u v)) f ts in let b = o
 only-arrows : (f : Tri → Bool) (ts : List Tri) → ArrowsOnce ts → ArrowsOnce (only f ts)
 only-arrows f ts o e = let a = only-le (hits e) f ts in let b = o e in omega arith
 
+-- a row that stands first stands nowhere else
+pub not-again : (t : Tri) {v : Tri} {ts : List Tri} → RowsOnce (t ∷ ts) → List·Memᴰ v ts → sameTri t v ≡ false
+not-again t {v} {ts} o i = go (sameTri t v) refl
+  where
+    go : (b : Bool) → sameTri t v ≡ b → b ≡ false
+    go true e =
+        let a = bits-some (sameTri t) i e in
+        let b = o t in
+        let c = ap bit (sameTri-refl t) in
+        absurd (omega arith)
+    go false e = refl
+
 -- the rows but one
 abbrev pub but : Tri → List Tri → List Tri
 but u ts = only (λ v. not (sameTri u v)) ts
+
+pub but-in : {u v : Tri} {ts : List Tri} → List·Memᴰ v ts → v ≢ u → List·Memᴰ v (but u ts)
+but-in {u} {v} i n = only-in (λ w. not (sameTri u w)) i (go (sameTri u v) refl)
+  where
+    go : (b : Bool) → sameTri u v ≡ b → not b ≡ true
+    go true e = absurd (n (sym (sameTri-eq u v e)))
+    go false e = refl
+
+pub but-not : {u v : Tri} (ts : List Tri) → List·Memᴰ v (but u ts) → v ≢ u
+but-not {u} {v} ts i e =
+    clash (sym (sameTri-refl u) ∙ subst (λ w. sameTri u w ≡ false) e (not-true (sameTri u v) (All-at (only-passes (λ w. not (sameTri u w)) ts) i)))
 
 pub but-one : (f : Tri → ℕ) {u : Tri} {ts : List Tri} → List·Memᴰ u ts → RowsOnce ts → tally f ts ≡ f u + tally f (but u ts)
 but-one f {u} {ts} i h =

@@ -316,6 +316,9 @@ pub applies-to-7 : (m : Mesh) (k : ℕ) → refusal m ≡ k → k ≤ 7
 applies-to-7 m zero e = omega arith
 applies-to-7 m (suc k) e = at-most-7 (refusal-exact m (suc k) .0 e .applies (omega arith))
 
+pub applies-from-3 : (m : Mesh) (k : ℕ) → refusal m ≡ k → 0 < k → 3 ≤ k
+applies-from-3 m k e h = at-least-3 (refusal-exact m k .0 e .applies h)
+
 lawful-none : {m : Mesh} → Lawful m → Lowest m 0
 lawful-none {m} law = record { applies = λ h. absurd (omega arith); no-lower = λ j a. absurd (go a) }
   where

@@ -15,3 +15,5 @@ pub mod Coarsen
 pub mod Restore
 pub mod Brotherly
 pub mod Good
+pub mod Marks
+pub mod CoarsenCalls

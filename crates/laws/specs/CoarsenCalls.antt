@@ -1,13 +1,13 @@
 -- Coarsen and restore as calls: a call that says 0 keeps demand 2, and each refusal is given exactly when its line says. Assumes nothing.
 use mathlib.Core.Bool.{Bool, true, false}
-use mathlib.Core.List.{List, [], List·Memᴰ}
+use mathlib.Core.List.{List, List·Memᴰ}
 use mathlib.Core.Logic.{_↔_, _≢_}
 use mathlib.Core.Path.{_≡_, refl, sym, subst, _∙_}
 use Prim.Native.Nat.{ℕ, _+_, _≤_, _<_}
 use native.Mathlib.Omega.{arith}
 use lib.ListN.{length}
-use Rattle.lists.specs.Lists.{All, nil}
-use Rattle.lists.specs.ListsLaw.{clash, All-at}
+use Rattle.lists.specs.Lists.{nil}
+use Rattle.lists.specs.ListsLaw.{All-at}
 use Rattle.meaning.specs.Mesh.{Mesh}
 use Rattle.meaning.specs.Lawful.{Lawful, Lowest, refusal}
 use Rattle.meaning.specs.Good.{Good}

@@ -10,7 +10,7 @@ use borrow.Author.Tests.{eq-eqb}
 use Rattle.lists.specs.Lists.{any, joined, All, nil, cons}
 use Rattle.lists.specs.ListsLaw.{or-left, both-ways, All-imp, All-at, All-of, All-joined, any-at, any-row, any-none, FirstIs, no-row, row, first-is}
 use Rattle.lists.specs.MembersLaw.{only-in}
-use Rattle.lists.specs.Tally.{if-so, bit, bit-le, if-swap, tally, tally-le, tally-eq, tally-add, tally-only, tally-parts, tally-joined, tally-swap, bits-some, bits-none, if-any, pick-one}
+use Rattle.lists.specs.Tally.{if-so, bit, bit-le, bit-yes, bit-no, bit-one, if-swap, tally, tally-le, tally-eq, tally-add, tally-only, tally-parts, tally-joined, tally-swap, bits-some, bits-none, if-any, pick-one}
 use Rattle.meaning.specs.declared.Tri.{Tri}
 use Rattle.meaning.specs.Mesh.{Mesh, sameTri, holdsNode}
 use Rattle.meaning.specs.Lawful.{Lawful}
@@ -33,18 +33,6 @@ pub data Fate (bs : List Brothers) (zs : List ℕ) (t : Tri) : List Tri → Type
   to-father : {b : Brothers} → List·Memᴰ b bs → sameTri (b .left) t ≡ true → Fate bs zs t (father b ∷ [])
   to-none : {b : Brothers} → List·Memᴰ b bs → sameTri (b .right) t ≡ true → All (λ b. sameTri (b .left) t ≡ false) bs → touched zs t ≡ true → Fate bs zs t []
   to-self : All (λ b. sameTri (b .left) t ≡ false) bs → touched zs t ≡ false → Fate bs zs t (t ∷ [])
-
-bit-yes : (b : Bool) → 1 ≤ bit b → b ≡ true
-bit-yes true h = refl
-bit-yes false h = absurd (omega arith)
-
-bit-no : (b : Bool) → bit b ≡ 0 → b ≡ false
-bit-no true h = absurd (omega arith)
-bit-no false h = refl
-
-bit-one : (b : Bool) → bit b ≤ 1
-bit-one true = omega arith
-bit-one false = omega arith
 
 -- the nodes may be taken together: they meet G1 to G4, are listed once, and no two have the same pair b, c
 pub record Takeable (m : Mesh) (zs : List ℕ) : Type 0 where

@@ -2,17 +2,17 @@
 --
 -- The lines name the rows round z one after the other; the tests pair them off. Both are the same pairing of all rows round z (`Matched`):
 -- no directed edge occurs twice, so the row that holds a→z is the one that pairing off finds, and no row is met twice.
-use mathlib.Core.Bool.{Bool, true, false, not, _&&_}
+use mathlib.Core.Bool.{true, false, not, _&&_}
 use mathlib.Core.List.{List, [], _∷_, List·Memᴰ, List·Memᴰ·head, List·Memᴰ·tail}
 use mathlib.Core.Logic.{_↔_, _≢_}
-use mathlib.Core.Option.{Option, none, some}
-use mathlib.Core.Path.{_≡_, refl, sym, subst, subst⁻¹, subst₂, ap, ap₂, _∙_}
+use mathlib.Core.Option.{Option, some}
+use mathlib.Core.Path.{_≡_, refl, sym, subst, subst⁻¹, ap, ap₂, _∙_}
 use Prim.Native.Nat.{ℕ, suc, _*_, _≤_, _<_}
 use native.Mathlib.Omega.{arith}
 use lib.Dec.{eqb}
 use lib.ListN.{length}
 use borrow.Author.Tests.{eqb-true, eq-eqb}
-use Rattle.lists.specs.Lists.{only, first, firstOr, All, nil, cons}
+use Rattle.lists.specs.Lists.{first, firstOr, All, nil, cons}
 use Rattle.lists.specs.ListsLaw.{clash, and-left, and-right, or-left, All-at, All-of, FirstIs, no-row, row, first-is}
 use Rattle.lists.specs.MembersLaw.{in-tail, only-in, only-out, headOf, first-head, first-cong, head-is, first-found}
 use Rattle.meaning.specs.declared.Tri.{Tri}
@@ -20,8 +20,8 @@ use Rattle.meaning.specs.Mesh.{Mesh, Arrow, tri, edge, arrow, sameTri, holdsNod
 use Rattle.meaning.specs.Lawful.{Lawful}
 use Rattle.meaning.specs.Good.{Middle, Brothers, brothers, rowsOf, lowestLeft, Paired, two, four, Meets, Good, pairs, spanOf, span, closes, G1-4, good}
 use Rattle.laws.specs.Area.{middle-either, middle-edge}
-use Rattle.laws.specs.Edges.{edge-comm, sameTri-eq, sameTri-refl}
-use Rattle.laws.specs.Pairs.{RowsOnce, ArrowsOnce, arrows-once, not-again, but, but-in, but-length, only-once, holder-one, third-holds, Matched, none-left, pair-first, matched-all, off-length}
+use Rattle.laws.specs.Edges.{edge-comm, sameTri-refl}
+use Rattle.laws.specs.Pairs.{RowsOnce, ArrowsOnce, arrows-once, not-again, but, but-in, but-length, only-once, holder-one, third-holds, Matched, none-left, pair-first, off-length}
 use Rattle.laws.specs.Star.{Star, rows-once, span-is, star-from, star-is, test-closes, test-newest, test-count, test-matched, test-middle, test-free, G5-alone, alone-G5, good-added, good-meets, good-alone, good-yes}
 
 -- ---- rows
@@ -82,8 +82,8 @@ module _ (m : Mesh) (z : ℕ) (law : Lawful m) where
           x .left .r,
           x .right .q,
           two (x .left .q) (omega arith)
-          (first-head (holdsNode z) (m .tris) ∙ ap headOf (B .rows-are) ∙ ap some (tri-is (x .left) z (x .left .q) (x .left .r) (L .1) refl refl))
-          (holder-is x (x .left .q) (x .right .q) (R .0) (R .1) (B .joint) refl refl),
+              (first-head (holdsNode z) (m .tris) ∙ ap headOf (B .rows-are) ∙ ap some (tri-is (x .left) z (x .left .q) (x .left .r) (L .1) refl refl))
+              (holder-is x (x .left .q) (x .right .q) (R .0) (R .1) (B .joint) refl refl),
           refl,
         )
     lines (x ∷ y ∷ []) r t e l =
@@ -93,25 +93,24 @@ module _ (m : Mesh) (z : ℕ) (law : Lawful m) where
         let B = begins r in
         let C = begins (B .rest) in
         let old : (v : Tri) → List·Memᴰ v (but (x .right) (B .more)) → List·Memᴰ v (rowsOf m z) =
-            λ v i. subst⁻¹ (λ us. List·Memᴰ v us) (B .rows-are) (List·Memᴰ·tail (only-out (λ w. not (sameTri (x .right) w)) (B .more) i)) in
+        λ v i. subst⁻¹ (λ us. List·Memᴰ v us) (B .rows-are) (List·Memᴰ·tail (only-out (λ w. not (sameTri (x .right) w)) (B .more) i)) in
         let L = in-rows (subst⁻¹ (λ us. List·Memᴰ (x .left) us) (B .rows-are) (List·Memᴰ·head refl)) in
         let R = in-rows (subst⁻¹ (λ us. List·Memᴰ (x .right) us) (B .rows-are) (List·Memᴰ·tail (B .later))) in
         let L′ = in-rows (old (y .left) (subst⁻¹ (λ us. List·Memᴰ (y .left) us) (C .rows-are) (List·Memᴰ·head refl))) in
         let R′ = in-rows (old (y .right) (subst⁻¹ (λ us. List·Memᴰ (y .right) us) (C .rows-are) (List·Memᴰ·tail (C .later)))) in
         let l-is = tri-is (x .left) z (x .left .q) (x .left .r) (L .1) refl refl in
-        let r-is = tri-is (x .right) z (x .right .q) (x .left .q) (R .1) refl (B .joint) in
-        (
+        let r-is = tri-is (x .right) z (x .right .q) (x .left .q) (R .1) refl (B .joint) in (
           x .left .r,
           x .right .q,
           four (x .left .q) (y .left .q) (omega arith)
-          (first-head (holdsNode z) (m .tris) ∙ ap headOf (B .rows-are) ∙ ap some l-is)
-          (holder-is x (x .left .q) (x .right .q) (R .0) (R .1) (B .joint) refl refl)
-          (sym (ap₂ (lowestLeft m z) l-is r-is) ∙
-          ap (first (λ v. not (sameTri (x .left) v) && not (sameTri (x .right) v))) (B .rows-are) ∙
-          left-over (x .left) (x .right) (B .more) (subst RowsOnce (B .rows-are) (rows-once m z law)) ∙
-          ap headOf (C .rows-are) ∙
-          ap some (tri-is (y .left) z (y .left .q) (x .right .q) (L′ .1) refl c-is))
-          (holder-is y (y .left .q) (x .left .r) (R′ .0) (R′ .1) (C .joint) refl b-is),
+              (first-head (holdsNode z) (m .tris) ∙ ap headOf (B .rows-are) ∙ ap some l-is)
+              (holder-is x (x .left .q) (x .right .q) (R .0) (R .1) (B .joint) refl refl)
+              (sym (ap₂ (lowestLeft m z) l-is r-is) ∙
+              ap (first (λ v. not (sameTri (x .left) v) && not (sameTri (x .right) v))) (B .rows-are) ∙
+              left-over (x .left) (x .right) (B .more) (subst RowsOnce (B .rows-are) (rows-once m z law)) ∙
+              ap headOf (C .rows-are) ∙
+              ap some (tri-is (y .left) z (y .left .q) (x .right .q) (L′ .1) refl c-is))
+              (holder-is y (y .left .q) (x .left .r) (R′ .0) (R′ .1) (C .joint) refl b-is),
           refl,
         )
     lines (x ∷ y ∷ w ∷ ws) r t e l = absurd (omega arith)
@@ -179,7 +178,7 @@ module _ (m : Mesh) (z : ℕ) (law : Lawful m) where
         let R′-row = round-z (first-found (holdsArrow (arrow d z)) (m .tris) j .0) refl in
         let not-L : R′ ≢ L = λ e. H .apart (sym (ap (λ t. t .q) e)) in
         let not-R : R′ ≢ R = λ e.
-            clash (sym (sameTri-refl L) ∙ subst (λ v. sameTri L v ≡ false) (ap₂ (λ x y. tri z x y) (ap (λ t. t .r) e) (sym (ap (λ t. t .q) e))) (not-again L o L′-later)) in
+        clash (sym (sameTri-refl L) ∙ subst (λ v. sameTri L v ≡ false) (ap₂ (λ x y. tri z x y) (ap (λ t. t .r) e) (sym (ap (λ t. t .q) e))) (not-again L o L′-later)) in
         let not-L′ : R′ ≢ L′ = λ e. All-at (law .named) L′-row .q≢r (ap (λ t. t .r) e) in
         let R′-in = in-tail (subst (λ us. List·Memᴰ R′ us) (k .1) (but-in (in-tail (subst (λ us. List·Memᴰ R′ us) (H .rows-are) R′-row) not-L) not-R)) not-L′ in
         let k₀ : length (rowsOf m z) ≡ suc (length (H .more)) = ap length (H .rows-are) in
@@ -211,8 +210,7 @@ module _ (m : Mesh) (z : ℕ) (law : Lawful m) where
       let r = lines m z law (test-newest m z law t) (pairs m z) (test-matched m z law t) (test-closes m z law t) (test-count m z law t) (off-length z 2 (rowsOf m z)) in
       let b = r .0 in
       let c = r .1 in
-      let e : span m z ≡ edge b c = r .3 in
-      (
+      let e : span m z ≡ edge b c = r .3 in (
         b,
         c,
         record {

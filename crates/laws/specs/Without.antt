@@ -1,6 +1,6 @@
 -- Taking nodes that meet G1 to G4, with a pair each of its own, out of a lawful mesh leaves a lawful mesh of the same total.
 -- Assumes nothing.
-use mathlib.Core.Bool.{Bool, true, false, not, _||_}
+use mathlib.Core.Bool.{Bool, true, false, not}
 use mathlib.Core.List.{List, map, List·Memᴰ, List·Memᴰ·head, List·Memᴰ·tail}
 use mathlib.Core.Path.{_≡_, refl, sym, subst, subst⁻¹, ap, ap₂, _∙_}
 use Prim.Native.Nat.{ℕ, _+_, _≤_, _<_}
@@ -9,43 +9,20 @@ use lib.Dec.{eqb, ltb}
 use lib.IntN.{ℤ, pos, negsuc, natAbs, _+ℤ_}
 use lib.Signed.{_<ℤ_}
 use lib.ListN.{length, length-map}
-use borrow.Author.Tests.{eqb-true, eq-eqb, ne-eqb, ltb-true, ltb-false}
-use Rattle.lists.specs.Lists.{any, count, sucIf, joined, All, nil, cons}
-use Rattle.lists.specs.ListsLaw.{clash, or-left, or-right, All-imp, All-at, All-of, All-map, any-at, any-row, any-none}
+use borrow.Author.Tests.{eqb-true, eq-eqb, ltb-true, ltb-false}
+use Rattle.lists.specs.Lists.{any, count, joined, All, nil, cons}
+use Rattle.lists.specs.ListsLaw.{clash, All-imp, All-at, All-of, All-map, any-at, any-row, any-none}
 use Rattle.lists.specs.Tally.{bit, bit-le, tally, tally-le, tally-eq, tally-add, tally-zero, tally-map, tally-joined, tally-length, bits-none}
 use Rattle.meaning.specs.declared.Tri.{Tri}
 use Rattle.meaning.specs.Mesh.{Mesh, Edge, Arrow, arrow, arrows, edge, edges, origin, sameEdge, sameArrow, holdsNode, holdsEdge, at, twiceArea, sum, total}
 use Rattle.meaning.specs.Lawful.{InRange, Named, Lawful}
 use Rattle.meaning.specs.Good.{Brothers, father, pairs, span}
 use Rattle.meaning.specs.Coarsen.{fate, stays, renumber, renamed, without}
-use Rattle.laws.specs.Edges.{sameEdge-eq, sameEdge-refl, hit, hits, count-arrows, hit-no, hit-le, here, names, count-names, names-count}
+use Rattle.laws.specs.Edges.{sameEdge-eq, sameEdge-refl, hit, hits, count-arrows, hit-no, hit-le, holds-p, holds-q, holds-r, here, here-no, here-le, names, count-names, names-count}
 use Rattle.laws.specs.Stay.{renumber-lt, renumber-one, staying-length, staying-at, staying-onto, staying-all}
 use Rattle.laws.specs.Pairs.{arrows-once}
 use Rattle.laws.specs.Star.{Pair, Star, opposed, father-area, father-positive, father-named}
 use Rattle.laws.specs.CoarsenRows.{Takeable, touched, brood, newest-of, before, after, after-all, broods}
-
--- ---- nodes of rows
-
-holds-p : (t : Tri) → holdsNode (t .p) t ≡ true
-holds-p t = or-left (eqb (t .r) (t .p)) (or-left (eqb (t .q) (t .p)) (eq-eqb (t .p) (t .p) refl))
-
-holds-q : (t : Tri) → holdsNode (t .q) t ≡ true
-holds-q t = or-left (eqb (t .r) (t .q)) (or-right (eqb (t .p) (t .q)) (eq-eqb (t .q) (t .q) refl))
-
-holds-r : (t : Tri) → holdsNode (t .r) t ≡ true
-holds-r t = or-right (eqb (t .p) (t .r) || eqb (t .q) (t .r)) (eq-eqb (t .r) (t .r) refl)
-
-here-no : (z a : ℕ) → (a ≡ z → ⊥) → here z a ≡ 0
-unfolding here
-here-no z a h = ap (λ b. sucIf b 0) (ne-eqb a z h)
-
-here-le : (z y a b : ℕ) → (a ≡ z → b ≡ y) → here z a ≤ here y b
-unfolding here
-here-le z y a b f = go (eqb a z) refl
-  where
-    go : (t : Bool) → eqb a z ≡ t → sucIf t 0 ≤ sucIf (eqb b y) 0
-    go true e = rw (eq-eqb b y (f (eqb-true a z e))) (omega arith)
-    go false e = omega arith
 
 -- ---- the nodes that are left
 
@@ -91,12 +68,12 @@ sum-map f g k (cons h hs) = ap₂ _+ℤ_ h (sum-map f g k hs)
 -- ---- the rows after, with the old numbers
 
 -- a row of three nodes that stay
-pub record Sound (m : Mesh) (zs : List ℕ) (t : Tri) : Type 0 where
-  pub named : Named (length (m .nodes)) t
-  pub p-stays : stays zs (t .p) ≡ true
-  pub q-stays : stays zs (t .q) ≡ true
-  pub r-stays : stays zs (t .r) ≡ true
-  pub above : pos 0 <ℤ twiceArea m t
+record Sound (m : Mesh) (zs : List ℕ) (t : Tri) : Type 0 where
+  named : Named (length (m .nodes)) t
+  p-stays : stays zs (t .p) ≡ true
+  q-stays : stays zs (t .q) ≡ true
+  r-stays : stays zs (t .r) ≡ true
+  above : pos 0 <ℤ twiceArea m t
 
 stays-not : (zs : List ℕ) (z k : ℕ) → List·Memᴰ z zs → stays zs k ≡ true → z ≡ k → ⊥
 stays-not zs z k i s e = clash (sym s ∙ ap not (any-at (eqb k) (eq-eqb k z (sym e)) i))

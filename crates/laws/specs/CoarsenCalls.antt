@@ -22,10 +22,19 @@ use Rattle.laws.specs.Restore.{Passes, goodNodes-is, restored-is, restor
 
 -- ---- coarsen
 
+-- the nodes taken are those "that are marked and good in the mesh as given"
+abbrev pub Takes : ℕ → Mesh → List ℕ → Type 0
+Takes n0 m marks = (z : ℕ) → List·Memᴰ z (taken n0 m marks) ↔ ((z < length (m .nodes)) × (marked marks z ≡ true) × Good n0 m z)
+
+pub coarsened-takes : (n0 : ℕ) (m : Mesh) (marks : List ℕ) → Lawful m → Takes n0 m marks
+coarsened-takes n0 m marks law z = (
+  λ i. (let t = taken-is n0 m marks z .0 i in (t .0, t .1, good-is n0 m z law (t .0) .0 (t .2))),
+  λ h. taken-is n0 m marks z .1 (h .0, h .1, good-is n0 m z law (h .0) .1 (h .2)),
+)
+
 -- what a coarsen that says 0 has done
 pub record Coarsened (n0 : ℕ) (m : Mesh) (marks : List ℕ) : Type 0 where
-  -- the nodes taken are those "that are marked and good in the mesh as given"
-  pub takes : (z : ℕ) → List·Memᴰ z (taken n0 m marks) ↔ ((z < length (m .nodes)) × (marked marks z ≡ true) × Good n0 m z)
+  pub takes : Takes n0 m marks
   -- these go, and no other
   pub goes : Gone m (taken n0 m marks) (coarsened n0 m marks)
   pub keeps : Kept n0 m (coarsened n0 m marks)
@@ -34,14 +43,7 @@ pub coarsen-done : (n0 : ℕ) (m : Mesh) (marks : List ℕ) → n0 ≤ length (m
 unfolding coarsenNo
 coarsen-done n0 m marks le e =
     let law = refusal-lawful m (unless-done (marksFit (length (m .nodes)) marks) 2 _ (omega arith) e .1) in
-    record {
-      takes = λ z. (
-        λ i. (let t = taken-is n0 m marks z .0 i in (t .0, t .1, good-is n0 m z law (t .0) .0 (t .2))),
-        λ h. taken-is n0 m marks z .1 (h .0, h .1, good-is n0 m z law (h .0) .1 (h .2)),
-      );
-      goes = coarsened-gone n0 m marks law;
-      keeps = coarsened-kept n0 m marks law le;
-    }
+    record { takes = coarsened-takes n0 m marks law; goes = coarsened-gone n0 m marks law; keeps = coarsened-kept n0 m marks law le }
 
 module _ (m : Mesh) (marks : List ℕ) where
   when-fit : Fits (length (m .nodes)) marks → coarsenNo m marks ≡ refusal m

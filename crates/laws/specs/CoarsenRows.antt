@@ -1,4 +1,8 @@
 -- The rows after the nodes zs have gone, before the nodes are renumbered: the rows that hold none of them, and the fathers. Assumes nothing.
+--
+-- A row holds at most one of the nodes, as its newest vertex; so the pairs round the nodes are the rows that hold one, each once
+-- (`before`). A row that is the left one of a pair becomes the father and one that is the right one goes, so afterwards the fathers stand
+-- for the pairs (`after`). Both are sums over the rows of any number f, so that counts of arrows and nodes, and areas, follow alike.
 use mathlib.Core.Bool.{Bool, true, false, not}
 use mathlib.Core.List.{List, [], _∷_, List·Memᴰ}
 use mathlib.Core.Option.{Option}
@@ -28,7 +32,7 @@ touched zs t = any (λ z. holdsNode z t) zs
 abbrev pub brood : Mesh → List ℕ → List Brothers
 brood m zs = joined (pairs m) zs
 
--- what becomes of row t
+-- what becomes of row t: "The left row becomes" the father, "the brothers' rows go", and a row that holds none of the nodes stays
 pub data Fate (bs : List Brothers) (zs : List ℕ) (t : Tri) : List Tri → Type 0 where
   to-father : {b : Brothers} → List·Memᴰ b bs → sameTri (b .left) t ≡ true → Fate bs zs t (father b ∷ [])
   to-none : {b : Brothers} → List·Memᴰ b bs → sameTri (b .right) t ≡ true → All (λ b. sameTri (b .left) t ≡ false) bs → touched zs t ≡ true → Fate bs zs t []

@@ -52,12 +52,22 @@ left-over t u ts o =
 record Begins (ts : List Tri) (x : Brothers) (bs : List Brothers) : Type 0 where
   more : List Tri
   rows-are : ts ≡ x .left ∷ more
-  later : List·Memᴰ (x .right) more
   joint : x .right .r ≡ x .left .q
   rest : Matched (but (x .right) more) bs
+  left-in : List·Memᴰ (x .left) ts
+  right-in : List·Memᴰ (x .right) ts
+  rest-in : (v : Tri) → List·Memᴰ v (but (x .right) more) → List·Memᴰ v ts
 
 begins : {ts : List Tri} {x : Brothers} {bs : List Brothers} → Matched ts (x ∷ bs) → Begins ts x bs
-begins (pair-first {ts = ts} i j r) = record { more = ts; rows-are = refl; later = i; joint = j; rest = r }
+begins (pair-first {u = u} {ts = ts} i j r) = record {
+  more = ts;
+  rows-are = refl;
+  joint = j;
+  rest = r;
+  left-in = List·Memᴰ·head refl;
+  right-in = List·Memᴰ·tail i;
+  rest-in = λ v k. List·Memᴰ·tail (only-out (λ w. not (sameTri u w)) ts k);
+}
 
 -- ---- from the pairing to the lines
 
@@ -77,8 +87,8 @@ module _ (m : Mesh) (z : ℕ) (law : Lawful m) where
     lines [] r t e l = clash (sym t)
     lines (x ∷ []) r t e l =
         let B = begins r in
-        let L = in-rows (subst⁻¹ (λ us. List·Memᴰ (x .left) us) (B .rows-are) (List·Memᴰ·head refl)) in
-        let R = in-rows (subst⁻¹ (λ us. List·Memᴰ (x .right) us) (B .rows-are) (List·Memᴰ·tail (B .later))) in (
+        let L = in-rows (B .left-in) in
+        let R = in-rows (B .right-in) in (
           x .left .r,
           x .right .q,
           two (x .left .q) (omega arith)
@@ -92,12 +102,10 @@ module _ (m : Mesh) (z : ℕ) (law : Lawful m) where
         let b-is = eqb-true (y .right .q) (x .left .r) (and-right (eqb (y .left .r) (x .right .q)) (eqb (y .right .q) (x .left .r)) t′) in
         let B = begins r in
         let C = begins (B .rest) in
-        let old : (v : Tri) → List·Memᴰ v (but (x .right) (B .more)) → List·Memᴰ v (rowsOf m z) =
-        λ v i. subst⁻¹ (λ us. List·Memᴰ v us) (B .rows-are) (List·Memᴰ·tail (only-out (λ w. not (sameTri (x .right) w)) (B .more) i)) in
-        let L = in-rows (subst⁻¹ (λ us. List·Memᴰ (x .left) us) (B .rows-are) (List·Memᴰ·head refl)) in
-        let R = in-rows (subst⁻¹ (λ us. List·Memᴰ (x .right) us) (B .rows-are) (List·Memᴰ·tail (B .later))) in
-        let L′ = in-rows (old (y .left) (subst⁻¹ (λ us. List·Memᴰ (y .left) us) (C .rows-are) (List·Memᴰ·head refl))) in
-        let R′ = in-rows (old (y .right) (subst⁻¹ (λ us. List·Memᴰ (y .right) us) (C .rows-are) (List·Memᴰ·tail (C .later)))) in
+        let L = in-rows (B .left-in) in
+        let R = in-rows (B .right-in) in
+        let L′ = in-rows (B .rest-in (y .left) (C .left-in)) in
+        let R′ = in-rows (B .rest-in (y .right) (C .right-in)) in
         let l-is = tri-is (x .left) z (x .left .q) (x .left .r) (L .1) refl refl in
         let r-is = tri-is (x .right) z (x .right .q) (x .left .q) (R .1) refl (B .joint) in (
           x .left .r,
@@ -177,8 +185,8 @@ module _ (m : Mesh) (z : ℕ) (law : Lawful m) where
         -- (z, b, d) is none of the three
         let R′-row = round-z (first-found (holdsArrow (arrow d z)) (m .tris) j .0) refl in
         let not-L : R′ ≢ L = λ e. H .apart (sym (ap (λ t. t .q) e)) in
-        let not-R : R′ ≢ R = λ e.
-        clash (sym (sameTri-refl L) ∙ subst (λ v. sameTri L v ≡ false) (ap₂ (λ x y. tri z x y) (ap (λ t. t .r) e) (sym (ap (λ t. t .q) e))) (not-again L o L′-later)) in
+        let same-left : R′ ≡ R → L′ ≡ L = λ e. ap₂ (λ x y. tri z x y) (ap (λ t. t .r) e) (sym (ap (λ t. t .q) e)) in
+        let not-R : R′ ≢ R = λ e. clash (sym (sameTri-refl L) ∙ subst (λ v. sameTri L v ≡ false) (same-left e) (not-again L o L′-later)) in
         let not-L′ : R′ ≢ L′ = λ e. All-at (law .named) L′-row .q≢r (ap (λ t. t .r) e) in
         let R′-in = in-tail (subst (λ us. List·Memᴰ R′ us) (k .1) (but-in (in-tail (subst (λ us. List·Memᴰ R′ us) (H .rows-are) R′-row) not-L) not-R)) not-L′ in
         let k₀ : length (rowsOf m z) ≡ suc (length (H .more)) = ap length (H .rows-are) in

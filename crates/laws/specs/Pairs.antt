@@ -8,10 +8,10 @@ use mathlib.Core.Path.{_≡_, refl, sym, subst, ap, _∙_}
 use Prim.Native.Nat.{ℕ, zero, suc, _+_, _*_, _≤_}
 use native.Mathlib.Omega.{arith}
 use lib.ListN.{length}
-use borrow.Author.Tests.{eq-eqb, not-true}
+use borrow.Author.Tests.{eq-eqb}
 use Rattle.lists.specs.Lists.{only, All, nil, cons}
 use Rattle.lists.specs.ListsLaw.{clash, and-both, or-left, or-right, All-at, All-of, FirstIs, no-row, row, first-is}
-use Rattle.lists.specs.MembersLaw.{only-in, only-passes, only-keeps}
+use Rattle.lists.specs.MembersLaw.{only-in, only-keeps}
 use Rattle.lists.specs.Tally.{bit, tally, tally-le, tally-length, tally-only, tally-parts, only-le, bits-some, pick-one}
 use Rattle.meaning.specs.declared.Tri.{Tri}
 use Rattle.meaning.specs.Mesh.{Mesh, Arrow, arrow, sameArrow, sameTri, holdsArrow}
@@ -68,10 +68,6 @@ but-in {u} {v} i n = only-in (λ w. not (sameTri u w)) i (go (sameTri u v) refl)
     go : (b : Bool) → sameTri u v ≡ b → not b ≡ true
     go true e = absurd (n (sym (sameTri-eq u v e)))
     go false e = refl
-
-pub but-not : {u v : Tri} (ts : List Tri) → List·Memᴰ v (but u ts) → v ≢ u
-but-not {u} {v} ts i e =
-    clash (sym (sameTri-refl u) ∙ subst (λ w. sameTri u w ≡ false) e (not-true (sameTri u v) (All-at (only-passes (λ w. not (sameTri u w)) ts) i)))
 
 but-one : (f : Tri → ℕ) {u : Tri} {ts : List Tri} → List·Memᴰ u ts → RowsOnce ts → tally f ts ≡ f u + tally f (but u ts)
 but-one f {u} {ts} i h =

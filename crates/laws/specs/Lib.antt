@@ -13,4 +13,6 @@ pub mod CoarsenRows
 pub mod Without
 pub mod Coarsen
 pub mod Restore
-pub mod Brotherly
+pub mod Good
+pub mod Marks
+pub mod CoarsenCalls

@@ -139,7 +139,7 @@ bisected-named n n′ t m u v a f = go u v (f .u-new) (f .v-new) (f .m-u) (f .m-
 
 -- ---- arrows, corners, rows: counted
 
-bisected-arrows : (e : Arrow) (t : Tri) (m : ℕ) (u v : Option ℕ) → tally (hits e) (parts (bisected t (some m) u v)) ≤ allowed e t m u v
+bisected-arrows : (e : Arrow) (t : Tri) (m : ℕ) (u v : Option ℕ) → tally (hits e) (parts (bisected t (some m) u v)) ≤ allowed e t (some m) u v
 bisected-arrows e t m none none = omega arith
 bisected-arrows e t m (some u) none = omega arith
 bisected-arrows e t m none (some v) = omega arith

@@ -65,15 +65,20 @@ abbrev pub outer : Arrow → ℕ → ℕ → Option ℕ → ℕ
 outer e a b none = hit e a b
 outer e a b (some k) = hit e a k + hit e k b
 
--- an inner edge, both ways round; none if an end is absent
-abbrev pub seam : Arrow → Option ℕ → Option ℕ → ℕ
-seam e none l = 0
-seam e (some k) none = 0
-seam e (some k) (some l) = hit e k l + hit e l k
+-- an inner arrow k→l; none if an end is absent
+abbrev pub way : Arrow → Option ℕ → Option ℕ → ℕ
+way e none l = 0
+way e (some k) none = 0
+way e (some k) (some l) = hit e k l
 
--- the father's three arrows, and the inner edges p–m, m–u, m–v, u–v
-abbrev pub allowed : Arrow → Tri → ℕ → Option ℕ → Option ℕ → ℕ
-allowed e t m u v =
+-- an inner edge, both ways round
+abbrev pub seam : Arrow → Option ℕ → Option ℕ → ℕ
+seam e k l = way e k l + way e l k
+
+-- the father's three arrows; and the inner edges p–m, m–u, m–v, u–v, if its refinement edge is split
+abbrev pub allowed : Arrow → Tri → Option ℕ → Option ℕ → Option ℕ → ℕ
+allowed e t none u v = hits e t
+allowed e t (some m) u v =
     outer e (t .q) (t .r) (some m) + outer e (t .p) (t .q) u + outer e (t .r) (t .p) v +
     seam e (some (t .p)) (some m) + seam e (some m) u + seam e (some m) v + seam e u v
 
@@ -104,7 +109,7 @@ pub record CutLaws (c : Cutting) : Type 0 where
       All (Named n′) (parts (c t (some m) u v))
 
   -- no directed edge but those of the table, and none more often
-  pub arrows : (e : Arrow) (t : Tri) (m : ℕ) (u v : Option ℕ) → tally (hits e) (parts (c t (some m) u v)) ≤ allowed e t m u v
+  pub arrows : (e : Arrow) (t : Tri) (m : ℕ) (u v : Option ℕ) → tally (hits e) (parts (c t (some m) u v)) ≤ allowed e t (some m) u v
 
   -- no corner of the triangle is left out, and no midpoint
   pub corners : (z : ℕ) (t : Tri) (m : ℕ) (u v : Option ℕ) → names z t ≤ tally (names z) (parts (c t (some m) u v))

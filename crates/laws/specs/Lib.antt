@@ -3,3 +3,5 @@ pub mod Edges
 pub mod Closure
 pub mod Cut
 pub mod Bisected
+pub mod Midpoints
+pub mod Source

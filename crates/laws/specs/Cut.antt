@@ -4,12 +4,13 @@
 use mathlib.Core.List.{List, [], _∷_}
 use mathlib.Core.Logic.{_≢_}
 use mathlib.Core.Option.{Option, none, some}
-use mathlib.Core.Path.{_≡_}
+use mathlib.Core.Path.{_≡_, refl}
 use Prim.Native.Nat.{ℕ, suc, _+_, _≤_, _<_}
-use lib.IntN.{pos}
+use native.Mathlib.Omega.{arith}
+use lib.IntN.{pos, +ℤ-idr}
 use lib.Signed.{_<ℤ_}
 use lib.ListN.{length}
-use Rattle.lists.specs.Lists.{All}
+use Rattle.lists.specs.Lists.{All, nil, cons}
 use Rattle.lists.specs.Tally.{tally}
 use Rattle.meaning.specs.declared.Tri.{Tri}
 use Rattle.meaning.specs.Mesh.{Mesh, Arrow, at, twiceArea, sum}
@@ -114,3 +115,31 @@ pub record CutLaws (c : Cutting) : Type 0 where
   -- no corner of the triangle is left out, and no midpoint
   pub corners : (z : ℕ) (t : Tri) (m : ℕ) (u v : Option ℕ) → names z t ≤ tally (names z) (parts (c t (some m) u v))
   pub middles : (z : ℕ) (t : Tri) (m : ℕ) (u v : Option ℕ) → here z m + hereIf z u + hereIf z v ≤ tally (names z) (parts (c t (some m) u v))
+
+-- ---- the same, whatever is split
+
+module _ {c : Cutting} (laws : CutLaws c) where
+  pub cut-area : (M : Mesh) {t : Tri} {o u v : Option ℕ} → Centred M t o u v → sum (twiceArea M) (parts (c t o u v)) ≡ twiceArea M t
+  cut-area M {t} {o = none} {u} {v} h = rw (laws .whole t u v) (+ℤ-idr (twiceArea M t))
+  cut-area M {t} {o = some m} {u} {v} h = laws .area M t m u v h
+
+  pub cut-above : (M : Mesh) {t : Tri} {o u v : Option ℕ} → Centred M t o u v → pos 0 <ℤ twiceArea M t → All (λ k. pos 0 <ℤ twiceArea M k) (parts (c t o u v))
+  cut-above M {t} {o = none} {u} {v} h a = rw (laws .whole t u v) (cons a nil)
+  cut-above M {t} {o = some m} {u} {v} h a = laws .above M t m u v h a
+
+  pub cut-named : (n n′ : ℕ) → n ≤ n′ → {t : Tri} {o u v : Option ℕ} → Named n t → Fresh n n′ o u v → All (Named n′) (parts (c t o u v))
+  cut-named n n′ le {t} {o = none} {u} {v} a f = let g : Named n′ t = omega arith in rw (laws .whole t u v) (cons g nil)
+  cut-named n n′ le {t} {o = some m} {u} {v} a f = laws .named n n′ t m u v a f
+
+  pub cut-arrows : (e : Arrow) (t : Tri) (o u v : Option ℕ) → tally (hits e) (parts (c t o u v)) ≤ allowed e t o u v
+  cut-arrows e t none u v = rw (laws .whole t u v) (omega arith)
+  cut-arrows e t (some m) u v = laws .arrows e t m u v
+
+  pub cut-corners : (z : ℕ) (t : Tri) (o u v : Option ℕ) → names z t ≤ tally (names z) (parts (c t o u v))
+  cut-corners z t none u v = rw (laws .whole t u v) (omega arith)
+  cut-corners z t (some m) u v = laws .corners z t m u v
+
+  -- where no other edge is split without the refinement edge
+  pub cut-rows : (t : Tri) (o u v : Option ℕ) → (there o ≡ 0 → (there u ≡ 0) × (there v ≡ 0)) → length (c t o u v .added) ≡ there o + there u + there v
+  cut-rows t none u v h = rw (laws .whole t u v) (let g = h refl in omega arith)
+  cut-rows t (some m) u v h = let g = laws .rows t m u v in omega arith

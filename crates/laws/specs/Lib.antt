@@ -5,3 +5,4 @@ pub mod Cut
 pub mod Bisected
 pub mod Midpoints
 pub mod Source
+pub mod SplitLaw

@@ -37,6 +37,11 @@ pub or-no : (a b : Bool) → a || b ≡ false → (a ≡ false) × (b ≡ false)
 or-no true b e = clash e
 or-no false b e = (refl, e)
 
+pub both-ways : (a b : Bool) → (a ≡ true → b ≡ true) → (b ≡ true → a ≡ true) → a ≡ b
+both-ways true b f g = sym (f refl)
+both-ways false true f g = g refl
+both-ways false false f g = refl
+
 pub sucIf-le : (a b : Bool) {j k : ℕ} → (a ≡ true → b ≡ true) → j ≤ k → sucIf a j ≤ sucIf b k
 sucIf-le true true i h = omega arith
 sucIf-le true false i h = clash (sym (i refl))
@@ -131,6 +136,22 @@ module _ {A : Type 0} where
   pub where-is : (f : A → Bool) (l : List A) (d : A) → WhereIs f l d (whereFirst f l)
   where-is f [] d = nowhere nil
   where-is f (x ∷ xs) d = where-step f x xs d (f x) refl (where-is f xs d)
+
+  pub where-found : (f : A → Bool) (l : List A) (d : A) (i : ℕ) → whereFirst f l ≡ At i → (i < length l) × (f (getD l i d) ≡ true)
+  where-found f l d i e = go (whereFirst f l) e (where-is f l d)
+    where
+      go : (o : Found) → o ≡ At i → WhereIs f l d o → (i < length l) × (f (getD l i d) ≡ true)
+      go o e (nowhere h) = let z : _≡_ {A = ℕ} 0 1 = cc in absurd (omega arith)
+      go o e (place-of k h t) = let q : k ≡ i = cc in (omega arith, rw (← q) t)
+
+  pub where-none : (f : A → Bool) (l : List A) → whereFirst f l ≡ Nothing → All (λ x. f x ≡ false) l
+  where-none f [] e = nil
+  where-none f (x ∷ xs) e = go (f x) refl (whereFirst f xs) e (where-none f xs)
+    where
+      go : (b : Bool) → f x ≡ b → (o : Found) → next b o ≡ Nothing → (o ≡ Nothing → All (λ y. f y ≡ false) xs) → All (λ y. f y ≡ false) (x ∷ xs)
+      go true q o e below = let z : _≡_ {A = ℕ} 0 1 = cc in absurd (omega arith)
+      go false q Nothing e below = cons q (below refl)
+      go false q (At k) e below = let z : _≡_ {A = ℕ} 0 1 = cc in absurd (omega arith)
 
   pub All-getD : {P : A → Type 0} {l : List A} → All P l → (i : ℕ) (d : A) → i < length l → P (getD l i d)
   All-getD nil i d h = absurd (omega arith)

@@ -14,7 +14,7 @@ use Rattle.lists.specs.declared.Found.the-variants.{At, Nothing}
 use Rattle.lists.specs.Lists.{any, count, joined, whereFirst, isFound, All}
 use Rattle.lists.specs.Search.{lowest}
 use Rattle.meaning.specs.declared.Fault.{Fault}
-use Rattle.meaning.specs.Mesh.{Place, Tri, Mesh, Arrow, Edge, tri, arrows, base, sameArrow, sameEdge, holdsNode, holdsArrow, holdsEdge, twiceArea}
+use Rattle.meaning.specs.Mesh.{Place, Tri, Mesh, Arrow, Edge, tri, arrows, base, sameArrow, sameEdge, holdsNode, holdsArrow, holdsEdge, at, twiceArea}
 
 -- ---- as facts
 
@@ -45,6 +45,28 @@ pub record Lawful (m : Mesh) : Type 0 where
   -- not 7: "a node below n is in no triangle"
   pub used : (z : ℕ) → z < length (m .nodes) → 1 ≤ count (holdsNode z) (m .tris)
 
+-- the row i
+abbrev pub rowOf : List Tri → ℕ → Tri
+rowOf ts i = getD ts i (tri 0 0 0)
+
+-- when each of 3 to 7 applies, line by line
+pub data Applies (m : Mesh) : ℕ → Type 0 where
+  -- 3 "a coordinate of a node below n is outside its range"
+  out-of-range : (k : ℕ) → k < length (m .nodes) → ¬ InRange (at m k) → Applies m 3
+  -- 4 "a triangle names a node ≥ n, or one node twice"
+  misnames : (i : ℕ) → i < length (m .tris) → ¬ Named (length (m .nodes)) (rowOf (m .tris) i) → Applies m 4
+  -- 5 "a directed edge occurs twice"
+  occurs-twice : (e : Arrow) → 2 ≤ count (sameArrow e) (joined arrows (m .tris)) → Applies m 5
+  -- 6 "a triangle's twice-area is not above 0"
+  not-above : (i : ℕ) → i < length (m .tris) → ¬ (pos 0 <ℤ twiceArea m (rowOf (m .tris) i)) → Applies m 6
+  -- 7 "a node below n is in no triangle"
+  in-none : (z : ℕ) → z < length (m .nodes) → count (holdsNode z) (m .tris) ≡ 0 → Applies m 7
+
+-- "The lowest number that applies is given, and none is given otherwise" (0: none)
+pub record Lowest (m : Mesh) (k : ℕ) : Type 0 where
+  pub applies : 0 < k → Applies m k
+  pub no-lower : (j : ℕ) → Applies m j → (0 < k) × (k ≤ j)
+
 -- "Compatible: wherever another triangle holds a triangle's refinement edge, it is that one's refinement edge too."
 abbrev pub Compatible : Mesh → Type 0
 Compatible m = All (λ t. All (λ u. holdsEdge (base t) u ≡ true → base t ≡ base u) (m .tris)) (m .tris)
@@ -61,10 +83,6 @@ outside a = far (a .x) || far (a .y)
 -- 4
 abbrev pub misnamed : ℕ → Tri → Bool
 misnamed n t = leb n (t .p) || leb n (t .q) || leb n (t .r) || eqb (t .p) (t .q) || eqb (t .q) (t .r) || eqb (t .r) (t .p)
-
--- the row i
-abbrev pub rowOf : List Tri → ℕ → Tri
-rowOf ts i = getD ts i (tri 0 0 0)
 
 -- 5: row i has a directed edge that a lower row already has
 abbrev pub repeats : List Tri → ℕ → Bool

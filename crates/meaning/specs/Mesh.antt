@@ -6,10 +6,8 @@ use lib.Dec.{eqb}
 use lib.IntN.{ℤ, pos, _+ℤ_, _-ℤ_, _*ℤ_}
 use lib.ListN.{length, getD}
 use Rattle.lists.specs.Lists.{any}
-
 -- "A node is a place (x, y)."
 pub use Rattle.meaning.specs.declared.Place.{Place}
-
 -- "A triangle is three .. node numbers (p, q, r), counted from 0. The first, p, is its newest vertex"
 pub use Rattle.meaning.specs.declared.Tri.{Tri}
 

@@ -1,0 +1,4 @@
+-- Demand 3: what refining and coarsening make of a compatibly labelled base goes back to the base.
+pub mod Labels
+pub mod Rows
+pub mod GrownFrom

@@ -9,6 +9,8 @@ pub mod Bisected
 pub mod Midpoints
 pub mod Source
 pub mod SplitLaw
+pub mod Marks
+pub mod Refine
 pub mod Stay
 pub mod Pairs
 pub mod Star

@@ -93,25 +93,19 @@ hereIf z (some k) = here z k
 pub record CutLaws (c : Cutting) : Type 0 where
   -- a triangle whose refinement edge is not split stays
   pub whole : (t : Tri) (u v : Option ℕ) → c t none u v ≡ cut t []
-
   -- as many rows are added as edges are split
   pub rows : (t : Tri) (m : ℕ) (u v : Option ℕ) → length (c t (some m) u v .added) ≡ suc (there u + there v)
-
   -- the rows have the triangle's twice-area between them
   pub area : (M : Mesh) (t : Tri) (m : ℕ) (u v : Option ℕ) → Centred M t (some m) u v →
       sum (twiceArea M) (parts (c t (some m) u v)) ≡ twiceArea M t
-
   -- each above 0, if the triangle's is
   pub above : (M : Mesh) (t : Tri) (m : ℕ) (u v : Option ℕ) → Centred M t (some m) u v → pos 0 <ℤ twiceArea M t →
       All (λ k. pos 0 <ℤ twiceArea M k) (parts (c t (some m) u v))
-
   -- each names three nodes
   pub named : (n n′ : ℕ) (t : Tri) (m : ℕ) (u v : Option ℕ) → Named n t → Fresh n n′ (some m) u v →
       All (Named n′) (parts (c t (some m) u v))
-
   -- no directed edge but those of the table, and none more often
   pub arrows : (e : Arrow) (t : Tri) (m : ℕ) (u v : Option ℕ) → tally (hits e) (parts (c t (some m) u v)) ≤ allowed e t (some m) u v
-
   -- no corner of the triangle is left out, and no midpoint
   pub corners : (z : ℕ) (t : Tri) (m : ℕ) (u v : Option ℕ) → names z t ≤ tally (names z) (parts (c t (some m) u v))
   pub middles : (z : ℕ) (t : Tri) (m : ℕ) (u v : Option ℕ) → here z m + hereIf z u + hereIf z v ≤ tally (names z) (parts (c t (some m) u v))

@@ -1,22 +1,21 @@
 -- The nodes of a split mesh: the old ones stay where they are; a new one's number tells the edge it halves, and its place is the exact
 -- midpoint. Assumes nothing.
-use mathlib.Core.Bool.{Bool, true, false}
-use mathlib.Core.List.{List, [], _∷_, _++_, map}
+use mathlib.Core.Bool.{true}
+use mathlib.Core.List.{List, [], _∷_, map}
 use mathlib.Core.Logic.{_≢_}
 use mathlib.Core.Option.{Option, none, some}
 use mathlib.Core.Path.{_≡_, refl, sym, subst⁻¹, ap, _∙_}
 use Prim.Native.Nat.{ℕ, zero, suc, min, max, _+_, _-_, _%_, _≤_, _<_}
 use native.Mathlib.Omega.{arith}
-use lib.IntN.{ℤ, pos, natAbs, _+ℤ_, _*ℤ_}
+use lib.IntN.{ℤ, pos, natAbs, _+ℤ_}
 use lib.ListN.{length, getD, length-append, length-map, List·getD-append}
 use lib.Seq.{getD-append-add}
 use borrow.Author.Tests.{eqb-true}
-use Rattle.whole.specs.Ring.{Expr, K, _:+_, _:*_, ring1}
+use Rattle.whole.specs.Ring.{K, _:+_, _:*_, ring1}
 use Rattle.whole.specs.Half.{half-even}
 use Rattle.lists.specs.declared.Found.{Found}
 use Rattle.lists.specs.Lists.{All}
 use Rattle.lists.specs.ListsLaw.{and-left, and-right, All-getD, WhereIs, nowhere, place-of, where-is}
-use Rattle.meaning.specs.declared.Place.{Place}
 use Rattle.meaning.specs.declared.Tri.{Tri}
 use Rattle.meaning.specs.Mesh.{Mesh, Edge, edge, sameEdge, origin, at}
 use Rattle.meaning.specs.Lawful.{Named}

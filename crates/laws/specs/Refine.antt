@@ -4,24 +4,24 @@
 use mathlib.Core.Bool.{Bool, true, false, _&&_}
 use mathlib.Core.List.{List, [], _∷_, List·Memᴰ, List·Memᴰ·head, List·Memᴰ·tail}
 use mathlib.Core.Logic.{_↔_}
-use mathlib.Core.Path.{_≡_, refl, sym, subst, ap, _∙_}
+use mathlib.Core.Path.{_≡_, refl, sym, subst, _∙_}
 use Prim.Native.Nat.{ℕ, zero, suc, _+_, _%_, _≤_, _<_}
 use native.Mathlib.Omega.{arith}
 use lib.Dec.{eqb, leb}
 use lib.IntN.{natAbs, _+ℤ_}
 use lib.ListN.{length, getD}
-use borrow.Author.Tests.{eqb-true, eqb-false, eq-eqb, ne-eqb, leb-true, leb-false, le-leb, lt-leb}
-use Rattle.lists.specs.Lists.{all, any, count, All, nil, cons}
+use borrow.Author.Tests.{eqb-true, eqb-false, leb-true, leb-false, le-leb}
+use Rattle.lists.specs.Lists.{all, count, All, nil, cons}
 use Rattle.lists.specs.ListsLaw.{clash, and-both, and-left, and-right, All-imp, All-at, All-getD, all-yes, yes-all}
 use Rattle.lists.specs.Tally.{tally}
 use Rattle.meaning.specs.declared.Tri.{Tri}
 use Rattle.meaning.specs.Mesh.{Mesh, Edge, edges, at, total}
 use Rattle.meaning.specs.Lawful.{Lawful, Applies, out-of-range, misnames, occurs-twice, not-above, in-none, Lowest, refusal}
 use Rattle.meaning.specs.Good.{Middle}
-use Rattle.meaning.specs.Split.{Closed, memEdge, Way, newest, even, halves, splitEdges, started, split, refined}
+use Rattle.meaning.specs.Split.{Closed, memEdge, Way, newest, even, halves, splitEdges, started, refined}
 use Rattle.meaning.specs.Tables.{Room}
 use Rattle.meaning.specs.Calls.{unless, orElse, marksFit, fits, refineNo}
-use Rattle.laws.specs.Lawful.{refusal-lowest, refusal-lawful, lawful-refusal, refusal-exact}
+use Rattle.laws.specs.Lawful.{refusal-lawful, lawful-refusal, refusal-exact}
 use Rattle.laws.specs.Marks.{WellMarked, marks-exact}
 use Rattle.laws.specs.Closure.{Apart, splitEdges-closed, splitEdges-least, splitEdges-apart, started-edges}
 use Rattle.laws.specs.Cut.{CutLaws}

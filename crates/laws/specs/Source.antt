@@ -26,7 +26,7 @@ use Rattle.meaning.specs.Mesh.{Edge, Arrow, edge, arrow, sameArrow, turn}
 use Rattle.meaning.specs.Lawful.{Named}
 use Rattle.laws.specs.Area.{turn-cycle, turn-mirror}
 use Rattle.laws.specs.Edges.{edge-comm, hit, hits, hit-no, hit-le, arrow-eq}
-use Rattle.laws.specs.Cut.{outer, way, seam, allowed, Differ}
+use Rattle.laws.specs.Cut.{outer, way, seam, allowed}
 use Rattle.laws.specs.Midpoints.{Number, Numbered, edges-differ}
 
 -- ---- edges and their ends

@@ -4,17 +4,16 @@ use mathlib.Core.Bool.{Bool, true, false}
 use mathlib.Core.List.{List, [], _∷_, _++_, map, List·Memᴰ, List·Memᴰ·head, List·Memᴰ·tail}
 use mathlib.Core.Option.{Option, none, some}
 use mathlib.Core.Path.{_≡_, refl, sym, subst, subst⁻¹, ap, ap₂, _∙_}
-use Prim.Native.Nat.{ℕ, zero, suc, min, max, _+_, _-_, _*_, _≤_, _<_}
+use Prim.Native.Nat.{ℕ, min, max, _+_, _-_, _≤_, _<_}
 use native.Mathlib.Omega.{arith}
 use lib.Dec.{ltb}
 use lib.IntN.{ℤ, pos, _+ℤ_, +ℤ-assoc, +ℤ-idl}
 use lib.Signed.{_<ℤ_}
 use lib.ListN.{length, getD}
 use borrow.Author.Tests.{ltb-true, ltb-false}
-use Rattle.whole.specs.Ring.{Expr, _:+_, ring4}
+use Rattle.whole.specs.Ring.{_:+_, ring4}
 use Rattle.lists.specs.declared.Found.{Found}
-use Rattle.lists.specs.declared.Found.the-variants.{At, Nothing}
-use Rattle.lists.specs.Lists.{all, any, count, whereFirst, joined, All, nil, cons}
+use Rattle.lists.specs.Lists.{all, any, count, joined, All, nil, cons}
 use Rattle.lists.specs.ListsLaw.{clash, All·head, All·tail, All-imp, All-both, All-append, All-at, All-of, All-map, All-joined, All-getD, all-yes, any-at, any-row, WhereIs, nowhere, place-of, where-is}
 use Rattle.lists.specs.MembersLaw.{at-mem}
 use Rattle.lists.specs.Tally.{bit, tally, tally-append, tally-add, tally-le, tally-eq, tally-at, tally-length, tally-map, tally-joined, count-tally}
@@ -23,8 +22,8 @@ use Rattle.meaning.specs.Mesh.{Mesh, Edge, Arrow, edge, edges, base, sameEdge, 
 use Rattle.meaning.specs.Lawful.{Lawful, InRange, Named}
 use Rattle.meaning.specs.Split.{Cut, Cutting, plus, numberOf, memEdge, halves, midpoint, cutOf, closure, splitEdges, splitAt, split}
 use Rattle.laws.specs.Area.{middle-near}
-use Rattle.laws.specs.Edges.{memEdge-in, hits, count-arrows, here, here-self, names, count-names, names-count}
-use Rattle.laws.specs.Closure.{EdgeOf, splitEdges-within, splitEdges-apart, splitEdges-pull, splitEdges-exactly}
+use Rattle.laws.specs.Edges.{memEdge-in, hits, count-arrows, here-self, names, count-names, names-count}
+use Rattle.laws.specs.Closure.{EdgeOf, splitEdges-within, splitEdges-apart, splitEdges-pull}
 use Rattle.laws.specs.Cut.{parts, there, hereIf, CutLaws, cut-area, cut-above, cut-named, cut-arrows, cut-corners, cut-rows}
 use Rattle.laws.specs.Midpoints.{edgeAt, numbered, fresh, midpoint-middle, splitAt-nodes, at-old, at-new, centred}
 use Rattle.laws.specs.Source.{source, allowed-source}

@@ -15,7 +15,7 @@ use Rattle.meaning.specs.Coarsen.{marked, taken, coarsened, restored}
 use Rattle.meaning.specs.Calls.{unless, marksFit, coarsenNo}
 use Rattle.laws.specs.Lawful.{refusal-lawful, refusal-exact, lawful-exact, applies-from-3}
 use Rattle.laws.specs.Numbers.{unless-done}
-use Rattle.laws.specs.Marks.{Fits, marks-fit, marks-unfit}
+use Rattle.laws.specs.Marks.{WellMarked, marks-exact, marks-unfit}
 use Rattle.laws.specs.Good.{good-is}
 use Rattle.laws.specs.Coarsen.{Kept, Gone, taken-is, coarsened-gone, coarsened-kept}
 use Rattle.laws.specs.Restore.{Passes, goodNodes-is, restored-is, restored-ends, restored-kept, restored-passes}
@@ -46,26 +46,26 @@ coarsen-done n0 m marks le e =
     record { takes = coarsened-takes n0 m marks law; goes = coarsened-gone n0 m marks law; keeps = coarsened-kept n0 m marks law le }
 
 module _ (m : Mesh) (marks : List ℕ) where
-  when-fit : Fits (length (m .nodes)) marks → coarsenNo m marks ≡ refusal m
+  when-fit : WellMarked (length (m .nodes)) marks → coarsenNo m marks ≡ refusal m
   unfolding coarsenNo
-  when-fit h = rw (marks-fit (length (m .nodes)) marks .1 h)
+  when-fit h = rw (marks-exact (length (m .nodes)) marks .1 h)
 
   -- 2 or not: the rest of the table is refused as by the base check's 3 to 7
-  fits-or-2 : (k : ℕ) → k ≢ 2 → coarsenNo m marks ≡ k → Fits (length (m .nodes)) marks × (refusal m ≡ k)
+  fits-or-2 : (k : ℕ) → k ≢ 2 → coarsenNo m marks ≡ k → WellMarked (length (m .nodes)) marks × (refusal m ≡ k)
   unfolding coarsenNo
   fits-or-2 k ne e = go (marksFit (length (m .nodes)) marks) refl e
     where
-      go : (b : Bool) → marksFit (length (m .nodes)) marks ≡ b → unless b 2 (refusal m) ≡ k → Fits (length (m .nodes)) marks × (refusal m ≡ k)
-      go true q e = (marks-fit (length (m .nodes)) marks .0 q, e)
+      go : (b : Bool) → marksFit (length (m .nodes)) marks ≡ b → unless b 2 (refusal m) ≡ k → WellMarked (length (m .nodes)) marks × (refusal m ≡ k)
+      go true q e = (marks-exact (length (m .nodes)) marks .0 q, e)
       go false q e = absurd (ne (sym e))
 
-  pub coarsen-0 : (coarsenNo m marks ≡ 0) ↔ (Fits (length (m .nodes)) marks × Lawful m)
+  pub coarsen-0 : (coarsenNo m marks ≡ 0) ↔ (WellMarked (length (m .nodes)) marks × Lawful m)
   coarsen-0 = (
     λ e. (let r = fits-or-2 0 (λ w. omega arith) e in (r .0, refusal-lawful m (r .1))),
     λ h. when-fit (h .0) ∙ lawful-exact m .1 (h .1),
   )
 
-  pub coarsen-2 : (coarsenNo m marks ≡ 2) ↔ (¬ Fits (length (m .nodes)) marks)
+  pub coarsen-2 : (coarsenNo m marks ≡ 2) ↔ (¬ WellMarked (length (m .nodes)) marks)
   unfolding coarsenNo
   coarsen-2 = (
     λ e h. (let a = applies-from-3 m 2 (sym (when-fit h) ∙ e) (omega arith) in omega arith),
@@ -73,7 +73,7 @@ module _ (m : Mesh) (marks : List ℕ) where
   )
 
   -- 3 to 7
-  pub coarsen-lowest : (k : ℕ) → 2 < k → (coarsenNo m marks ≡ k) ↔ (Fits (length (m .nodes)) marks × Lowest m k)
+  pub coarsen-lowest : (k : ℕ) → 2 < k → (coarsenNo m marks ≡ k) ↔ (WellMarked (length (m .nodes)) marks × Lowest m k)
   coarsen-lowest k l = (
     λ e. (let r = fits-or-2 k (λ w. omega arith) e in (r .0, refusal-exact m k .0 (r .1))),
     λ h. when-fit (h .0) ∙ refusal-exact m k .1 (h .1),

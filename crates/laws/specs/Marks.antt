@@ -12,28 +12,28 @@ use Rattle.lists.specs.ListsLaw.{clash, and-both, and-left, and-right, All-imp,
 use Rattle.meaning.specs.Calls.{marksFit}
 
 -- a byte for each of k triangles or nodes, 0 or 1
-pub record Fits (k : ℕ) (marks : List ℕ) : Type 0 where
-  pub one-each : length marks ≡ k
-  pub at-most-1 : All (λ b. b ≤ 1) marks
+pub record WellMarked (k : ℕ) (marks : List ℕ) : Type 0 where
+  pub as-many : length marks ≡ k
+  pub zero-or-one : All (λ b. b ≤ 1) marks
 
-pub marks-fit : (k : ℕ) (marks : List ℕ) → (marksFit k marks ≡ true) ↔ Fits k marks
-marks-fit k marks = (there, back)
+pub marks-exact : (k : ℕ) (marks : List ℕ) → (marksFit k marks ≡ true) ↔ WellMarked k marks
+marks-exact k marks = (there, back)
   where
     bytes : Bool
     bytes = all (λ b. leb b 1) marks
 
-    there : marksFit k marks ≡ true → Fits k marks
+    there : marksFit k marks ≡ true → WellMarked k marks
     there e = record {
-      one-each = eqb-true (length marks) k (and-left (eqb (length marks) k) bytes e);
-      at-most-1 = All-imp (λ b h. leb-true b 1 h) (all-yes (λ b. leb b 1) marks (and-right (eqb (length marks) k) bytes e));
+      as-many = eqb-true (length marks) k (and-left (eqb (length marks) k) bytes e);
+      zero-or-one = All-imp (λ b h. leb-true b 1 h) (all-yes (λ b. leb b 1) marks (and-right (eqb (length marks) k) bytes e));
     }
 
-    back : Fits k marks → marksFit k marks ≡ true
-    back h = and-both (eq-eqb (length marks) k (h .one-each)) (yes-all (All-imp (λ b l. le-leb b 1 l) (h .at-most-1)))
+    back : WellMarked k marks → marksFit k marks ≡ true
+    back h = and-both (eq-eqb (length marks) k (h .as-many)) (yes-all (All-imp (λ b l. le-leb b 1 l) (h .zero-or-one)))
 
-pub marks-unfit : (k : ℕ) (marks : List ℕ) → (marksFit k marks ≡ false) ↔ (¬ Fits k marks)
-marks-unfit k marks = (λ e h. clash (sym (marks-fit k marks .1 h) ∙ e), λ n. go (marksFit k marks) refl n)
+pub marks-unfit : (k : ℕ) (marks : List ℕ) → (marksFit k marks ≡ false) ↔ (¬ WellMarked k marks)
+marks-unfit k marks = (λ e h. clash (sym (marks-exact k marks .1 h) ∙ e), λ n. go (marksFit k marks) refl n)
   where
-    go : (b : Bool) → marksFit k marks ≡ b → (¬ Fits k marks) → b ≡ false
-    go true e n = absurd (n (marks-fit k marks .0 e))
+    go : (b : Bool) → marksFit k marks ≡ b → (¬ WellMarked k marks) → b ≡ false
+    go true e n = absurd (n (marks-exact k marks .0 e))
     go false e n = refl

@@ -2,3 +2,4 @@
 pub mod Labels
 pub mod Rows
 pub mod GrownFrom
+pub mod Goodness

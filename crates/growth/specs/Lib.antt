@@ -3,3 +3,4 @@ pub mod Labels
 pub mod Rows
 pub mod GrownFrom
 pub mod Goodness
+pub mod Coarsening

@@ -1,13 +1,13 @@
 -- Laws of edges, arrows and rows that are told apart by tests, and of their counts over rows. Assumes nothing.
 use mathlib.Core.Bool.{Bool, true, false, _&&_, _||_}
 use mathlib.Core.List.{List, [], _∷_, _++_, map, List·Memᴰ}
-use mathlib.Core.Path.{_≡_, refl, sym, subst⁻¹, ap, _∙_}
+use mathlib.Core.Path.{_≡_, refl, sym, subst, subst⁻¹, ap, _∙_}
 use Prim.Native.Nat.{ℕ, zero, suc, min, max, _+_, _*_, _≤_}
 use native.Mathlib.Omega.{arith}
 use lib.Dec.{eqb}
 use borrow.Author.Tests.{eqb-true, eq-eqb}
 use Rattle.lists.specs.Lists.{any, count, sucIf, joined, All}
-use Rattle.lists.specs.ListsLaw.{and-both, and-left, and-right, All-at, any-at, any-row}
+use Rattle.lists.specs.ListsLaw.{and-both, and-left, and-right, both-ways, All-at, any-at, any-row}
 use Rattle.lists.specs.Tally.{tally, tally-append}
 use Rattle.meaning.specs.declared.Tri.{Tri}
 use Rattle.meaning.specs.Mesh.{Edge, Arrow, edge, arrow, arrows, sameEdge, sameArrow, sameTri, holdsNode}
@@ -53,6 +53,12 @@ sameTri-eq t u e =
 
 pub sameTri-refl : (t : Tri) → sameTri t t ≡ true
 sameTri-refl t = and-both (and-both (eq-eqb (t .p) (t .p) refl) (eq-eqb (t .q) (t .q) refl)) (eq-eqb (t .r) (t .r) refl)
+
+pub sameTri-comm : (t u : Tri) → sameTri t u ≡ sameTri u t
+sameTri-comm t u = both-ways (sameTri t u) (sameTri u t) (yes-back t u) (yes-back u t)
+  where
+    yes-back : (t u : Tri) → sameTri t u ≡ true → sameTri u t ≡ true
+    yes-back t u e = subst (λ v. sameTri v t ≡ true) (sameTri-eq t u e) (sameTri-refl t)
 
 -- ---- arrows
 

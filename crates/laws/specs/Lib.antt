@@ -3,3 +3,14 @@ pub mod Edges
 pub mod Lawful
 pub mod Numbers
 pub mod Check
+pub mod Closure
+pub mod Cut
+pub mod Bisected
+pub mod Stay
+pub mod Pairs
+pub mod Star
+pub mod CoarsenRows
+pub mod Without
+pub mod Coarsen
+pub mod Restore
+pub mod Brotherly

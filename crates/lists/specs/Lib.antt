@@ -4,3 +4,5 @@ pub mod MembersLaw
 pub mod Tally
 pub mod Search
 pub mod SearchLaw
+pub mod IterLaw
+pub mod FillLaw

@@ -37,6 +37,11 @@ pub or-no : (a b : Bool) → a || b ≡ false → (a ≡ false) × (b ≡ false)
 or-no true b e = clash e
 or-no false b e = (refl, e)
 
+pub both-ways : (a b : Bool) → (a ≡ true → b ≡ true) → (b ≡ true → a ≡ true) → a ≡ b
+both-ways true b f g = sym (f refl)
+both-ways false true f g = g refl
+both-ways false false f g = refl
+
 pub sucIf-le : (a b : Bool) {j k : ℕ} → (a ≡ true → b ≡ true) → j ≤ k → sucIf a j ≤ sucIf b k
 sucIf-le true true i h = omega arith
 sucIf-le true false i h = clash (sym (i refl))

@@ -9,7 +9,7 @@ use lib.Dec.{eqb}
 use lib.ListN.{length, getD}
 use borrow.Author.Tests.{eqb-true, eqb-false}
 use Rattle.lists.specs.Lists.{any, only, once, consIf, sucIf, count, joined, upTo, All, nil, cons}
-use Rattle.lists.specs.ListsLaw.{clash, All-append, All-imp}
+use Rattle.lists.specs.ListsLaw.{clash, All-append, All-imp, All-at, All-of, count-append}
 
 module _ {A : Type 0} where
   pub only-in : (f : A → Bool) {x : A} {l : List A} → List·Memᴰ x l → f x ≡ true → List·Memᴰ x (only f l)
@@ -36,6 +36,9 @@ module _ {A : Type 0} where
       go true r = cons p r
       go false r = r
 
+  pub only-out : (f : A → Bool) {x : A} (l : List A) → List·Memᴰ x (only f l) → List·Memᴰ x l
+  only-out f l i = All-at (only-keeps f (All-of l (λ y j. j))) i
+
   pub only-cong : (f g : A → Bool) {l : List A} → All (λ x. f x ≡ g x) l → only f l ≡ only g l
   only-cong f g nil = refl
   only-cong f g (cons {x = x} {xs = xs} e h) = ap₂ (λ b l. consIf b x l) e (only-cong f g h)
@@ -54,6 +57,16 @@ module _ {A : Type 0} where
   at-mem [] j d h = absurd (omega arith)
   at-mem (x ∷ xs) zero d h = List·Memᴰ·head refl
   at-mem (x ∷ xs) (suc j) d h = List·Memᴰ·tail (at-mem xs j d (omega arith))
+
+  -- ---- none passes
+
+  pub none-any : (f : A → Bool) {l : List A} → All (λ x. f x ≡ false) l → any f l ≡ false
+  none-any f nil = refl
+  none-any f (cons h hs) = rw (h, none-any f hs)
+
+  pub none-count : (f : A → Bool) {l : List A} → All (λ x. f x ≡ false) l → count f l ≡ 0
+  none-count f nil = refl
+  none-count f (cons h hs) = rw (h, none-count f hs)
 
   -- ---- a count above 0 has a member
 
@@ -91,3 +104,19 @@ upTo-in {z} (suc n) h = go (eqb z n) refl (upTo-in n)
     go : (b : Bool) → eqb z n ≡ b → (z < n → List·Memᴰ z (upTo n)) → List·Memᴰ z (upTo n ++ (n ∷ []))
     go true e below = Memᴰ·append-right (upTo n) (List·Memᴰ·head (eqb-true z n e))
     go false e below = let ne : z ≢ n = eqb-false z n e in Memᴰ·append-left (n ∷ []) (below (omega arith))
+
+-- a test that one number alone can pass
+pub upTo-once : (f : ℕ → Bool) (k : ℕ) → ((j : ℕ) → f j ≡ true → j ≡ k) → (n : ℕ) → count f (upTo n) ≤ 1
+upTo-once f k h zero = omega arith
+upTo-once f k h (suc n) = let a = count-append f (upTo n) (n ∷ []) in go (f n) refl a (upTo-once f k h n)
+  where
+    none-below : f n ≡ true → count f (upTo n) ≡ 0
+    none-below e = none-count f (All-imp (λ j l. off j l (f j) refl) (upTo-below n))
+      where
+        off : (j : ℕ) → j < n → (b : Bool) → f j ≡ b → b ≡ false
+        off j l true w = let p = h j w in let q = h n e in absurd (omega arith)
+        off j l false w = refl
+
+    go : (b : Bool) → f n ≡ b → count f (upTo n ++ (n ∷ [])) ≡ count f (upTo n) + sucIf b 0 → count f (upTo n) ≤ 1 → count f (upTo n ++ (n ∷ [])) ≤ 1
+    go true e a below = let b = none-below e in omega arith
+    go false e a below = omega arith

@@ -9,3 +9,4 @@ pub mod Calls
 pub mod HandCase
 pub mod HandMeshes
 pub mod OwnMeshes
+pub mod HandTables

@@ -66,6 +66,29 @@ strip = mesh (at 0 0 ∷ at 8 0 ∷ at 0 8 ∷ at 8 8 ∷ at 4 0 ∷ at 4 8 ∷ 
 abbrev stripped : Mesh
 stripped = mesh (at 0 0 ∷ at 8 0 ∷ at 0 8 ∷ at 8 8 ∷ at 4 0 ∷ []) (tri 4 2 0 ∷ tri 1 3 2 ∷ tri 4 1 2 ∷ [])
 
+-- ---- the four cuts, father by father
+
+abbrev wings : List Place
+wings = at 0 0 ∷ at 16 0 ∷ at 0 16 ∷ place (pos 8) (negsuc 7) ∷ place (negsuc 7) (pos 8) ∷ []
+
+-- row 0 with a neighbour on p–q and one on r–p, each with that side as its refinement edge
+abbrev winged : Mesh
+winged = mesh wings (tri 0 1 2 ∷ tri 3 1 0 ∷ tri 4 0 2 ∷ [])
+
+abbrev cut-m : Mesh
+cut-m = mesh (wings ++ at 8 8 ∷ []) (tri 5 0 1 ∷ tri 3 1 0 ∷ tri 4 0 2 ∷ tri 5 2 0 ∷ [])
+
+abbrev cut-mu : Mesh
+cut-mu = mesh (wings ++ at 8 8 ∷ at 8 0 ∷ []) (tri 6 5 0 ∷ tri 6 3 1 ∷ tri 4 0 2 ∷ tri 5 2 0 ∷ tri 6 1 5 ∷ tri 6 0 3 ∷ [])
+
+abbrev cut-mv : Mesh
+cut-mv = mesh (wings ++ at 8 8 ∷ at 0 8 ∷ []) (tri 5 0 1 ∷ tri 3 1 0 ∷ tri 6 4 0 ∷ tri 6 5 2 ∷ tri 6 0 5 ∷ tri 6 2 4 ∷ [])
+
+abbrev cut-all : Mesh
+cut-all =
+    mesh (wings ++ at 8 8 ∷ at 8 0 ∷ at 0 8 ∷ [])
+    (tri 6 5 0 ∷ tri 6 3 1 ∷ tri 7 4 0 ∷ tri 7 5 2 ∷ tri 6 1 5 ∷ tri 7 0 5 ∷ tri 6 0 3 ∷ tri 7 2 4 ∷ [])
+
 -- ---- drawing one number
 
 abbrev named : ℕ → ℕ → ℕ → Mesh
@@ -89,6 +112,12 @@ ownCases =
     case 3 across (refine (1 ∷ [])) (says 0 crossed 0 16) ∷
     case 3 (reaching 1_048_576) check (says 0 (reaching 1_048_576) 0 1_048_576) ∷
     case 3 (reaching 1_048_577) check (says 3 (reaching 1_048_577) 0 1_048_577) ∷
+    -- the four cuts
+    case 5 winged (refine (1 ∷ 0 ∷ 0 ∷ [])) (says 0 cut-m 0 512) ∷
+    case 5 winged (refine (0 ∷ 1 ∷ 0 ∷ [])) (says 0 cut-mu 0 512) ∷
+    case 5 winged (refine (0 ∷ 0 ∷ 1 ∷ [])) (says 0 cut-mv 0 512) ∷
+    case 5 winged (refine (0 ∷ 1 ∷ 1 ∷ [])) (says 0 cut-all 0 512) ∷
+    case 5 cut-all restore (says 0 winged 2 512) ∷
     -- G1 to G5 and n0
     case 4 older restore (says 0 older 0 48) ∷
     case 4 five restore (says 0 five 0 96) ∷

@@ -20,6 +20,13 @@ pub struct Tri {
     pub r: u32,
 }
 
+// The numbers of the new nodes of one triangle: m on q-r, u on p-q, v on r-p; 0 where the edge is not split.
+pub struct Mids {
+    pub m: u32,
+    pub u: u32,
+    pub v: u32,
+}
+
 // What stands in the way of a mesh: the number of a refusal, with the lowest node or row at fault. 0 at 0: nothing does.
 pub struct Fault {
     pub number: u32,

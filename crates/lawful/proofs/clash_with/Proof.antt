@@ -1,0 +1,12 @@
+use Rattle.lawful.specs.Tests.{clashWith}
+use borrow.Author.Needs.{needs}
+use Rattle.lawful.proofs.clash_with.Statement.{statement}
+use Rattle.lawful.proofs.clash_with.Tie as tie
+
+returns : tie.Need-returns
+unfolding clashWith
+returns c = search needs
+
+pub clash-with-spec : {M : Type 1} → statement M
+clash-with-spec = tie.close (tie.spec
+    returns)

@@ -1,0 +1,34 @@
+use mathlib.Core.Path.{_≡_}
+use Prim.Native.Nat.{_≤_, _-_}
+use Rattle.lists.specs.Search.{lowest}
+use Rattle.lists.specs.SearchLaw.{searching}
+use Rattle.lawful.specs.Tests.{flatAt}
+use Rattle.lawful.specs.TestsLaw.{named-at}
+use borrow.Author.Needs.{needs}
+use Rattle.lawful.proofs.first_flat.Statement.{statement}
+use Rattle.lawful.proofs.first_flat.Tie as tie
+
+abbrev Inv-loop : tie.InvT-loop
+Inv-loop nodes tri n t i₀ i = (i ≤ t) × (lowest (flatAt nodes tri) i t ≡ lowest (flatAt nodes tri) 0 t)
+
+abbrev μ-loop : tie.MeasureT-loop
+μ-loop nodes tri n t i₀ i = t - i
+
+flat-at-requires : tie.Need-flat-at-requires Inv-loop μ-loop
+flat-at-requires c κs = search (needs, named-at)
+
+returns : tie.Need-returns Inv-loop μ-loop
+returns c = search (needs, searching)
+
+loop-again : tie.Need-loop-again Inv-loop μ-loop
+loop-again c = search (needs, searching)
+
+returns-2 : tie.Need-returns-2 Inv-loop μ-loop
+returns-2 c = search (needs, searching)
+
+pub first-flat-spec : {M : Type 1} → statement M
+first-flat-spec =
+    tie.close
+    (tie.spec
+    Inv-loop μ-loop (λ c. search needs) flat-at-requires returns (λ c. search needs) (λ c. search needs)
+    loop-again returns-2)

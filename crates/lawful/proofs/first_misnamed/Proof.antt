@@ -1,0 +1,30 @@
+use mathlib.Core.Path.{_≡_}
+use Prim.Native.Nat.{_≤_, _-_}
+use Rattle.lists.specs.Search.{lowest}
+use Rattle.lists.specs.SearchLaw.{searching}
+use Rattle.lawful.specs.Tests.{misnamedAt}
+use borrow.Author.Needs.{needs}
+use Rattle.lawful.proofs.first_misnamed.Statement.{statement}
+use Rattle.lawful.proofs.first_misnamed.Tie as tie
+
+abbrev Inv-loop : tie.InvT-loop
+Inv-loop tri n t i₀ i = (i ≤ t) × (lowest (misnamedAt tri n) i t ≡ lowest (misnamedAt tri n) 0 t)
+
+abbrev μ-loop : tie.MeasureT-loop
+μ-loop tri n t i₀ i = t - i
+
+returns : tie.Need-returns Inv-loop μ-loop
+returns c = search (needs, searching)
+
+loop-again : tie.Need-loop-again Inv-loop μ-loop
+loop-again c = search (needs, searching)
+
+returns-2 : tie.Need-returns-2 Inv-loop μ-loop
+returns-2 c = search (needs, searching)
+
+pub first-misnamed-spec : {M : Type 1} → statement M
+first-misnamed-spec =
+    tie.close
+    (tie.spec
+    Inv-loop μ-loop (λ c. search needs) (λ c κs. search needs) returns (λ c. search needs) (λ c. search needs)
+    loop-again returns-2)

@@ -1,0 +1,32 @@
+use mathlib.Core.Path.{_≡_}
+use Prim.Native.Nat.{_≤_, _-_}
+use lib.ListN.{length}
+use Rattle.lists.specs.Search.{iter}
+use Rattle.lists.specs.IterLaw.{looping}
+use Rattle.lawful.specs.Tests.{markStep}
+use Rattle.lawful.specs.TestsLaw.{named-at}
+use borrow.Author.Needs.{needs}
+use Rattle.lawful.proofs.mark_rows.Statement.{statement}
+use Rattle.lawful.proofs.mark_rows.Tie as tie
+
+abbrev Inv-loop : tie.InvT-loop
+Inv-loop tri s₀ n t i₀ s i = (i ≤ t) × (length s ≡ length s₀) × (iter (markStep tri) i t s ≡ iter (markStep tri) 0 t s₀)
+
+abbrev μ-loop : tie.MeasureT-loop
+μ-loop tri s₀ n t i₀ s i = t - i
+
+mark-row-requires : tie.Need-mark-row-requires Inv-loop μ-loop
+mark-row-requires c κs = search (needs, named-at)
+
+loop-again : tie.Need-loop-again Inv-loop μ-loop
+loop-again c = search (needs, looping)
+
+returns : tie.Need-returns Inv-loop μ-loop
+returns c = search (needs, looping)
+
+pub mark-rows-spec : {M : Type 1} → statement M
+mark-rows-spec =
+    tie.close
+    (tie.spec
+    Inv-loop μ-loop (λ c. search needs) mark-row-requires (λ c. search needs) (λ c. search needs) loop-again
+    (λ c. search needs) returns)

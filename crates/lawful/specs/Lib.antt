@@ -1,0 +1,5 @@
+pub mod Tests
+pub mod TestsLaw
+pub mod MarkLaw
+pub mod MeshLaw
+pub mod ClashLaw

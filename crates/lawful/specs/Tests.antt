@@ -1,0 +1,56 @@
+-- Document 01's tests of one node or one row, by its number in the tables. Assumes nothing.
+use mathlib.Core.Bool.{Bool, true, false, not, _&&_, _||_}
+use mathlib.Core.List.{List}
+use Prim.Native.Nat.{ℕ}
+use lib.Dec.{eqb}
+use lib.IntN.{ℤ}
+use lib.ListN.{getD, set}
+use Rattle.lists.specs.declared.Found.{Found}
+use Rattle.lists.specs.declared.Found.the-variants.{At, Nothing}
+use Rattle.lists.specs.Lists.{isFound}
+use Rattle.lists.specs.Search.{lowest}
+use Rattle.meaning.specs.declared.Tri.{Tri}
+use Rattle.meaning.specs.declared.Fault.{Fault}
+use Rattle.meaning.specs.Lawful.{outside, misnamed, fault, orLater}
+use Rattle.meaning.specs.Tables.{placeAt, rowAt}
+use Rattle.plane.specs.Plane.{flatTri}
+use Rattle.tables.specs.Arrow.{arrowAt}
+
+-- 3
+unfoldable pub outsideAt : List ℤ → ℕ → Bool
+outsideAt nodes k = outside (placeAt nodes k)
+
+-- 4
+unfoldable pub misnamedAt : List ℕ → ℕ → ℕ → Bool
+misnamedAt l n i = misnamed n (rowAt l i)
+
+-- a row below i holds x→y
+abbrev pub arrowBelow : List ℕ → ℕ → ℕ → ℕ → Bool
+arrowBelow l i x y = isFound (lowest (arrowAt l x y) 0 i)
+
+-- 5
+unfoldable pub repeatAt : List ℕ → ℕ → Bool
+repeatAt l i =
+    arrowBelow l i (rowAt l i .p) (rowAt l i .q) || arrowBelow l i (rowAt l i .q) (rowAt l i .r) || arrowBelow l i (rowAt l i .r) (rowAt l i .p)
+
+-- 6
+unfoldable pub flatAt : List ℤ → List ℕ → ℕ → Bool
+flatAt nodes l i = flatTri (placeAt nodes (rowAt l i .p)) (placeAt nodes (rowAt l i .q)) (placeAt nodes (rowAt l i .r))
+
+-- 7: the corners of a row are marked in scratch; a node without a mark is in no row
+unfoldable pub markStep : List ℕ → ℕ → List ℕ → List ℕ
+markStep l i s = set (set (set s (rowAt l i .p) 1) (rowAt l i .q) 1) (rowAt l i .r) 1
+
+unfoldable pub blankAt : List ℕ → ℕ → Bool
+blankAt s z = eqb (getD s z 0) 0
+
+-- 10: u holds r→q of w, and not as its own q→r
+unfoldable pub clashWith : Tri → Tri → Bool
+clashWith w u = not (eqb (u .q) (w .r) && eqb (u .r) (w .q))
+
+abbrev pub clashFound : List ℕ → Tri → Found → Bool
+clashFound l w (At j) = clashWith w (rowAt l j)
+clashFound l w Nothing = false
+
+unfoldable pub clashAt : List ℕ → ℕ → ℕ → Bool
+clashAt l t i = clashFound l (rowAt l i) (lowest (arrowAt l (rowAt l i .r) (rowAt l i .q)) 0 t)

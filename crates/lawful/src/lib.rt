@@ -1,0 +1,257 @@
+// The judge of a mesh: document 01's numbers 3 to 7 and 10, each with the lowest node or row at fault.
+ghost use mathlib.Core.Path.{_≡_};
+ghost use mathlib.Core.Bool.{false};
+ghost use Prim.Native.Nat.{ℕ, _+_, _*_, _/_, _≤_, _<_};
+ghost use lib.ListN.{length, take, replicate, set};
+ghost use lib.Dec.{leb};
+ghost use Rattle.lists.specs.declared.Found.the-variants.{Nothing};
+ghost use Rattle.lists.specs.Search.{lowest, items, iter};
+ghost use Rattle.meaning.specs.Lawful.{misnamed, unused, faultOf};
+ghost use Rattle.meaning.specs.Tables.{rowAt, given, meshOf};
+ghost use Rattle.tables.specs.Sized.{Sized, indexAt};
+ghost use Rattle.tables.specs.Ready.{Ready};
+ghost use Rattle.lawful.specs.Tests.{outsideAt, misnamedAt, arrowBelow, repeatAt, flatAt, markStep, blankAt, clashWith, clashAt};
+use lists::Found;
+use meaning::Fault;
+use meaning::Tri;
+
+// ---- 3: a coordinate is outside its range
+
+fn outside_at(nodes: &[i32], k: usize) -> bool
+    requires { ⌜ 2 * k + 2 ≤ length (now nodes) ⌝ }
+    ensures { λ r. ⌜ r ≡ outsideAt (now (nodes .entry)) k ⌝ }
+{
+    plane::outside(tables::place_at(nodes, k))
+}
+
+pub fn first_outside(nodes: &[i32], n: usize) -> Found
+    requires { ⌜ 2 * n ≤ length (now nodes) ⌝ }
+    ensures { λ r. ⌜ r ≡ lowest (outsideAt (now (nodes .entry))) 0 n ⌝ }
+{
+    let mut k = 0;
+    while k < n {
+        if outside_at(nodes, k) {
+            return Found::At(k);
+        }
+        k += 1;
+    }
+    Found::Nothing
+}
+
+// ---- 4: a row names a node that is not below n, or one node twice
+
+fn past(k: u32, n: usize) -> bool
+    ensures { λ r. ⌜ r ≡ leb n k ⌝ }
+{
+    n <= k as usize
+}
+
+fn misnamed(w: Tri, n: usize) -> bool
+    ensures { λ r. ⌜ r ≡ misnamed n w ⌝ }
+{
+    past(w.p, n) | past(w.q, n) | past(w.r, n) | (w.p == w.q) | (w.q == w.r) | (w.r == w.p)
+}
+
+fn misnamed_at(tri: &[u32], n: usize, i: usize) -> bool
+    requires { ⌜ 3 * i + 3 ≤ length (now tri) ⌝ }
+    ensures { λ r. ⌜ r ≡ misnamedAt (now (tri .entry)) n i ⌝ }
+{
+    misnamed(tables::row_at(tri, i), n)
+}
+
+pub fn first_misnamed(tri: &[u32], n: usize, t: usize) -> Found
+    requires { ⌜ 3 * t ≤ length (now tri) ⌝ }
+    ensures { λ r. ⌜ r ≡ lowest (misnamedAt (now (tri .entry)) n) 0 t ⌝ }
+{
+    let mut i = 0;
+    while i < t {
+        if misnamed_at(tri, n, i) {
+            return Found::At(i);
+        }
+        i += 1;
+    }
+    Found::Nothing
+}
+
+// ---- 5: a row has a directed edge that a lower row has
+
+fn edge_below(tri: &[u32], s: &[u32], nc: usize, i: usize, x: u32, y: u32) -> bool
+    requires { ⌜ Ready (now s) nc (now tri) i ⌝ }
+    ensures { λ r. ⌜ r ≡ arrowBelow (now (tri .entry)) i x y ⌝ }
+{
+    tables::is_found(tables::find_edge(tri, s, nc, i, x, y))
+}
+
+fn repeat_at(tri: &[u32], s: &[u32], nc: usize, i: usize) -> bool
+    requires { ⌜ 3 * i + 3 ≤ length (now tri) ⌝ }
+    requires { ⌜ Ready (now s) nc (now tri) i ⌝ }
+    ensures { λ r. ⌜ r ≡ repeatAt (now (tri .entry)) i ⌝ }
+{
+    let w = tables::row_at(tri, i);
+    edge_below(tri, s, nc, i, w.p, w.q)
+        | edge_below(tri, s, nc, i, w.q, w.r)
+        | edge_below(tri, s, nc, i, w.r, w.p)
+}
+
+// Row by row: each is asked about, then joins the index. Where no row is at fault, all are in the index.
+pub fn first_repeat(tri: &[u32], s: &mut [u32], nc: usize, n: usize, t: usize) -> Found
+    requires { ⌜ 3 * t ≤ length (now tri) ⌝ }
+    requires { ⌜ n ≤ nc ⌝ }
+    requires { ⌜ lowest (misnamedAt (now tri) n) 0 t ≡ Nothing ⌝ }
+    requires { ⌜ Ready (now s) nc (now tri) 0 ⌝ }
+    ensures answer { λ r. ⌜ r ≡ lowest (repeatAt (now (tri .entry))) 0 t ⌝ }
+    ensures notes { λ _. ⌜ take (indexAt nc (length (now (tri .entry)))) (now (s .exit)) ≡ take (indexAt nc (length (now (tri .entry)))) (now (s .entry)) ⌝ }
+    ensures ready { λ r. ⌜ (r ≡ Nothing → Ready (now (s .exit)) nc (now (tri .entry)) t) ⌝ }
+{
+    let mut i = 0;
+    while i < t {
+        if repeat_at(tri, s, nc, i) {
+            return Found::At(i);
+        }
+        tables::add_row(tri, s, nc, i);
+        i += 1;
+    }
+    Found::Nothing
+}
+
+// ---- 6: a row's twice-area is not above 0
+
+fn flat_at(nodes: &[i32], tri: &[u32], n: usize, i: usize) -> bool
+    requires { ⌜ 3 * i + 3 ≤ length (now tri) ⌝ }
+    requires { ⌜ 2 * n ≤ length (now nodes) ⌝ }
+    requires { ⌜ misnamedAt (now tri) n i ≡ false ⌝ }
+    requires { ⌜ lowest (outsideAt (now nodes)) 0 n ≡ Nothing ⌝ }
+    ensures { λ r. ⌜ r ≡ flatAt (now (nodes .entry)) (now (tri .entry)) i ⌝ }
+{
+    let w = tables::row_at(tri, i);
+    plane::flat(
+        tables::corner(nodes, w.p),
+        tables::corner(nodes, w.q),
+        tables::corner(nodes, w.r),
+    )
+}
+
+pub fn first_flat(nodes: &[i32], tri: &[u32], n: usize, t: usize) -> Found
+    requires { ⌜ 3 * t ≤ length (now tri) ⌝ }
+    requires { ⌜ 2 * n ≤ length (now nodes) ⌝ }
+    requires { ⌜ lowest (misnamedAt (now tri) n) 0 t ≡ Nothing ⌝ }
+    requires { ⌜ lowest (outsideAt (now nodes)) 0 n ≡ Nothing ⌝ }
+    ensures { λ r. ⌜ r ≡ lowest (flatAt (now (nodes .entry)) (now (tri .entry))) 0 t ⌝ }
+{
+    let mut i = 0;
+    while i < t {
+        if flat_at(nodes, tri, n, i) {
+            return Found::At(i);
+        }
+        i += 1;
+    }
+    Found::Nothing
+}
+
+// ---- 7: a node is in no row
+
+fn mark(s: &mut [u32], k: u32)
+    requires { ⌜ k < length (now s) ⌝ }
+    ensures { λ _. ⌜ now (s .exit) ≡ set (now (s .entry)) k 1 ⌝ }
+{
+    tables::put_note(s, k as usize, 1);
+}
+
+fn mark_row(tri: &[u32], s: &mut [u32], n: usize, i: usize)
+    requires { ⌜ 3 * i + 3 ≤ length (now tri) ⌝ }
+    requires { ⌜ n ≤ length (now s) ⌝ }
+    requires { ⌜ misnamedAt (now tri) n i ≡ false ⌝ }
+    ensures { λ _. ⌜ now (s .exit) ≡ markStep (now (tri .entry)) i (now (s .entry)) ⌝ }
+{
+    let w = tables::row_at(tri, i);
+    mark(s, w.p);
+    mark(s, w.q);
+    mark(s, w.r);
+}
+
+fn mark_rows(tri: &[u32], s: &mut [u32], n: usize, t: usize)
+    requires { ⌜ 3 * t ≤ length (now tri) ⌝ }
+    requires { ⌜ n ≤ length (now s) ⌝ }
+    requires { ⌜ lowest (misnamedAt (now tri) n) 0 t ≡ Nothing ⌝ }
+    ensures { λ _. ⌜ now (s .exit) ≡ iter (markStep (now (tri .entry))) 0 t (now (s .entry)) ⌝ }
+{
+    let mut i = 0;
+    while i < t {
+        mark_row(tri, s, n, i);
+        i += 1;
+    }
+}
+
+fn blank_at(s: &[u32], z: usize) -> bool
+    requires { ⌜ z < length (now s) ⌝ }
+    ensures { λ r. ⌜ r ≡ blankAt (now (s .entry)) z ⌝ }
+{
+    tables::note_at(s, z) == 0
+}
+
+fn first_blank(s: &[u32], n: usize) -> Found
+    requires { ⌜ n ≤ length (now s) ⌝ }
+    ensures { λ r. ⌜ r ≡ lowest (blankAt (now (s .entry))) 0 n ⌝ }
+{
+    let mut z = 0;
+    while z < n {
+        if blank_at(s, z) {
+            return Found::At(z);
+        }
+        z += 1;
+    }
+    Found::Nothing
+}
+
+// The nodes of all rows are marked in the notes; the marks are taken away again.
+pub fn first_unused(tri: &[u32], s: &mut [u32], n: usize, t: usize) -> Found
+    requires { ⌜ 3 * t ≤ length (now tri) ⌝ }
+    requires { ⌜ n ≤ length (now s) ⌝ }
+    requires { ⌜ lowest (misnamedAt (now tri) n) 0 t ≡ Nothing ⌝ }
+    requires { ⌜ take n (now s) ≡ replicate n 0 ⌝ }
+    ensures answer { λ r. ⌜ r ≡ lowest (unused (items (rowAt (now (tri .entry))) 0 t)) 0 n ⌝ }
+    ensures same { λ _. ⌜ now (s .exit) ≡ now (s .entry) ⌝ }
+{
+    mark_rows(tri, s, n, t);
+    let f = first_blank(s, n);
+    tables::clear_front(s, n);
+    f
+}
+
+// ---- 10: the refinement edge of a row is in another row, and not as that one's refinement edge
+
+fn clash_with(w: Tri, u: Tri) -> bool
+    ensures { λ r. ⌜ r ≡ clashWith w u ⌝ }
+{
+    !((u.q == w.r) & (u.r == w.q))
+}
+
+fn clash_at(tri: &[u32], s: &[u32], nc: usize, t: usize, i: usize) -> bool
+    requires { ⌜ 3 * i + 3 ≤ length (now tri) ⌝ }
+    requires { ⌜ 3 * t ≤ length (now tri) ⌝ }
+    requires { ⌜ Ready (now s) nc (now tri) t ⌝ }
+    ensures { λ r. ⌜ r ≡ clashAt (now (tri .entry)) t i ⌝ }
+{
+    let w = tables::row_at(tri, i);
+    let f = tables::find_edge(tri, s, nc, t, w.r, w.q);
+    if let Found::At(j) = f {
+        return clash_with(w, tables::row_at(tri, j));
+    }
+    false
+}
+
+// For a mesh that draws none of 3 to 7.
+pub fn first_clash(tri: &[u32], s: &[u32], nc: usize, t: usize) -> Found
+    requires { ⌜ 3 * t ≤ length (now tri) ⌝ }
+    requires { ⌜ Ready (now s) nc (now tri) t ⌝ }
+    ensures { λ r. ⌜ r ≡ lowest (clashAt (now (tri .entry)) t) 0 t ⌝ }
+{
+    let mut i = 0;
+    while i < t {
+        if clash_at(tri, s, nc, t, i) {
+            return Found::At(i);
+        }
+        i += 1;
+    }
+    Found::Nothing
+}

@@ -1,0 +1,64 @@
+// Coordinates: the range of a place, twice-areas.
+ghost use mathlib.Core.Path.{_≡_};
+ghost use lib.IntN.{_-ℤ_, _*ℤ_};
+ghost use Rattle.meaning.specs.Mesh.{turn};
+ghost use Rattle.meaning.specs.Lawful.{InRange, far, outside};
+ghost use Rattle.plane.specs.Plane.{Short, Spans, flatTri};
+use meaning::Place;
+
+// From one place to another.
+pub struct Span {
+    pub x: i64,
+    pub y: i64,
+}
+
+fn from_to(a: Place, b: Place) -> Span
+    requires { ⌜ InRange a × InRange b ⌝ }
+    ensures { λ r. ⌜ Spans a b r ⌝ }
+{
+    let x = (b.x as i64) - (a.x as i64);
+    let y = (b.y as i64) - (a.y as i64);
+    Span { x, y }
+}
+
+fn cross(u: Span, v: Span) -> i64
+    requires { ⌜ Short u × Short v ⌝ }
+    ensures { λ r. ⌜ r ≡ u .x *ℤ v .y -ℤ v .x *ℤ u .y ⌝ }
+{
+    u.x * v.y - v.x * u.y
+}
+
+// Twice the signed area of the triangle a, b, c.
+pub fn twice_area(a: Place, b: Place, c: Place) -> i64
+    requires { ⌜ InRange a × InRange b × InRange c ⌝ }
+    ensures { λ r. ⌜ r ≡ turn a b c ⌝ }
+{
+    cross(from_to(a, b), from_to(a, c))
+}
+
+// 6: the twice-area is not above 0.
+pub fn flat(a: Place, b: Place, c: Place) -> bool
+    requires { ⌜ InRange a × InRange b × InRange c ⌝ }
+    ensures { λ r. ⌜ r ≡ flatTri a b c ⌝ }
+{
+    if twice_area(a, b, c) > 0 { false } else { true }
+}
+
+fn far(x: i32) -> bool
+    ensures { λ r. ⌜ r ≡ far x ⌝ }
+{
+    if x < -1048576 {
+        return true;
+    }
+    if x > 1048576 {
+        return true;
+    }
+    false
+}
+
+// 3: a coordinate is outside its range.
+pub fn outside(a: Place) -> bool
+    ensures { λ r. ⌜ r ≡ outside a ⌝ }
+{
+    far(a.x) | far(a.y)
+}

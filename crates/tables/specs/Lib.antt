@@ -1,0 +1,3 @@
+pub mod Arrow
+pub mod Sized
+pub mod Ready

@@ -1,0 +1,339 @@
+//! Check, refine, coarsen and restore on lent tables.
+use std::collections::{HashMap, HashSet};
+
+/// What a call says: its number, the counts after it, the passes it made.
+#[derive(Clone, Copy, Debug, PartialEq, Eq)]
+pub struct Answer {
+    pub number: u32,
+    pub n: usize,
+    pub t: usize,
+    pub passes: usize,
+}
+
+/// The tables that a caller lends, with the counts.
+#[derive(Clone, Debug, PartialEq, Eq)]
+pub struct Tables {
+    pub nodes: Vec<i32>,
+    pub rows: Vec<u32>,
+    pub scratch: Vec<u32>,
+    pub n: usize,
+    pub t: usize,
+}
+
+type Row = [usize; 3];
+type Place = (i64, i64);
+
+#[derive(Clone)]
+struct Mesh {
+    nodes: Vec<Place>,
+    rows: Vec<Row>,
+}
+
+const FAR: i64 = 1_048_576;
+
+impl Tables {
+    fn sizes_fit(&self, n0: usize) -> bool {
+        let (nc, tc) = (self.nodes.len() / 2, self.rows.len() / 3);
+        self.nodes.len() % 2 == 0
+            && self.rows.len() % 3 == 0
+            && nc <= 1024
+            && tc <= 2048
+            && self.n <= nc
+            && self.t <= tc
+            && n0 <= self.n
+            && self.scratch.len() >= 4 * (nc + tc)
+    }
+
+    fn mesh(&self) -> Mesh {
+        let place = |k: usize| (self.nodes[2 * k] as i64, self.nodes[2 * k + 1] as i64);
+        let row = |i: usize| [0, 1, 2].map(|s| self.rows[3 * i + s] as usize);
+        Mesh { nodes: (0..self.n).map(place).collect(), rows: (0..self.t).map(row).collect() }
+    }
+
+    fn store(&mut self, m: &Mesh) {
+        self.nodes.fill(0);
+        self.rows.fill(0);
+        for (k, p) in m.nodes.iter().enumerate() {
+            self.nodes[2 * k] = p.0 as i32;
+            self.nodes[2 * k + 1] = p.1 as i32;
+        }
+        for (i, r) in m.rows.iter().enumerate() {
+            for s in 0..3 {
+                self.rows[3 * i + s] = r[s] as u32;
+            }
+        }
+        self.n = m.nodes.len();
+        self.t = m.rows.len();
+    }
+
+    fn answer(&mut self, number: u32, passes: usize) -> Answer {
+        self.scratch.fill(0);
+        Answer { number, n: self.n, t: self.t, passes }
+    }
+}
+
+fn arrows(r: Row) -> [(usize, usize); 3] {
+    [(r[0], r[1]), (r[1], r[2]), (r[2], r[0])]
+}
+
+/// The edges in the order of the scan: q-r, p-q, r-p.
+fn edges(r: Row) -> [(usize, usize); 3] {
+    [pair(r[1], r[2]), pair(r[0], r[1]), pair(r[2], r[0])]
+}
+
+fn pair(a: usize, b: usize) -> (usize, usize) {
+    (a.min(b), a.max(b))
+}
+
+impl Mesh {
+    fn twice_area(&self, r: Row) -> i64 {
+        let [p, q, s] = r.map(|k| self.nodes[k]);
+        (q.0 - p.0) * (s.1 - p.1) - (s.0 - p.0) * (q.1 - p.1)
+    }
+
+    /// The lowest of 3 to 7 that applies, or 0.
+    fn refusal(&self) -> u32 {
+        let n = self.nodes.len();
+        if self.nodes.iter().any(|p| p.0.abs() > FAR || p.1.abs() > FAR) {
+            return 3;
+        }
+        if self.rows.iter().any(|r| r.iter().any(|&k| k >= n) || r[0] == r[1] || r[1] == r[2] || r[2] == r[0]) {
+            return 4;
+        }
+        let mut seen = HashSet::new();
+        for &r in &self.rows {
+            for e in arrows(r) {
+                if !seen.insert(e) {
+                    return 5;
+                }
+            }
+        }
+        if self.rows.iter().any(|&r| self.twice_area(r) <= 0) {
+            return 6;
+        }
+        let used: HashSet<usize> = self.rows.iter().flatten().copied().collect();
+        if (0..n).any(|k| !used.contains(&k)) {
+            return 7;
+        }
+        0
+    }
+
+    fn compatible(&self) -> bool {
+        let mut holders: HashMap<(usize, usize), Vec<usize>> = HashMap::new();
+        for (i, &r) in self.rows.iter().enumerate() {
+            for e in edges(r) {
+                holders.entry(e).or_default().push(i);
+            }
+        }
+        self.rows.iter().all(|&r| holders[&pair(r[1], r[2])].iter().all(|&j| pair(self.rows[j][1], self.rows[j][2]) == pair(r[1], r[2])))
+    }
+
+    /// The least closed set of edges over the refinement edges of the marked rows.
+    fn split_set(&self, marks: &[u8]) -> HashSet<(usize, usize)> {
+        let mut holders: HashMap<(usize, usize), Vec<usize>> = HashMap::new();
+        for (i, &r) in self.rows.iter().enumerate() {
+            for e in edges(r) {
+                holders.entry(e).or_default().push(i);
+            }
+        }
+        let mut set = HashSet::new();
+        let mut todo: Vec<_> = (0..self.rows.len()).filter(|&i| marks[i] == 1).map(|i| edges(self.rows[i])[0]).collect();
+        while let Some(e) = todo.pop() {
+            if set.insert(e) {
+                todo.extend(holders[&e].iter().map(|&i| edges(self.rows[i])[0]));
+            }
+        }
+        set
+    }
+
+    /// The refined mesh, or 8.
+    fn refined(&self, marks: &[u8]) -> Result<Mesh, u32> {
+        let set = self.split_set(marks);
+        let mut number = HashMap::new();
+        let mut nodes = self.nodes.clone();
+        for &r in &self.rows {
+            for e in edges(r) {
+                if set.contains(&e) && !number.contains_key(&e) {
+                    let (a, b) = (self.nodes[e.0], self.nodes[e.1]);
+                    if (a.0 + b.0) % 2 != 0 || (a.1 + b.1) % 2 != 0 {
+                        return Err(8);
+                    }
+                    number.insert(e, nodes.len());
+                    nodes.push(((a.0 + b.0) / 2, (a.1 + b.1) / 2));
+                }
+            }
+        }
+        let mut rows = vec![];
+        let mut added = vec![];
+        for &r in &self.rows {
+            let [p, q, s] = r;
+            let [m, u, v] = edges(r).map(|e| number.get(&e).copied());
+            let Some(m) = m else {
+                rows.push(r);
+                continue;
+            };
+            rows.push(match u {
+                Some(u) => [u, m, p],
+                None => [m, p, q],
+            });
+            added.push(match v {
+                Some(v) => [v, m, s],
+                None => [m, s, p],
+            });
+            added.extend(u.map(|u| [u, q, m]));
+            added.extend(v.map(|v| [v, p, m]));
+        }
+        rows.extend(added);
+        Ok(Mesh { nodes, rows })
+    }
+
+    /// Each node from n0 up that meets G1 to G4, with the rows of its pairs (left, right) and the pair b, c.
+    fn meets(&self, z: usize, holders: &[Vec<usize>], arrow: &HashMap<(usize, usize), usize>) -> Option<(Vec<(usize, usize)>, (usize, usize))> {
+        let mine = &holders[z];
+        if mine.iter().any(|&i| self.rows[i][0] != z) || (mine.len() != 2 && mine.len() != 4) {
+            return None;
+        }
+        let first = mine[0];
+        let [_, a, b] = self.rows[first];
+        let second = *arrow.get(&(a, z))?;
+        let c = self.rows[second][1];
+        let mut found = vec![(first, second)];
+        if mine.len() == 4 {
+            let third = *mine.iter().find(|&&i| i != first && i != second)?;
+            let [_, d, end] = self.rows[third];
+            let fourth = *arrow.get(&(d, z))?;
+            if end != c || self.rows[fourth][1] != b {
+                return None;
+            }
+            found.push((third, fourth));
+        }
+        let (pz, pb, pc) = (self.nodes[z], self.nodes[b], self.nodes[c]);
+        if 2 * pz.0 != pb.0 + pc.0 || 2 * pz.1 != pb.1 + pc.1 {
+            return None;
+        }
+        if arrow.contains_key(&(b, c)) || arrow.contains_key(&(c, b)) {
+            return None;
+        }
+        Some((found, pair(b, c)))
+    }
+
+    /// The good nodes, each with its pairs of rows.
+    fn good(&self, n0: usize) -> Vec<(usize, Vec<(usize, usize)>)> {
+        let mut holders = vec![vec![]; self.nodes.len()];
+        let mut arrow = HashMap::new();
+        for (i, &r) in self.rows.iter().enumerate() {
+            for k in r {
+                holders[k].push(i);
+            }
+            for e in arrows(r) {
+                arrow.insert(e, i);
+            }
+        }
+        let meeting: Vec<_> = (n0..self.nodes.len()).filter_map(|z| self.meets(z, &holders, &arrow).map(|(p, e)| (z, p, e))).collect();
+        let mut rivals: HashMap<(usize, usize), usize> = HashMap::new();
+        for (_, _, e) in &meeting {
+            *rivals.entry(*e).or_default() += 1;
+        }
+        meeting.into_iter().filter(|(_, _, e)| rivals[e] == 1).map(|(z, p, _)| (z, p)).collect()
+    }
+
+    /// The mesh without the good nodes that are wanted, or nothing if none is.
+    fn coarsened(&self, n0: usize, wanted: impl Fn(usize) -> bool) -> Option<Mesh> {
+        let taken: Vec<_> = self.good(n0).into_iter().filter(|(z, _)| wanted(*z)).collect();
+        if taken.is_empty() {
+            return None;
+        }
+        let mut rows: Vec<Option<Row>> = self.rows.iter().copied().map(Some).collect();
+        let mut stays = vec![true; self.nodes.len()];
+        for (z, pairs) in taken {
+            stays[z] = false;
+            for (left, right) in pairs {
+                rows[left] = Some([self.rows[left][1], self.rows[left][2], self.rows[right][1]]);
+                rows[right] = None;
+            }
+        }
+        let mut number = vec![];
+        let mut next = 0;
+        for &s in &stays {
+            number.push(next);
+            next += s as usize;
+        }
+        Some(Mesh {
+            nodes: (0..self.nodes.len()).filter(|&k| stays[k]).map(|k| self.nodes[k]).collect(),
+            rows: rows.into_iter().flatten().map(|r| r.map(|k| number[k])).collect(),
+        })
+    }
+}
+
+fn marks_fit(marks: &[u8], count: usize) -> bool {
+    marks.len() == count && marks.iter().all(|&b| b <= 1)
+}
+
+pub fn check(g: &mut Tables) -> Answer {
+    if !g.sizes_fit(0) {
+        return g.answer(1, 0);
+    }
+    let m = g.mesh();
+    match m.refusal() {
+        0 if !m.compatible() => g.answer(10, 0),
+        k => g.answer(k, 0),
+    }
+}
+
+pub fn refine(g: &mut Tables, n0: usize, marks: &[u8]) -> Answer {
+    if !g.sizes_fit(n0) {
+        return g.answer(1, 0);
+    }
+    if !marks_fit(marks, g.t) {
+        return g.answer(2, 0);
+    }
+    let m = g.mesh();
+    match m.refusal() {
+        0 => match m.refined(marks) {
+            Err(k) => g.answer(k, 0),
+            Ok(new) if new.nodes.len() > g.nodes.len() / 2 || new.rows.len() > g.rows.len() / 3 => g.answer(9, 0),
+            Ok(new) => {
+                g.store(&new);
+                g.answer(0, 0)
+            }
+        },
+        k => g.answer(k, 0),
+    }
+}
+
+pub fn coarsen(g: &mut Tables, n0: usize, marks: &[u8]) -> Answer {
+    if !g.sizes_fit(n0) {
+        return g.answer(1, 0);
+    }
+    if !marks_fit(marks, g.n) {
+        return g.answer(2, 0);
+    }
+    let m = g.mesh();
+    match m.refusal() {
+        0 => {
+            let new = m.coarsened(n0, |z| marks[z] == 1).unwrap_or(m);
+            g.store(&new);
+            g.answer(0, 0)
+        }
+        k => g.answer(k, 0),
+    }
+}
+
+pub fn restore(g: &mut Tables, n0: usize) -> Answer {
+    if !g.sizes_fit(n0) {
+        return g.answer(1, 0);
+    }
+    let mut m = g.mesh();
+    match m.refusal() {
+        0 => {
+            let mut passes = 0;
+            while let Some(next) = m.coarsened(n0, |_| true) {
+                m = next;
+                passes += 1;
+            }
+            g.store(&m);
+            g.answer(0, passes)
+        }
+        k => g.answer(k, 0),
+    }
+}

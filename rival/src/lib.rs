@@ -1,0 +1,4 @@
+//! An independent program for the calls of document 01, written from its text by an ordinary method: hash maps of edges,
+//! vectors that grow. The proved library is tested and timed against it.
+pub mod calls;
+pub mod random;

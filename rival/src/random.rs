@@ -1,0 +1,169 @@
+//! Random meshes, damage and calls from a seed.
+use crate::calls::{self, Tables};
+
+/// A small generator of numbers (xorshift), so that a seed tells the whole run.
+pub struct Dice(u64);
+
+impl Dice {
+    pub fn new(seed: u64) -> Dice {
+        let mut d = Dice(seed.wrapping_mul(0x9e37_79b9_7f4a_7c15) | 1);
+        for _ in 0..8 {
+            d.next();
+        }
+        d
+    }
+
+    pub fn next(&mut self) -> u64 {
+        self.0 ^= self.0 << 13;
+        self.0 ^= self.0 >> 7;
+        self.0 ^= self.0 << 17;
+        self.0.wrapping_mul(0x2545_f491_4f6c_dd1d) >> 16
+    }
+
+    /// Below k.
+    pub fn below(&mut self, k: usize) -> usize {
+        if k == 0 { 0 } else { (self.next() % k as u64) as usize }
+    }
+
+    /// Once in k times.
+    pub fn once_in(&mut self, k: usize) -> bool {
+        self.below(k) == 0
+    }
+}
+
+/// Tables that hold the mesh, with room to spare, garbage past the counts and scratch that is not clear.
+pub fn lend(d: &mut Dice, nodes: &[(i32, i32)], rows: &[[u32; 3]]) -> Tables {
+    let nc = (nodes.len() + d.below(3) * d.below(40)).min(1024).max(nodes.len());
+    let tc = (rows.len() + d.below(3) * d.below(80)).min(2048).max(rows.len());
+    let mut g = Tables { nodes: vec![], rows: vec![], scratch: vec![], n: nodes.len(), t: rows.len() };
+    for p in nodes {
+        g.nodes.extend([p.0, p.1]);
+    }
+    for r in rows {
+        g.rows.extend(r);
+    }
+    g.nodes.resize_with(2 * nc, || d.below(1000) as i32 - 500);
+    g.rows.resize_with(3 * tc, || d.below(50) as u32);
+    g.scratch.resize_with(4 * (nc + tc) + d.below(5), || d.below(9) as u32);
+    g
+}
+
+/// A grid of squares, each cut in two along a diagonal that both halves have as refinement edge; places stretched by `step`.
+pub fn grid(w: usize, h: usize, step: i32) -> (Vec<(i32, i32)>, Vec<[u32; 3]>) {
+    let at = |x: usize, y: usize| (y * (w + 1) + x) as u32;
+    let mut nodes = vec![];
+    let mut rows = vec![];
+    for y in 0..=h {
+        for x in 0..=w {
+            nodes.push((step * x as i32, step * y as i32));
+        }
+    }
+    for y in 0..h {
+        for x in 0..w {
+            rows.push([at(x + 1, y), at(x + 1, y + 1), at(x, y)]);
+            rows.push([at(x, y + 1), at(x, y), at(x + 1, y + 1)]);
+        }
+    }
+    (nodes, rows)
+}
+
+/// Few nodes, any triangles over them that lie the right way round: pinched, overlapping, cracked, coinciding.
+pub fn absurd(d: &mut Dice) -> (Vec<(i32, i32)>, Vec<[u32; 3]>) {
+    let n = 3 + d.below(7);
+    let step = 1 << d.below(4);
+    let nodes: Vec<(i32, i32)> = (0..n).map(|_| (step * d.below(5) as i32, step * d.below(5) as i32)).collect();
+    let mut rows: Vec<[u32; 3]> = vec![];
+    let mut arrows = std::collections::HashSet::new();
+    for _ in 0..d.below(40) {
+        let r = [d.below(n), d.below(n), d.below(n)];
+        let [p, q, s] = r.map(|k| (nodes[k].0 as i64, nodes[k].1 as i64));
+        let area = (q.0 - p.0) * (s.1 - p.1) - (s.0 - p.0) * (q.1 - p.1);
+        let own = [(r[0], r[1]), (r[1], r[2]), (r[2], r[0])];
+        if area > 0 && own.iter().all(|e| !arrows.contains(e)) {
+            arrows.extend(own);
+            rows.push(r.map(|k| k as u32));
+        }
+    }
+    // keep the nodes that are used, most of the time
+    if d.once_in(20) {
+        return (nodes, rows);
+    }
+    let mut number = vec![u32::MAX; n];
+    let mut kept = vec![];
+    for r in &mut rows {
+        for k in r {
+            let old = *k as usize;
+            if number[old] == u32::MAX {
+                number[old] = kept.len() as u32;
+                kept.push(nodes[old]);
+            }
+            *k = number[old];
+        }
+    }
+    (kept, rows)
+}
+
+/// A mesh: a grid or an absurd one, grown by some refinements of the rival's own.
+pub fn mesh(d: &mut Dice) -> (Tables, usize) {
+    let (nodes, rows) = if d.once_in(3) {
+        let (w, h) = (1 + d.below(3), 1 + d.below(3));
+        grid(w, h, 1 << d.below(6))
+    } else {
+        absurd(d)
+    };
+    let mut g = lend(d, &nodes, &rows);
+    let n0 = g.n;
+    for _ in 0..d.below(5) {
+        let marks: Vec<u8> = (0..g.t).map(|_| d.once_in(3) as u8).collect();
+        calls::refine(&mut g, n0, &marks);
+        if d.once_in(3) {
+            let marks: Vec<u8> = (0..g.n).map(|_| d.once_in(2) as u8).collect();
+            calls::coarsen(&mut g, n0, &marks);
+        }
+    }
+    for k in 2 * g.n..g.nodes.len() {
+        g.nodes[k] = d.below(1000) as i32 - 500;
+    }
+    for k in 3 * g.t..g.rows.len() {
+        g.rows[k] = d.below(50) as u32;
+    }
+    for s in &mut g.scratch {
+        *s = d.below(9) as u32;
+    }
+    (g, n0)
+}
+
+/// Damage of one kind or another, often none.
+pub fn damage(d: &mut Dice, g: &mut Tables) {
+    match d.below(14) {
+        0 if g.t > 0 => {
+            let k = d.below(3 * g.t);
+            g.rows[k] = d.below(g.n + 2) as u32;
+        }
+        1 if g.n > 0 => {
+            let k = d.below(2 * g.n);
+            g.nodes[k] = [1_048_576, -1_048_576, 1_048_577, -1_048_577, i32::MIN, i32::MAX][d.below(6)];
+        }
+        2 if g.n > 0 => {
+            let k = d.below(2 * g.n);
+            g.nodes[k] += d.below(5) as i32 - 2;
+        }
+        3 => g.n = d.below(g.nodes.len() / 2 + 2),
+        4 => g.t = d.below(g.rows.len() / 3 + 2),
+        5 => {
+            let k = d.below(g.scratch.len() + 1);
+            g.scratch.truncate(k);
+        }
+        6 => g.nodes.push(0),
+        7 => g.rows.push(0),
+        8 if g.t > 1 => {
+            let (i, j) = (d.below(g.t), d.below(g.t));
+            for s in 0..3 {
+                g.rows[3 * i + s] = g.rows[3 * j + s];
+            }
+        }
+        9 if d.once_in(8) => g.n = usize::MAX,
+        10 if d.once_in(8) => g.t = usize::MAX / 2,
+        _ => {}
+    }
+}

@@ -4,3 +4,4 @@ pub mod Rows
 pub mod GrownFrom
 pub mod Goodness
 pub mod Coarsening
+pub mod Refining

@@ -5,3 +5,4 @@ pub mod GrownFrom
 pub mod Goodness
 pub mod Coarsening
 pub mod Refining
+pub mod Restoring

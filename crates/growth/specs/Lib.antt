@@ -2,3 +2,7 @@
 pub mod Labels
 pub mod Rows
 pub mod GrownFrom
+pub mod Goodness
+pub mod Coarsening
+pub mod Refining
+pub mod Restoring

@@ -1,6 +1,6 @@
 -- What the cut of one triangle must promise, so that splitting a mesh with it is lawful: a record of laws about one row (p, q, r)
--- and the midpoints m of q–r, u of p–q, v of r–p, where these edges are split. Bisection has them (see Bisected); a mesh is not
--- spoken of. Assumes nothing.
+-- and the midpoints m of q–r, u of p–q, v of r–p, where these edges are split. Of a mesh M only the places are looked at. Bisection has
+-- the laws (see Bisected); another cut that has them refines as lawfully, for nothing above asks more. Assumes nothing.
 use mathlib.Core.List.{List, [], _∷_}
 use mathlib.Core.Logic.{_≢_}
 use mathlib.Core.Option.{Option, none, some}

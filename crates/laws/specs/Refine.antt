@@ -2,7 +2,7 @@
 -- When it says 0: the split edges are the least closed set, and the mesh it leaves is lawful, of the same total, and what splitting
 -- makes of it. Assumes nothing.
 use mathlib.Core.Bool.{Bool, true, false, _&&_}
-use mathlib.Core.List.{List, [], _∷_, List·Memᴰ, List·Memᴰ·head, List·Memᴰ·tail}
+use mathlib.Core.List.{List, [], _∷_, _++_, map, List·Memᴰ, List·Memᴰ·head, List·Memᴰ·tail}
 use mathlib.Core.Logic.{_↔_}
 use mathlib.Core.Path.{_≡_, refl, sym, subst, _∙_}
 use Prim.Native.Nat.{ℕ, zero, suc, _+_, _%_, _≤_, _<_}
@@ -11,14 +11,14 @@ use lib.Dec.{eqb, leb}
 use lib.IntN.{natAbs, _+ℤ_}
 use lib.ListN.{length, getD}
 use borrow.Author.Tests.{eqb-true, eqb-false, leb-true, leb-false, le-leb}
-use Rattle.lists.specs.Lists.{all, count, All, nil, cons}
+use Rattle.lists.specs.Lists.{all, count, joined, All, nil, cons}
 use Rattle.lists.specs.ListsLaw.{clash, and-both, and-left, and-right, All-imp, All-at, All-getD, all-yes, yes-all}
 use Rattle.lists.specs.Tally.{tally}
 use Rattle.meaning.specs.declared.Tri.{Tri}
 use Rattle.meaning.specs.Mesh.{Mesh, Edge, edges, at, total}
 use Rattle.meaning.specs.Lawful.{Lawful, Applies, out-of-range, misnames, occurs-twice, not-above, in-none, Lowest, refusal}
 use Rattle.meaning.specs.Good.{Middle}
-use Rattle.meaning.specs.Split.{Closed, memEdge, Way, newest, even, halves, splitEdges, started, refined}
+use Rattle.meaning.specs.Split.{Closed, memEdge, Way, newest, even, halves, midpoint, cutOf, splitEdges, splitAt, started, split, refined}
 use Rattle.meaning.specs.Tables.{Room}
 use Rattle.meaning.specs.Calls.{unless, orElse, marksFit, fits, refineNo}
 use Rattle.laws.specs.Lawful.{refusal-lawful, lawful-refusal, refusal-exact}
@@ -253,11 +253,16 @@ pub record Refined (w : Way) (room : Room) (m : Mesh) (marks : List ℕ) (after 
   -- "The place is the exact midpoint": node n + i halves the i-th of them
   pub place-new : (i : ℕ) (d : Edge) → i < length (toSplit w m marks) →
       Middle (at after (length (m .nodes) + i)) (at m (getD (toSplit w m marks) i d .lo)) (at m (getD (toSplit w m marks) i d .hi))
+  -- the whole of it: the old nodes, then the new; each row's first part in its place, then the other parts, "fathers in row order"
+  pub nodes-are : after .nodes ≡ m .nodes ++ map (midpoint m) (toSplit w m marks)
+  pub rows-are : after .tris ≡
+      map (λ t. cutOf (w .cutting) (length (m .nodes)) (toSplit w m marks) t .kept) (m .tris) ++
+      joined (λ t. cutOf (w .cutting) (length (m .nodes)) (toSplit w m marks) t .added) (m .tris)
 
 -- WHEN REFINE SAYS 0, it leaves a lawful mesh of the same total.
 pub refine-done : (w : Way) → CutLaws (w .cutting) → (room : Room) (m : Mesh) (marks : List ℕ) → refineNo w room m marks ≡ 0 →
     Refined w room m marks (refined w m marks)
-unfolding refined
+unfolding refined split splitAt
 refine-done w laws room m marks e = go (refine-exact w room m marks 0 .0 e)
   where
     go : RefineSays w room m marks 0 → Refined w room m marks (refined w m marks)
@@ -274,6 +279,8 @@ refine-done w laws room m marks e = go (refine-exact w room m marks 0 .0 e)
           place-kept = split-old (w .cutting) m start;
           place-new = λ i d l.
               rw (split-new (w .cutting) m start i d l) (midpoint-middle m (getD (splitEdges m start) i d) (All-getD (all-yes (halves m) (splitEdges m start) even) i d l));
+          nodes-are = refl;
+          rows-are = refl;
         }
 
 -- 01's way

@@ -67,7 +67,7 @@ one-of-three (List·Memᴰ·tail (List·Memᴰ·head p)) f g h = g p
 one-of-three (List·Memᴰ·tail (List·Memᴰ·tail (List·Memᴰ·head p))) f g h = h p
 
 -- the ends of an edge of a row are nodes
-old-ends : {n : ℕ} {ts : List Tri} → All (Named n) ts → (e : Edge) → EdgeOf ts e → (e .lo < n) × (e .hi < n)
+pub old-ends : {n : ℕ} {ts : List Tri} → All (Named n) ts → (e : Edge) → EdgeOf ts e → (e .lo < n) × (e .hi < n)
 old-ends {n} named e r =
     let t = r .0 in
     let a = All-at named (r .1) in
@@ -80,7 +80,7 @@ old-ends {n} named e r =
     ends a b g h w = subst⁻¹ (λ d. (d .lo < n) × (d .hi < n)) w (both a b g h)
 
 -- an edge has a number exactly if it is split
-number-there : (n : ℕ) (s : List Edge) (e : Edge) → there (numberOf n s e) ≡ bit (memEdge e s)
+pub number-there : (n : ℕ) (s : List Edge) (e : Edge) → there (numberOf n s e) ≡ bit (memEdge e s)
 number-there n s e = go (where-is (sameEdge e) s e) (any (sameEdge e) s) refl
   where
     go : {o : Found} → WhereIs (sameEdge e) s e o → (b : Bool) → any (sameEdge e) s ≡ b → there (plus n o) ≡ bit b
@@ -89,7 +89,7 @@ number-there n s e = go (where-is (sameEdge e) s e) (any (sameEdge e) s) refl
     go (place-of i l t) true q = refl
     go (place-of i l t) false q = clash (sym (any-at (sameEdge e) t (at-mem s i e l)) ∙ q)
 
-number-some : (n : ℕ) (s : List Edge) (e : Edge) → memEdge e s ≡ true → (k : ℕ) × (numberOf n s e ≡ some k)
+pub number-some : (n : ℕ) (s : List Edge) (e : Edge) → memEdge e s ≡ true → (k : ℕ) × (numberOf n s e ≡ some k)
 number-some n s e h = go (numberOf n s e) (number-there n s e ∙ ap bit h)
   where
     go : (o : Option ℕ) → there o ≡ 1 → (k : ℕ) × (o ≡ some k)

@@ -6,3 +6,4 @@ pub mod Goodness
 pub mod Coarsening
 pub mod Refining
 pub mod Restoring
+pub mod TableMesh

@@ -7,3 +7,4 @@ pub mod Coarsening
 pub mod Refining
 pub mod Restoring
 pub mod TableMesh
+pub mod Demand3

@@ -7,4 +7,5 @@ pub mod Coarsening
 pub mod Refining
 pub mod Restoring
 pub mod TableMesh
+pub mod OnTables
 pub mod Demand3

@@ -2,12 +2,12 @@
 -- Assumes nothing.
 use mathlib.Core.Bool.{Bool, true, false}
 use mathlib.Core.List.{List, [], _∷_, _++_}
-use mathlib.Core.Path.{_≡_, refl, ap, ap₂, subst, _∙_}
+use mathlib.Core.Path.{_≡_, refl, ap, ap₂, _∙_}
 use mathlib.Core.Logic.{_≢_}
-use Prim.Native.Nat.{ℕ, zero, suc, _+_, _-_, _*_, _≤_, _<_}
+use Prim.Native.Nat.{ℕ, zero, suc, _+_, _-_, _*_, _≤_}
 use native.Mathlib.Omega.{arith}
 use lib.IntN.{ℤ, pos}
-use lib.ListN.{length, getD, take, length-append, length-replicate, replicate}
+use lib.ListN.{length, take, length-append, length-replicate, replicate}
 use Rattle.lists.specs.Lists.{cases}
 use Rattle.lists.specs.Search.{items, itemsFrom}
 use Rattle.lists.specs.IterLaw.{length-items}
@@ -15,7 +15,7 @@ use Rattle.meaning.specs.declared.Place.{Place}
 use Rattle.meaning.specs.declared.Tri.{Tri}
 use Rattle.meaning.specs.Mesh.{Mesh, mesh}
 use Rattle.meaning.specs.Tables.{Given, Outcome, given, placeAt, rowAt, meshOf, flatNodes, flatRows, filled}
-use Rattle.meaning.specs.Calls.{says, sizesFit, untouched, done, leaves, left, sized}
+use Rattle.meaning.specs.Calls.{says, sizesFit, untouched, done, left, sized}
 
 -- ---- reading and writing
 

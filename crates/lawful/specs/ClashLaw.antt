@@ -22,8 +22,8 @@ use Rattle.meaning.specs.Mesh.{arrow, edge, base, sameEdge, sameArrow, holdsArr
 use Rattle.meaning.specs.Lawful.{Named, clashes, fault, orLater, faultOf, firstClash}
 use Rattle.meaning.specs.Tables.{rowAt, given, meshOf}
 use Rattle.tables.specs.Arrow.{arrowAt}
-use Rattle.lawful.specs.Tests.{outsideAt, misnamedAt, arrowBelow, repeatAt, clashWith, clashFound, clashAt}
-use Rattle.lawful.specs.MeshLaw.{faultBy, fault-is, named-row}
+use Rattle.lawful.specs.Tests.{outsideAt, misnamedAt, arrowBelow, repeatAt, clashWith, clashFound, clashAt, laterBy, faultBy}
+use Rattle.lawful.specs.MeshLaw.{fault-is, named-row}
 
 -- ---- tests
 
@@ -237,11 +237,11 @@ or-zero k (At i) rest h e = absurd (omega arith)
 or-zero k Nothing rest h e = (refl, e)
 
 module _ (nodes : List ℤ) (l s : List ℕ) (n t : ℕ) (z : faultOf (meshOf (given nodes l s n t)) .number ≡ 0) where
-  by-number : faultBy nodes l s n t .number ≡ 0
+  by-number : faultBy nodes l n t .number ≡ 0
   by-number = rw (fault-is nodes l s n t) z
 
   nones : (lowest (misnamedAt l n) 0 t ≡ Nothing) × (lowest (repeatAt l) 0 t ≡ Nothing)
-  unfolding faultBy
+  unfolding faultBy laterBy
   nones =
       let a = or-zero 3 (lowest (outsideAt nodes) 0 n) _ (omega arith) by-number in
       let b = or-zero 4 (lowest (misnamedAt l n) 0 t) _ (omega arith) (a .1) in

@@ -3,3 +3,4 @@ pub mod TestsLaw
 pub mod MarkLaw
 pub mod MeshLaw
 pub mod ClashLaw
+pub mod FaultLaw

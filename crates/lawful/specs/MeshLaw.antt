@@ -20,7 +20,7 @@ use Rattle.meaning.specs.Lawful.{outside, misnamed, Named, rowOf, repeats, flat
 use Rattle.meaning.specs.Tables.{placeAt, rowAt, given, meshOf}
 use Rattle.plane.specs.Plane.{flatTri}
 use Rattle.tables.specs.Arrow.{arrowAt}
-use Rattle.lawful.specs.Tests.{outsideAt, misnamedAt, arrowBelow, repeatAt, flatAt}
+use Rattle.lawful.specs.Tests.{outsideAt, misnamedAt, arrowBelow, repeatAt, flatAt, laterBy, faultBy}
 use Rattle.lawful.specs.TestsLaw.{named-tri, named-at}
 
 or-end : (a b c : Bool) → a || b || c ≡ a || (b || (c || false))
@@ -88,22 +88,12 @@ module _ (nodes : List ℤ) (l s : List ℕ) (n t : ℕ) where
 
   -- ---- all
 
-  -- the chain, by number
-  unfoldable pub faultBy : Fault
-  faultBy =
-      orLater 3 (lowest (outsideAt nodes) 0 n)
-      (orLater 4 (lowest (misnamedAt l n) 0 t)
-      (orLater 5 (lowest (repeatAt l) 0 t)
-      (orLater 6 (lowest (flatAt nodes l) 0 t)
-      (orLater 7 (lowest (unused (items (rowAt l) 0 t)) 0 n)
-      (fault 0 0)))))
-
   after-named : (f : Found) → lowest (misnamedAt l n) 0 t ≡ f → (x y : Fault) → (f ≡ Nothing → x ≡ y) → orLater 4 f x ≡ orLater 4 f y
   after-named (At i) e x y h = refl
   after-named Nothing e x y h = h refl
 
-  pub fault-is : faultBy ≡ faultOf (meshOf (given nodes l s n t))
-  unfolding faultBy faultOf
+  pub fault-is : faultBy nodes l n t ≡ faultOf (meshOf (given nodes l s n t))
+  unfolding faultBy laterBy faultOf
   fault-is =
       rw (← outside-is, ← misnamed-is, ← repeat-is, ← unused-is)
       (ap (orLater 3 (lowest (outsideAt nodes) 0 n))

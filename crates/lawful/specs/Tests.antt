@@ -8,10 +8,10 @@ use lib.ListN.{getD, set}
 use Rattle.lists.specs.declared.Found.{Found}
 use Rattle.lists.specs.declared.Found.the-variants.{At, Nothing}
 use Rattle.lists.specs.Lists.{isFound}
-use Rattle.lists.specs.Search.{lowest}
+use Rattle.lists.specs.Search.{lowest, items}
 use Rattle.meaning.specs.declared.Tri.{Tri}
 use Rattle.meaning.specs.declared.Fault.{Fault}
-use Rattle.meaning.specs.Lawful.{outside, misnamed, fault, orLater}
+use Rattle.meaning.specs.Lawful.{outside, misnamed, unused, fault, orLater}
 use Rattle.meaning.specs.Tables.{placeAt, rowAt}
 use Rattle.plane.specs.Plane.{flatTri}
 use Rattle.tables.specs.Arrow.{arrowAt}
@@ -54,3 +54,17 @@ clashFound l w Nothing = false
 
 unfoldable pub clashAt : List ℕ → ℕ → ℕ → Bool
 clashAt l t i = clashFound l (rowAt l i) (lowest (arrowAt l (rowAt l i .r) (rowAt l i .q)) 0 t)
+
+-- ---- the chain, by number
+
+-- 5 to 7
+unfoldable pub laterBy : List ℤ → List ℕ → ℕ → ℕ → Fault
+laterBy nodes l n t =
+    orLater 5 (lowest (repeatAt l) 0 t)
+    (orLater 6 (lowest (flatAt nodes l) 0 t)
+    (orLater 7 (lowest (unused (items (rowAt l) 0 t)) 0 n)
+    (fault 0 0)))
+
+-- 3 to 7
+unfoldable pub faultBy : List ℤ → List ℕ → ℕ → ℕ → Fault
+faultBy nodes l n t = orLater 3 (lowest (outsideAt nodes) 0 n) (orLater 4 (lowest (misnamedAt l n) 0 t) (laterBy nodes l n t))

@@ -10,7 +10,8 @@ ghost use Rattle.meaning.specs.Lawful.{misnamed, unused, faultOf};
 ghost use Rattle.meaning.specs.Tables.{rowAt, given, meshOf};
 ghost use Rattle.tables.specs.Sized.{Sized, indexAt};
 ghost use Rattle.tables.specs.Ready.{Ready};
-ghost use Rattle.lawful.specs.Tests.{outsideAt, misnamedAt, arrowBelow, repeatAt, flatAt, markStep, blankAt, clashWith, clashAt};
+ghost use Rattle.lawful.specs.Tests.{outsideAt, misnamedAt, arrowBelow, repeatAt, flatAt, markStep, blankAt, clashWith, clashAt, laterBy};
+ghost use Rattle.lawful.specs.FaultLaw.{Judged};
 use lists::Found;
 use meaning::Fault;
 use meaning::Tri;
@@ -254,4 +255,50 @@ pub fn first_clash(tri: &[u32], s: &[u32], nc: usize, t: usize) -> Found
         i += 1;
     }
     Found::Nothing
+}
+
+// ---- 3 to 7
+
+// Of a mesh that draws neither 3 nor 4, the lowest of 5 to 7 that applies.
+fn later_fault(nodes: &[i32], tri: &[u32], s: &mut [u32], nc: usize, n: usize, t: usize) -> Fault
+    requires { ⌜ Sized nc (length (now tri)) (length (now s)) ⌝ }
+    requires { ⌜ (n ≤ nc) × (2 * n ≤ length (now nodes)) × (3 * t ≤ length (now tri)) ⌝ }
+    requires { ⌜ lowest (outsideAt (now nodes)) 0 n ≡ Nothing ⌝ }
+    requires { ⌜ lowest (misnamedAt (now tri) n) 0 t ≡ Nothing ⌝ }
+    requires { ⌜ now s ≡ replicate (length (now s)) 0 ⌝ }
+    ensures answer { λ r. ⌜ r ≡ laterBy (now (nodes .entry)) (now (tri .entry)) n t ⌝ }
+    ensures scratch { λ r. ⌜ Judged r (now (s .exit)) nc (now (tri .entry)) t ⌝ }
+{
+    let a = first_repeat(tri, s, nc, n, t);
+    if let Found::At(i) = a {
+        return Fault { number: 5, at: i };
+    }
+    let b = first_flat(nodes, tri, n, t);
+    if let Found::At(i) = b {
+        return Fault { number: 6, at: i };
+    }
+    let c = first_unused(tri, s, n, t);
+    if let Found::At(k) = c {
+        return Fault { number: 7, at: k };
+    }
+    Fault { number: 0, at: 0 }
+}
+
+// The lowest number that applies, and where. The notes are all zero after; where no number applies, all rows are in the index.
+pub fn lowest_fault(nodes: &[i32], tri: &[u32], s: &mut [u32], n: usize, t: usize) -> Fault
+    requires { ⌜ Sized (length (now nodes) / 2) (length (now tri)) (length (now s)) ⌝ }
+    requires { ⌜ (2 * n ≤ length (now nodes)) × (3 * t ≤ length (now tri)) ⌝ }
+    requires { ⌜ now s ≡ replicate (length (now s)) 0 ⌝ }
+    ensures answer { λ r. ⌜ r ≡ faultOf (meshOf (given (now (nodes .entry)) (now (tri .entry)) (now (s .entry)) n t)) ⌝ }
+    ensures scratch { λ r. ⌜ Judged r (now (s .exit)) (length (now (nodes .entry)) / 2) (now (tri .entry)) t ⌝ }
+{
+    let a = first_outside(nodes, n);
+    if let Found::At(k) = a {
+        return Fault { number: 3, at: k };
+    }
+    let b = first_misnamed(tri, n, t);
+    if let Found::At(i) = b {
+        return Fault { number: 4, at: i };
+    }
+    later_fault(nodes, tri, s, nodes.len() / 2, n, t)
 }

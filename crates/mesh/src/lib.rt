@@ -1,0 +1,56 @@
+// The calls on a mesh in tables that the caller lends.
+ghost use mathlib.Core.Path.{_≡_};
+ghost use Prim.Native.Nat.{ℕ};
+ghost use lib.ListN.{length, replicate};
+ghost use Rattle.meaning.specs.Tables.{given, outcome};
+ghost use Rattle.meaning.specs.Calls.{checkOut};
+ghost use Rattle.mesh.specs.Sizes.{fitting};
+ghost use Rattle.mesh.specs.Check.{checkNumber};
+use meaning::Answer;
+
+// Not 1, for tables and scratch of these lengths.
+pub fn sizes_fit(nl: usize, tl: usize, sl: usize, n0: usize, n: usize, t: usize) -> bool
+    ensures { λ r. ⌜ r ≡ fitting nl tl sl n0 n t ⌝ }
+{
+    (nl % 2 == 0)
+        & (tl % 3 == 0)
+        & (nl / 2 <= 1024)
+        & (tl / 3 <= 2048)
+        & (n <= nl / 2)
+        & (t <= tl / 3)
+        & (n0 <= n)
+        & (nl / 2 + tl / 3 <= sl / 4)
+}
+
+// The lowest number that applies, or 0. Scratch is all zero before.
+fn check_number(nodes: &[i32], tri: &[u32], scratch: &mut [u32], n: usize, t: usize) -> u32
+    requires { ⌜ now scratch ≡ replicate (length (now scratch)) 0 ⌝ }
+    ensures { λ r. ⌜ r ≡ checkNumber (given (now (nodes .entry)) (now (tri .entry)) (now (scratch .entry)) n t) ⌝ }
+{
+    if !sizes_fit(nodes.len(), tri.len(), scratch.len(), 0, n, t) {
+        return 1;
+    }
+    let f = lawful::lowest_fault(nodes, tri, scratch, n, t);
+    if f.number != 0 {
+        return f.number;
+    }
+    if tables::is_found(lawful::first_clash(tri, scratch, nodes.len() / 2, t)) {
+        return 10;
+    }
+    0
+}
+
+// The base check. It writes no table but scratch, which is all zero after.
+pub fn check(nodes: &mut [i32], tri: &mut [u32], scratch: &mut [u32], n: usize, t: usize) -> Answer
+    ensures { λ r. ⌜ outcome r (now (nodes .exit)) (now (tri .exit)) (now (scratch .exit)) ≡ checkOut (given (now (nodes .entry)) (now (tri .entry)) (now (scratch .entry)) n t) ⌝ }
+{
+    tables::clear(scratch);
+    let number = check_number(nodes, tri, scratch, n, t);
+    tables::clear(scratch);
+    Answer {
+        number,
+        n,
+        t,
+        passes: 0,
+    }
+}

@@ -2,7 +2,7 @@
 -- added there is one. Assumes nothing.
 use mathlib.Core.Bool.{Bool, true, false}
 use mathlib.Core.List.{List, [], _∷_, map, List·Memᴰ, List·Memᴰ·head, List·Memᴰ·tail}
-use mathlib.Core.Logic.{_⊎_, inl, inr, _≢_}
+use mathlib.Core.Logic.{inl, inr, _≢_}
 use mathlib.Core.Path.{_≡_, refl, sym, subst, subst⁻¹, ap, ap₂, _∙_}
 use Prim.Native.Nat.{ℕ, zero, suc, _+_, _≤_, _<_}
 use native.Mathlib.Decide.{decLe, decLt}
@@ -14,7 +14,7 @@ use Rattle.lists.specs.ListsLaw.{clash, All-at, All-of}
 use Rattle.lists.specs.MembersLaw.{only-in, only-passes, only-keeps, mem-at, at-mem, upTo-in}
 use Rattle.meaning.specs.declared.Tri.{Tri}
 use Rattle.meaning.specs.Mesh.{Mesh, tri, edge, at, sameTri, holdsNode, holdsEdge}
-use Rattle.meaning.specs.Lawful.{Lawful, rowOf}
+use Rattle.meaning.specs.Lawful.{rowOf}
 use Rattle.meaning.specs.Good.{Brothers, brothers, rowsOf, span, good}
 use Rattle.meaning.specs.Coarsen.{goodNodes}
 use Rattle.laws.specs.Area.{middle-edge}

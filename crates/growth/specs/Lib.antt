@@ -6,3 +6,6 @@ pub mod Goodness
 pub mod Coarsening
 pub mod Refining
 pub mod Restoring
+pub mod TableMesh
+pub mod OnTables
+pub mod Demand3

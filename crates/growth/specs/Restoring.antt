@@ -1,13 +1,13 @@
 -- A mesh grown from a base goes back to it: while nodes are added a full pass removes one, and a restore ends with the base.
 -- Assumes nothing.
 use mathlib.Core.List.{List, [], _∷_, List·Memᴰ, List·Memᴰ·not-nil}
-use mathlib.Core.Path.{_≡_, refl, sym, subst}
+use mathlib.Core.Path.{_≡_, refl, subst}
 use Prim.Native.Nat.{ℕ, suc, _<_}
 use native.Mathlib.Decide.{decLt}
 use native.Mathlib.Omega.{arith}
 use lib.ListN.{length}
 use Rattle.meaning.specs.Mesh.{Mesh}
-use Rattle.meaning.specs.Coarsen.{goodNodes, allMarked, coarsened, pass, Restored, restored}
+use Rattle.meaning.specs.Coarsen.{goodNodes, allMarked, pass, Restored, restored}
 use Rattle.laws.specs.Restore.{Passes, none-good, one-pass, pass-fewer, restored-is, restored-ends}
 use Rattle.growth.specs.GrownFrom.{GrownFrom, from-end}
 use Rattle.growth.specs.Goodness.{good-there}

@@ -9,12 +9,11 @@ use native.Mathlib.Omega.{arith}
 use lib.Dec.{eqb}
 use lib.ListN.{length, getD, length-map, List·getD-map}
 use borrow.Author.Tests.{eqb-true, eqb-false, eq-eqb}
-use Rattle.lists.specs.Lists.{All}
 use Rattle.lists.specs.ListsLaw.{clash, or-left, or-right, All-at, All-getD, any-at, any-row}
 use Rattle.lists.specs.MembersLaw.{mem-at, at-mem, count-some}
 use Rattle.lists.specs.Tally.{tally, tally-at}
 use Rattle.meaning.specs.declared.Tri.{Tri}
-use Rattle.meaning.specs.Mesh.{Mesh, tri, arrow, edge, edges, base, sameEdge, holdsNode, holdsEdge}
+use Rattle.meaning.specs.Mesh.{Mesh, tri, arrow, edge, edges, sameEdge, holdsNode, holdsEdge}
 use Rattle.meaning.specs.Lawful.{Lawful, Named, rowOf}
 use Rattle.meaning.specs.Lawful as Meaning
 use Rattle.laws.specs.Edges.{edge-comm, sameEdge-eq, sameEdge-refl, hits, hit-self, count-arrows}

@@ -28,11 +28,26 @@ fn reaching(x: i32) -> u32 {
 }
 
 fn main() {
-    say(b"S, a square in two halves: ", square(4, 2, [1, 2, 0, 3, 0, 2]));
-    say(b"S with a count past its room: ", square(5, 2, [1, 2, 0, 3, 0, 2]));
-    say(b"S with a row that names a fifth node: ", square(4, 2, [1, 2, 0, 4, 0, 2]));
-    say(b"S with a row given twice: ", square(4, 2, [1, 2, 0, 1, 2, 0]));
-    say(b"S with a node in no row: ", square(4, 1, [1, 2, 0, 3, 0, 2]));
+    say(
+        b"S, a square in two halves: ",
+        square(4, 2, [1, 2, 0, 3, 0, 2]),
+    );
+    say(
+        b"S with a count past its room: ",
+        square(5, 2, [1, 2, 0, 3, 0, 2]),
+    );
+    say(
+        b"S with a row that names a fifth node: ",
+        square(4, 2, [1, 2, 0, 4, 0, 2]),
+    );
+    say(
+        b"S with a row given twice: ",
+        square(4, 2, [1, 2, 0, 1, 2, 0]),
+    );
+    say(
+        b"S with a node in no row: ",
+        square(4, 1, [1, 2, 0, 3, 0, 2]),
+    );
     say(b"R, whose labelling is not compatible: ", three_rows());
     say(b"a row of no area: ", reaching(0));
     say(b"a node at x = 1,048,576: ", reaching(1048576));

@@ -51,9 +51,9 @@ arrow-cases x y u e =
     ⊎-elim
     (λ a. inl (pairs x y (u .p) (u .q) a))
     (λ a. inr (⊎-elim
-      (λ b. inl (pairs x y (u .q) (u .r) b))
-      (λ b. inr (⊎-elim (λ d. pairs x y (u .r) (u .p) d) (λ d. clash (sym d)) (or-either (eqb x (u .r) && eqb y (u .p)) false b)))
-      (or-either (eqb x (u .q) && eqb y (u .r)) _ a)))
+    (λ b. inl (pairs x y (u .q) (u .r) b))
+    (λ b. inr (⊎-elim (λ d. pairs x y (u .r) (u .p) d) (λ d. clash (sym d)) (or-either (eqb x (u .r) && eqb y (u .p)) false b)))
+    (or-either (eqb x (u .q) && eqb y (u .r)) _ a)))
     (or-either (eqb x (u .p) && eqb y (u .q)) _ e)
 
 same-arrow : (x y a b : ℕ) → x ≡ a → y ≡ b → eqb x a && eqb y b ≡ true
@@ -89,12 +89,12 @@ edge-arrow x y u e =
     ⊎-elim
     (λ a. ⊎-elim (λ h. inl (q-r x y u (h .0) (h .1))) (λ h. inr (q-r y x u (h .0) (h .1))) (edge-ends x y (u .q) (u .r) a))
     (λ a. ⊎-elim
-      (λ b. ⊎-elim (λ h. inl (p-q x y u (h .0) (h .1))) (λ h. inr (p-q y x u (h .0) (h .1))) (edge-ends x y (u .p) (u .q) b))
-      (λ b. ⊎-elim
-        (λ d. ⊎-elim (λ h. inl (r-p x y u (h .0) (h .1))) (λ h. inr (r-p y x u (h .0) (h .1))) (edge-ends x y (u .r) (u .p) d))
-        (λ d. clash (sym d))
-        (or-either (sameEdge (edge x y) (edge (u .r) (u .p))) false b))
-      (or-either (sameEdge (edge x y) (edge (u .p) (u .q))) _ a))
+    (λ b. ⊎-elim (λ h. inl (p-q x y u (h .0) (h .1))) (λ h. inr (p-q y x u (h .0) (h .1))) (edge-ends x y (u .p) (u .q) b))
+    (λ b. ⊎-elim
+    (λ d. ⊎-elim (λ h. inl (r-p x y u (h .0) (h .1))) (λ h. inr (r-p y x u (h .0) (h .1))) (edge-ends x y (u .r) (u .p) d))
+    (λ d. clash (sym d))
+    (or-either (sameEdge (edge x y) (edge (u .r) (u .p))) false b))
+    (or-either (sameEdge (edge x y) (edge (u .p) (u .q))) _ a))
     (or-either (sameEdge (edge x y) (base u)) _ e)
 
 arrow-edge : (x y : ℕ) (u : Tri) → holdsArrow (arrow y x) u ≡ true → holdsEdge (edge x y) u ≡ true
@@ -102,10 +102,10 @@ arrow-edge x y u e =
     ⊎-elim
     (λ h. or-right (sameEdge (edge x y) (base u)) (or-left _ (edge-same x y (u .p) (u .q) (omega arith) (omega arith))))
     (λ a. ⊎-elim
-      (λ h. or-left _ (edge-same x y (u .q) (u .r) (omega arith) (omega arith)))
-      (λ h. or-right (sameEdge (edge x y) (base u))
-        (or-right (sameEdge (edge x y) (edge (u .p) (u .q))) (or-left false (edge-same x y (u .r) (u .p) (omega arith) (omega arith)))))
-      a)
+    (λ h. or-left _ (edge-same x y (u .q) (u .r) (omega arith) (omega arith)))
+    (λ h. or-right (sameEdge (edge x y) (base u))
+    (or-right (sameEdge (edge x y) (edge (u .p) (u .q))) (or-left false (edge-same x y (u .r) (u .p) (omega arith) (omega arith)))))
+    a)
     (arrow-cases y x u e)
 
 -- ---- a row that holds r→q of w: its refinement edge is q–r just where it is r→q
@@ -142,13 +142,13 @@ module _ (l : List ℕ) (n t : ℕ) (named : (i : ℕ) → i < t → Named n (ro
       let b2 = arrowBelow l j (w .q) (w .r) in
       let below : (a b : ℕ) → x ≡ a → y ≡ b → arrowBelow l j a b ≡ true = λ a b p q. rw (← p, ← q) (lowest-some (arrowAt l x y) j i h e) in
       let r : repeatAt l j ≡ true =
-          ⊎-elim
-          (λ p. or-left _ (or-left b2 (below (w .p) (w .q) (p .0) (p .1))))
-          (λ q. ⊎-elim
-            (λ p. or-left _ (or-right b1 (below (w .q) (w .r) (p .0) (p .1))))
-            (λ p. or-right (b1 || b2) (below (w .r) (w .p) (p .0) (p .1)))
-            q)
-          (arrow-cases x y w f) in
+      ⊎-elim
+      (λ p. or-left _ (or-left b2 (below (w .p) (w .q) (p .0) (p .1))))
+      (λ q. ⊎-elim
+      (λ p. or-left _ (or-right b1 (below (w .q) (w .r) (p .0) (p .1))))
+      (λ p. or-right (b1 || b2) (below (w .r) (w .p) (p .0) (p .1)))
+      q)
+      (arrow-cases x y w f) in
       clash (sym r ∙ lowest-nothing (repeatAt l) t j five k)
 
   pub once : (x y i j : ℕ) → i < t → j < t → arrowAt l x y i ≡ true → arrowAt l x y j ≡ true → i ≡ j
@@ -178,8 +178,8 @@ module _ (l : List ℕ) (n t : ℕ) (named : (i : ℕ) → i < t → Named n (ro
           let b = and-right (holdsEdge (base (rowAt l i)) (rowAt l k)) _ g in
           ⊎-elim
           (λ p.
-            let q : k ≡ i = once (rowAt l i .q) (rowAt l i .r) k i u h p (q-r (rowAt l i .q) (rowAt l i .r) (rowAt l i) refl refl) in
-            not-true (sameEdge (base (rowAt l i)) (base (rowAt l k))) b (rw q (edge-same (rowAt l i .q) (rowAt l i .r) (rowAt l i .q) (rowAt l i .r) refl refl)))
+          let q : k ≡ i = once (rowAt l i .q) (rowAt l i .r) k i u h p (q-r (rowAt l i .q) (rowAt l i .r) (rowAt l i) refl refl) in
+          not-true (sameEdge (base (rowAt l i)) (base (rowAt l k))) b (rw q (edge-same (rowAt l i .q) (rowAt l i .r) (rowAt l i .q) (rowAt l i .r) refl refl)))
           (λ p. clash (sym p ∙ e))
           (edge-arrow (rowAt l i .q) (rowAt l i .r) (rowAt l k) a)
 
@@ -199,7 +199,7 @@ module _ (l : List ℕ) (n t : ℕ) (named : (i : ℕ) → i < t → Named n (ro
           let y = lowest-true (arrowAt l (rowAt l i .r) (rowAt l i .q)) t j e in
           one i j h b y
           ∙ sym (any-one (hits i) (rowAt l) t j b
-            (λ k u o. other i k h u (is-false (arrowAt l (rowAt l i .r) (rowAt l i .q) k) (λ f. o (once (rowAt l i .r) (rowAt l i .q) k j u b f y)))))
+          (λ k u o. other i k h u (is-false (arrowAt l (rowAt l i .r) (rowAt l i .q) k) (λ f. o (once (rowAt l i .r) (rowAt l i .q) k j u b f y)))))
 
 -- ---- number 0
 

@@ -97,5 +97,5 @@ pub marks-gone : (l s s′ s″ : List ℕ) (t n : ℕ) → lowest (misnamedAt l
     s″ ≡ replicate n 0 ++ drop n s′ → s″ ≡ s
 marks-gone l s s′ s″ t n m e g h =
     let a : drop n s′ ≡ drop n s = rw g
-        (iter-keeps (markStep l) (λ (r : List ℕ). drop n r ≡ drop n s) t s (λ j r u p. step-above l r n j (corners-at l n n t j (omega arith) m u) ∙ p) refl) in
+    (iter-keeps (markStep l) (λ (r : List ℕ). drop n r ≡ drop n s) t s (λ j r u p. step-above l r n j (corners-at l n n t j (omega arith) m u) ∙ p) refl) in
     h ∙ rw (a, ← e) (take-append-drop n s)

@@ -9,3 +9,4 @@ pub mod Restoring
 pub mod TableMesh
 pub mod OnTables
 pub mod Demand3
+pub mod Demand3Example

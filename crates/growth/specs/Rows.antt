@@ -108,8 +108,14 @@ module _ (m : Mesh) (law : Lawful m) where
     where
       twice : (i l : ℕ) → i < l → l < length (m .tris) → Arrow (rows m i) a b → Arrow (rows m l) a b → ⊥
       twice i l h ll x y =
-          omega (arith, two-places (hits (arrow a b)) (m .tris) (tri 0 0 0) i l h ll, count-arrows (arrow a b) (m .tris), law .noTwice (arrow a b),
-          arrow-hits (rowOf (m .tris) i) a b x, arrow-hits (rowOf (m .tris) l) a b y)
+          omega (
+            arith,
+            two-places (hits (arrow a b)) (m .tris) (tri 0 0 0) i l h ll,
+            count-arrows (arrow a b) (m .tris),
+            law .noTwice (arrow a b),
+            arrow-hits (rowOf (m .tris) i) a b x,
+            arrow-hits (rowOf (m .tris) l) a b y,
+          )
 
       go : Dec (j < k) → Dec (k < j) → j ≡ k
       go (yes h) _ = absurd (twice j k h lk u v)

@@ -6,12 +6,12 @@ use mathlib.Core.Bool.{Bool, true, false}
 use Prim.Native.Nat.{ℕ, zero, suc, _+_, _≤_, _<_}
 use native.Mathlib.Decide.{decLt}
 use native.Mathlib.Omega.{arith}
-use lib.IntN.{+ℤ-comm}
 use lib.ListN.{length, getD, length-map, List·getD-map}
 use Rattle.lists.specs.Lists.{All, nil, cons}
 use Rattle.lists.specs.ListsLaw.{All-getD}
 use Rattle.meaning.specs.declared.Place.{Place}
 use Rattle.meaning.specs.Good.{Middle}
+use Rattle.laws.specs.Area.{middle-swap}
 use Rattle.growth.specs.Labels.Names.{Name, mid, mid-sym, mid-same, mid-injective, Same, straight, crossed, Halfway, same-map}
 use Rattle.growth.specs.Labels.Paths.{Side, L, R}
 use Rattle.growth.specs.Labels.Corners.{Corners, corners, Holds, is-p, is-q, is-r, Edge, edge-holds, edge-pq, edge-qr, edge-rp}
@@ -48,10 +48,6 @@ pub record Halving (n : ℕ) {t : ℕ} {rows : ℕ → Corners ℕ} {E : ℕ →
   pub stay : (k : ℕ) → k < t → rows′ k ≡ stays (K .decided) num (rows k)
   pub append : (j i : ℕ) → j < t → i < length (appends (K .decided) num (rows j))
       → rows′ (t + (total (λ j. length (appends (K .decided) num (rows j))) j + i)) ≡ getD (appends (K .decided) num (rows j)) i (rows j)
-
--- M is the midpoint of B and A if it is that of A and B.
-middle-turn : {M A B : Place} → Middle M A B → Middle M B A
-middle-turn {M} {A} {B} h = record { x-middle = h .x-middle ∙ +ℤ-comm (A .x) (B .x); y-middle = h .y-middle ∙ +ℤ-comm (A .y) (B .y) }
 
 -- Past a list's end alone the default matters.
 pub getD-default : {A : Type 0} (l : List A) (i : ℕ) (c d : A) → i < length l → getD l i c ≡ getD l i d
@@ -292,7 +288,7 @@ module _ {B : List (Corners ℕ)} {n₀ n t : ℕ} {rows : ℕ → Corners ℕ} 
         new-at x y lx ly h f (crossed u v) =
             let ea = differ-after y a (omega (arith, H .grows)) la (old-name y ly ∙ v) in
             let eb = differ-after x b (omega (arith, H .grows)) lb (old-name x lx ∙ u) in
-            rw (← ea, ← eb, ← f, kept-place x lx, kept-place y ly) (middle-turn (put x y h))
+            rw (← ea, ← eb, ← f, kept-place x lx, kept-place y ly) (middle-swap (put x y h))
 
         go : Dec (k < n) → Middle (place′ k) (place′ a) (place′ b)
         go (yes h) =

@@ -14,7 +14,7 @@ use Rattle.meaning.specs.Good.{pairs, span, G1-4, good}
 use Rattle.meaning.specs.Coarsen.{taken, without, coarsened, goodNodes, pass, restored}
 use Rattle.meaning.specs.Tables.{Given, given, outcome, answer, placeAt, rowAt, meshOf}
 use Rattle.meaning.specs.Calls.{checkNo, refineNo, coarsenNo, checks, refines, coarsens, restores, sizesFit, checkOut, refineOut, coarsenOut, restoreOut}
-use Rattle.growth.specs.Demand3.{Left, begin, lent, refined-by, coarsened-by, refused-by, check, refine, coarsen, restore, demand3-tables, fullPass}
+use Rattle.growth.specs.Demand3.{Left, begin, lent, refined-by, coarsened-by, refused-by, checked-by, a-refine, a-coarsen, a-restore, demand3-tables, fullPass}
 
 -- Tables in room for 9 nodes and 10 rows.
 tables : List ℕ → List ℕ → List ℕ → ℕ → ℕ → Given
@@ -59,11 +59,11 @@ history =
     let a : Left S S2 = refined-by begin newest refl (1 ∷ 0 ∷ []) refl in
     let b : Left S S3 = refined-by a newest refl (1 ∷ 0 ∷ 0 ∷ 0 ∷ []) refl in
     let c : Left S S4 = refined-by b newest refl (1 ∷ 0 ∷ 0 ∷ 0 ∷ 0 ∷ []) refl in
-    let d : Left S S4 = refused-by c (replicate 76 1) 7 8 check (not-0 3) in
-    let e : Left S S4 = refused-by d (replicate 76 0) 8 8 (refine newest 4 (1 ∷ [])) (not-0 1) in
+    let d : Left S S4 = checked-by c (replicate 76 1) 7 8 in
+    let e : Left S S4 = refused-by d (replicate 76 0) 8 8 (a-refine newest 4 (1 ∷ [])) (not-0 1) in
     let f = coarsened-by e (0 ∷ 0 ∷ 0 ∷ 0 ∷ 0 ∷ 0 ∷ 1 ∷ 0 ∷ []) refl in
-    let g = refused-by f (replicate 76 0) 7 6 (coarsen 8 (replicate 7 1)) (not-0 0) in
-    let h = refused-by g [] 7 6 (restore 4) (not-0 0) in
+    let g = refused-by f (replicate 76 0) 7 6 (a-coarsen 8 (replicate 7 1)) (not-0 0) in
+    let h = refused-by g [] 7 6 (a-restore 4) (not-0 0) in
     lent h (replicate 80 9)
 
 -- A full pass removes a node,

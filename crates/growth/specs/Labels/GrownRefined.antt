@@ -34,7 +34,7 @@ module _ {E : ℕ → ℕ → Type 0} (E? : (a b : ℕ) → Dec (E a b)) (num : 
   abbrev pub appends : Corners ℕ → List (Corners ℕ)
   appends r = more-rows num (ask (E? (r .q) (r .r))) (ask (E? (r .p) (r .q))) (ask (E? (r .r) (r .p))) r
 
--- The mesh after splitting the edges of E: new nodes n .. n′-1, each the number of one edge; the rows by the table.
+-- The mesh after splitting the edges of E: new nodes n .. n′-1, each the number of one edge; the rows by pattern.
 pub record Halving (n : ℕ) {t : ℕ} {rows : ℕ → Corners ℕ} {E : ℕ → ℕ → Type 0} (K : ClosedRows t rows E) (num : ℕ → ℕ → ℕ) (n′ t′ : ℕ) (rows′ : ℕ → Corners ℕ) : Type 0 where
   pub grows : n ≤ n′
   pub num-new : (a b : ℕ) → E a b → n ≤ num a b
@@ -70,15 +70,13 @@ module _ {B : List (Corners ℕ)} {n₀ n t : ℕ} {rows : ℕ → Corners ℕ} 
   abbrev S : Closed B t (G .lab) (ByName (G .by-names) K)
   S = closed-by-name (G .by-names) K
 
-  -- Whether q–r is.
+  -- Whether q–r, p–q and r–p of row j are split.
   abbrev dm : (j : ℕ) → Dec (E (rows j .q) (rows j .r))
   dm j = K .decided (rows j .q) (rows j .r)
 
-  -- Whether p–q is.
   abbrev du : (j : ℕ) → Dec (E (rows j .p) (rows j .q))
   du j = K .decided (rows j .p) (rows j .q)
 
-  -- Whether r–p is.
   abbrev dv : (j : ℕ) → Dec (E (rows j .r) (rows j .p))
   dv j = K .decided (rows j .r) (rows j .p)
 
@@ -111,7 +109,7 @@ module _ {B : List (Corners ℕ)} {n₀ n t : ℕ} {rows : ℕ → Corners ℕ} 
       let e = H .ends k (H .num-new a b h) (H .num-below a b h) in
       added-name k (H .num-new a b h) ∙ mid-same (same-map name (H .num-injective _ _ a b (e .0) h (e .1)))
 
-  -- The label family afterwards is a forest.
+  -- The labels afterwards.
   pub labels-after : ℕ → Label
   labels-after = label-after S
 
@@ -125,7 +123,7 @@ module _ {B : List (Corners ℕ)} {n₀ n t : ℕ} {rows : ℕ → Corners ℕ} 
   count-same : t′ ≡ rows-after S
   count-same = H .count ∙ ap (t +_) (total-same _ _ t size-same)
 
-  -- And they are a forest.
+  -- The labels afterwards are a forest.
   forest-after : Forest B t′ labels-after
   unfolding labels-after
   forest-after = subst (λ (x : ℕ). Forest B x labels-after) (sym count-same)
@@ -204,7 +202,7 @@ module _ {B : List (Corners ℕ)} {n₀ n t : ℕ} {rows : ℕ → Corners ℕ} 
   E-absent : (a b : ℕ) → E a b → ¬ Present B t lab (mid (name a) (name b))
   E-absent a b h = let (j, l, e) = K .of-rows a b h in G .forest .no-hang j l (name a) (name b) (edge-name N j l e)
 
-  -- All node is a corner by name.
+  -- Every node is a corner by name.
   node-present : (k : ℕ) → k < n → Present B t lab (name k)
   node-present k l = let (j, lj, h) = G .used k l in record { index = j; below = lj; holds = holds-name N j lj h }
 

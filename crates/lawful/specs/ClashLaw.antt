@@ -15,7 +15,7 @@ use Rattle.lists.specs.declared.Found.the-variants.{At, Nothing}
 use Rattle.lists.specs.Lists.{any, isFound}
 use Rattle.lists.specs.ListsLaw.{clash, and-both, and-left, and-right, or-left, or-right}
 use Rattle.lists.specs.Search.{lowest, items, itemsFrom}
-use Rattle.lists.specs.SearchLaw.{lowest-where, lowest-nothing, lowest-some, lowest-below, lowest-true}
+use Rattle.lists.specs.SearchLaw.{lowest-where, lowest-nothing, lowest-some, lowest-below, lowest-true, any-no, any-one}
 use Rattle.meaning.specs.declared.Tri.{Tri}
 use Rattle.meaning.specs.declared.Fault.{Fault}
 use Rattle.meaning.specs.Mesh.{arrow, edge, base, sameEdge, sameArrow, holdsArrow, holdsEdge}
@@ -131,35 +131,6 @@ turned w u n k e = same (sameEdge (base w) (base u)) (eqb (u .q) (w .r) && eqb (
     back g = let h = pairs (u .q) (u .r) (w .r) (w .q) g in edge-same (w .q) (w .r) (u .q) (u .r) (omega arith) (omega arith)
 
 -- ---- rows by number
-
-module _ {A : Type 0} (f : A → Bool) (a : ℕ → A) where
-  from-none : (i k : ℕ) → ((j : ℕ) → i ≤ j → j < i + k → f (a j) ≡ false) → any f (itemsFrom a i k) ≡ false
-  unfolding itemsFrom
-  from-none i zero h = refl
-  from-none i (suc k) h = rw (h i (omega arith) (omega arith)) (from-none (i + 1) k (λ j l u. h j (omega arith) (omega arith)))
-
-  pub any-no : (t : ℕ) → ((j : ℕ) → j < t → f (a j) ≡ false) → any f (items a 0 t) ≡ false
-  unfolding items
-  any-no t h = from-none 0 (t - 0) (λ j l u. h j (omega arith))
-
-  or-false : (b : Bool) → b || false ≡ b
-  or-false true = refl
-  or-false false = refl
-
-  from-one : (i k m : ℕ) → i ≤ m → m < i + k → ((j : ℕ) → i ≤ j → j < i + k → j ≢ m → f (a j) ≡ false) → any f (itemsFrom a i k) ≡ f (a m)
-  unfolding itemsFrom
-  from-one i zero m l u h = absurd (omega arith)
-  from-one i (suc k) m l u h =
-      go (ℕ-discrete i m) (λ o. from-one (i + 1) k m (omega arith) (omega arith) (λ j a b. h j (omega arith) (omega arith)))
-    where
-      go : Dec (i ≡ m) → (i ≢ m → any f (itemsFrom a (i + 1) k) ≡ f (a m)) → f (a i) || any f (itemsFrom a (i + 1) k) ≡ f (a m)
-      go (yes e) r = rw (from-none (i + 1) k (λ j b c. h j (omega arith) (omega arith) (omega arith)), e) (or-false (f (a m)))
-      go (no o) r = rw (h i (omega arith) (omega arith) o) (r o)
-
-  -- at most one number passes
-  pub any-one : (t m : ℕ) → m < t → ((j : ℕ) → j < t → j ≢ m → f (a j) ≡ false) → any f (items a 0 t) ≡ f (a m)
-  unfolding items
-  any-one t m u h = from-one 0 (t - 0) m (omega arith) (omega arith) (λ j b c. h j (omega arith))
 
 module _ (l : List ℕ) (n t : ℕ) (named : (i : ℕ) → i < t → Named n (rowAt l i)) (five : lowest (repeatAt l) 0 t ≡ Nothing) where
   -- not 5: two rows that hold a directed edge are one

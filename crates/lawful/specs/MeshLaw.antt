@@ -11,7 +11,7 @@ use Rattle.lists.specs.declared.Found.{Found}
 use Rattle.lists.specs.declared.Found.the-variants.{At, Nothing}
 use Rattle.lists.specs.Lists.{any, isFound}
 use Rattle.lists.specs.Search.{lowest, items}
-use Rattle.lists.specs.SearchLaw.{lowest-where, lowest-any, lowest-agree}
+use Rattle.lists.specs.SearchLaw.{or-three, lowest-where, lowest-any, lowest-agree}
 use Rattle.lists.specs.IterLaw.{length-items, getD-items, take-items}
 use Rattle.meaning.specs.declared.Tri.{Tri}
 use Rattle.meaning.specs.declared.Fault.{Fault}
@@ -22,15 +22,6 @@ use Rattle.plane.specs.Plane.{flatTri}
 use Rattle.tables.specs.Arrow.{arrowAt}
 use Rattle.lawful.specs.Tests.{outsideAt, misnamedAt, arrowBelow, repeatAt, flatAt, laterBy, faultBy}
 use Rattle.lawful.specs.TestsLaw.{named-tri, named-at}
-
-or-end : (a b c : Bool) → a || b || c ≡ a || (b || (c || false))
-or-end true true c = refl
-or-end true false true = refl
-or-end true false false = refl
-or-end false true true = refl
-or-end false true false = refl
-or-end false false true = refl
-or-end false false false = refl
 
 module _ (nodes : List ℤ) (l s : List ℕ) (n t : ℕ) where
   pub outside-is : lowest (outsideAt nodes) 0 n ≡ firstOutside (meshOf (given nodes l s n t))
@@ -53,7 +44,7 @@ module _ (nodes : List ℤ) (l s : List ℕ) (n t : ℕ) where
       let b : i ≤ t = omega arith in
       let w = rowAt l i in
       rw (getD-items (rowAt l) t i (tri 0 0 0) h, take-items (rowAt l) t i b, below-is (w .p) (w .q) i, below-is (w .q) (w .r) i, below-is (w .r) (w .p) i)
-      (or-end
+      (or-three
       (any (holdsArrow (arrow (w .p) (w .q))) (items (rowAt l) 0 i))
       (any (holdsArrow (arrow (w .q) (w .r))) (items (rowAt l) 0 i))
       (any (holdsArrow (arrow (w .r) (w .p))) (items (rowAt l) 0 i)))

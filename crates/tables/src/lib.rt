@@ -102,7 +102,7 @@ pub fn is_found(f: Found) -> bool
 fn has_edge(w: Tri, x: u32, y: u32) -> bool
     ensures { λ r. ⌜ r ≡ holdsArrow (arrow x y) w ⌝ }
 {
-    (x == w.p) & (y == w.q) | ((x == w.q) & (y == w.r) | (x == w.r) & (y == w.p))
+    (x == w.p) & (y == w.q) | (x == w.q) & (y == w.r) | (x == w.r) & (y == w.p)
 }
 
 fn edge_at(tri: &[u32], x: u32, y: u32, i: usize) -> bool

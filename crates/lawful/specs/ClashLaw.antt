@@ -1,10 +1,10 @@
 -- 10 of a mesh that draws none of 3 to 7: of all rows, only the one that holds r→q can clash with a row whose refinement edge is q–r.
 -- Assumes nothing.
-use mathlib.Core.Path.{_≡_, refl, sym, ap, _∙_}
-use mathlib.Core.Logic.{_≢_, _⊎_, inl, inr, ⊎-elim}
+use mathlib.Core.Path.{_≡_, refl, sym, _∙_}
+use mathlib.Core.Logic.{_⊎_, inl, inr, ⊎-elim}
 use mathlib.Core.Bool.{Bool, true, false, not, _&&_, _||_}
-use mathlib.Core.List.{List, [], _∷_}
-use Prim.Native.Nat.{ℕ, zero, suc, _+_, _-_, _≤_, _<_, min, max}
+use mathlib.Core.List.{List}
+use Prim.Native.Nat.{ℕ, _<_, min, max}
 use native.Mathlib.Omega.{arith}
 use native.Mathlib.Decide.{ℕ-discrete, decLt}
 use borrow.Author.Tests.{eqb-true, eq-eqb}
@@ -12,14 +12,14 @@ use lib.Dec.{eqb}
 use lib.IntN.{ℤ}
 use Rattle.lists.specs.declared.Found.{Found}
 use Rattle.lists.specs.declared.Found.the-variants.{At, Nothing}
-use Rattle.lists.specs.Lists.{any, isFound}
+use Rattle.lists.specs.Lists.{any}
 use Rattle.lists.specs.ListsLaw.{clash, and-both, and-left, and-right, or-left, or-right}
-use Rattle.lists.specs.Search.{lowest, items, itemsFrom}
+use Rattle.lists.specs.Search.{lowest, items}
 use Rattle.lists.specs.SearchLaw.{lowest-where, lowest-nothing, lowest-some, lowest-below, lowest-true, any-no, any-one}
 use Rattle.meaning.specs.declared.Tri.{Tri}
 use Rattle.meaning.specs.declared.Fault.{Fault}
-use Rattle.meaning.specs.Mesh.{arrow, edge, base, sameEdge, sameArrow, holdsArrow, holdsEdge}
-use Rattle.meaning.specs.Lawful.{Named, clashes, fault, orLater, faultOf, firstClash}
+use Rattle.meaning.specs.Mesh.{arrow, edge, base, sameEdge, holdsArrow, holdsEdge}
+use Rattle.meaning.specs.Lawful.{Named, clashes, orLater, faultOf, firstClash}
 use Rattle.meaning.specs.Tables.{rowAt, given, meshOf}
 use Rattle.tables.specs.Arrow.{arrowAt}
 use Rattle.lawful.specs.Tests.{outsideAt, misnamedAt, arrowBelow, repeatAt, clashWith, clashFound, clashAt, laterBy, faultBy}

@@ -1,22 +1,18 @@
 -- The searches by number are document 01's searches of the mesh in the tables. Assumes nothing.
-use mathlib.Core.Path.{_≡_, refl, sym, ap, _∙_}
-use mathlib.Core.Bool.{Bool, true, false, not, _||_}
-use mathlib.Core.List.{List, [], _∷_}
-use Prim.Native.Nat.{ℕ, _+_, _-_, _≤_, _<_}
+use mathlib.Core.Path.{_≡_, refl, ap}
+use mathlib.Core.List.{List}
+use Prim.Native.Nat.{ℕ, _≤_, _<_}
 use native.Mathlib.Omega.{arith}
-use lib.IntN.{ℤ, pos}
-use lib.Signed.{ltZ}
-use lib.ListN.{length, getD, take}
+use lib.IntN.{ℤ}
 use Rattle.lists.specs.declared.Found.{Found}
 use Rattle.lists.specs.declared.Found.the-variants.{At, Nothing}
-use Rattle.lists.specs.Lists.{any, isFound}
+use Rattle.lists.specs.Lists.{any}
 use Rattle.lists.specs.Search.{lowest, items}
 use Rattle.lists.specs.SearchLaw.{or-three, lowest-where, lowest-any, lowest-agree}
 use Rattle.lists.specs.IterLaw.{length-items, getD-items, take-items}
-use Rattle.meaning.specs.declared.Tri.{Tri}
 use Rattle.meaning.specs.declared.Fault.{Fault}
-use Rattle.meaning.specs.Mesh.{arrow, arrows, holdsArrow, tri, at, origin, turn, twiceArea}
-use Rattle.meaning.specs.Lawful.{outside, misnamed, Named, rowOf, repeats, flat, unused, fault, orLater, faultOf, firstOutside, firstMisnamed, firstRepeat, firstFlat, firstUnused}
+use Rattle.meaning.specs.Mesh.{arrow, holdsArrow, tri, at, origin, twiceArea}
+use Rattle.meaning.specs.Lawful.{outside, misnamed, Named, repeats, flat, unused, orLater, faultOf, firstOutside, firstMisnamed, firstRepeat, firstFlat, firstUnused}
 use Rattle.meaning.specs.Tables.{placeAt, rowAt, given, meshOf}
 use Rattle.plane.specs.Plane.{flatTri}
 use Rattle.tables.specs.Arrow.{arrowAt}

@@ -1,6 +1,5 @@
 // The calls on a mesh in tables that the caller lends.
 ghost use mathlib.Core.Path.{_≡_};
-ghost use Prim.Native.Nat.{ℕ};
 ghost use lib.ListN.{length, replicate};
 ghost use Rattle.meaning.specs.Tables.{given, outcome};
 ghost use Rattle.meaning.specs.Calls.{checkOut};

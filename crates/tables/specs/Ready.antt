@@ -1,6 +1,6 @@
 -- What the neighbour search asks of scratch: the index of the first t rows stands from `indexAt` on. Only this crate opens `Ready`;
 -- others know these laws, and what `add_row` ensures. The index is empty for now, so that `Ready` holds sizes alone. Assumes nothing.
-use mathlib.Core.Path.{_≡_, refl, sym, ap, _∙_}
+use mathlib.Core.Path.{_≡_, ap, _∙_}
 use mathlib.Core.List.{List, _++_}
 use Prim.Native.Nat.{ℕ, _+_, _-_, _*_, _≤_, _<_}
 use native.Mathlib.Omega.{arith}

@@ -2,7 +2,7 @@
 // `indexAt` are notes of the running call; from there on stands the index of the search, which only this crate reads and writes.
 ghost use mathlib.Core.Path.{_≡_};
 ghost use mathlib.Core.List.{_++_};
-ghost use Prim.Native.Nat.{ℕ, _+_, _*_, _≤_, _<_};
+ghost use Prim.Native.Nat.{_+_, _*_, _≤_, _<_};
 ghost use lib.ListN.{length, take, drop, replicate, getD, set};
 ghost use Rattle.lists.specs.Lists.{isFound};
 ghost use Rattle.lists.specs.Search.{lowest};

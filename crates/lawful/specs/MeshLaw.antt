@@ -85,3 +85,27 @@ module _ (nodes : List ℤ) (l s : List ℕ) (n t : ℕ) where
       rw (← outside-is, ← misnamed-is, ← repeat-is, ← unused-is)
       (ap (orLater 3 (lowest (outsideAt nodes) 0 n))
       (after-named (lowest (misnamedAt l n) 0 t) refl _ _ (λ e. rw (flat-is e))))
+
+-- ---- number 0: no search by number found anything
+
+pub record Right (nodes : List ℤ) (l : List ℕ) (n t : ℕ) : Type 0 where
+  pub range : lowest (outsideAt nodes) 0 n ≡ Nothing
+  pub named : lowest (misnamedAt l n) 0 t ≡ Nothing
+  pub once : lowest (repeatAt l) 0 t ≡ Nothing
+  pub area : lowest (flatAt nodes l) 0 t ≡ Nothing
+  pub used : lowest (unused (items (rowAt l) 0 t)) 0 n ≡ Nothing
+
+or-zero : (k : ℕ) (f : Found) (rest : Fault) → 0 < k → orLater k f rest .number ≡ 0 → (f ≡ Nothing) × (rest .number ≡ 0)
+or-zero k (At i) rest h e = absurd (omega arith)
+or-zero k Nothing rest h e = (refl, e)
+
+pub right : (nodes : List ℤ) (l s : List ℕ) (n t : ℕ) → faultOf (meshOf (given nodes l s n t)) .number ≡ 0 → Right nodes l n t
+unfolding faultBy laterBy
+right nodes l s n t z =
+    let y : faultBy nodes l n t .number ≡ 0 = rw (fault-is nodes l s n t) z in
+    let a = or-zero 3 (lowest (outsideAt nodes) 0 n) _ (omega arith) y in
+    let b = or-zero 4 (lowest (misnamedAt l n) 0 t) _ (omega arith) (a .1) in
+    let c = or-zero 5 (lowest (repeatAt l) 0 t) _ (omega arith) (b .1) in
+    let d = or-zero 6 (lowest (flatAt nodes l) 0 t) _ (omega arith) (c .1) in
+    let e = or-zero 7 (lowest (unused (items (rowAt l) 0 t)) 0 n) _ (omega arith) (d .1) in
+    record { range = a .0; named = b .0; once = c .0; area = d .0; used = e .0 }

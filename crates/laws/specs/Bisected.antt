@@ -1,5 +1,4 @@
 -- Bisection has the laws of a cut. Each is a look at four patterns: m only; m, u; m, v; all. Assumes nothing.
-use mathlib.Core.List.{List, [], _∷_}
 use mathlib.Core.Option.{Option, none, some}
 use mathlib.Core.Logic.{_≢_}
 use mathlib.Core.Path.{_≡_, refl, sym, ap, ap₂, _∙_}
@@ -10,7 +9,7 @@ use lib.Signed.{_<ℤ_}
 use lib.ListN.{length}
 use Rattle.lists.specs.Lists.{All, nil, cons}
 use Rattle.lists.specs.Tally.{tally}
-use Rattle.whole.specs.Ring.{Expr, K, _:+_, ring2, ring3, ring4}
+use Rattle.whole.specs.Ring.{K, _:+_, ring2, ring3, ring4}
 use Rattle.meaning.specs.declared.Place.{Place}
 use Rattle.meaning.specs.declared.Tri.{Tri}
 use Rattle.meaning.specs.Mesh.{Mesh, Arrow, tri, at, turn, twiceArea, sum}
@@ -18,7 +17,7 @@ use Rattle.meaning.specs.Lawful.{Named}
 use Rattle.meaning.specs.Good.{Middle}
 use Rattle.meaning.specs.Split.{bisected}
 use Rattle.laws.specs.Area.{left-half, right-half, bisect-area, half-positive}
-use Rattle.laws.specs.Edges.{hit, hits, here, names}
+use Rattle.laws.specs.Edges.{hits, here, names}
 use Rattle.laws.specs.Cut.{CutLaws, Centred, Fresh, NewNode, Differ, MidOf, parts, there, allowed, hereIf}
 
 -- ---- area: each bisection halves, so its two rows have the area of the one
@@ -139,7 +138,7 @@ bisected-named n n′ t m u v a f = go u v (f .u-new) (f .v-new) (f .m-u) (f .m-
 
 -- ---- arrows, corners, rows: counted
 
-bisected-arrows : (e : Arrow) (t : Tri) (m : ℕ) (u v : Option ℕ) → tally (hits e) (parts (bisected t (some m) u v)) ≤ allowed e t m u v
+bisected-arrows : (e : Arrow) (t : Tri) (m : ℕ) (u v : Option ℕ) → tally (hits e) (parts (bisected t (some m) u v)) ≤ allowed e t (some m) u v
 bisected-arrows e t m none none = omega arith
 bisected-arrows e t m (some u) none = omega arith
 bisected-arrows e t m none (some v) = omega arith

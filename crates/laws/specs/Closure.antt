@@ -2,20 +2,22 @@
 -- a mesh are the edges of its rows that lie in the closure, each once, and with an edge of a row they hold its refinement edge.
 -- Assumes nothing.
 use mathlib.Core.Bool.{Bool, true, false, not, _&&_, _||_}
-use mathlib.Core.List.{List, [], _∷_, List·Memᴰ, List·Memᴰ·head, List·Memᴰ·tail}
+use mathlib.Core.List.{List, [], _∷_, List·Memᴰ, List·Memᴰ·head, List·Memᴰ·tail, Memᴰ·append-left, Memᴰ·append-right}
 use mathlib.Core.Logic.{_↔_}
 use mathlib.Core.Option.{Option, none, some}
-use mathlib.Core.Path.{_≡_, refl, sym, subst⁻¹, ap, _∙_}
+use mathlib.Core.Path.{_≡_, refl, sym, ap, _∙_}
 use Prim.Native.Nat.{ℕ, zero, suc, _≤_, _<_}
 use native.Mathlib.Omega.{arith}
 use lib.Dec.{eqb}
 use lib.ListN.{length, getD}
+use borrow.Author.Tests.{eqb-true}
 use Rattle.lists.specs.declared.Found.the-variants.{At}
 use Rattle.lists.specs.Lists.{any, only, once, consIf, count, first, whereFirst, joined, All, nil, cons}
 use Rattle.lists.specs.ListsLaw.{clash, and-left, and-right, or-left, or-right, All-imp, All-both, All-append, All-at, All-of, All-joined, All-getD, any-row, any-none, FirstIs, no-row, row, first-is, count-lt, count-none, count-le-length}
-use Rattle.lists.specs.MembersLaw.{only-in, only-passes, only-keeps, once-keeps, joined-in}
+use Rattle.lists.specs.MembersLaw.{at-mem, only-in, only-passes, only-keeps, once-keeps, joined-in}
 use Rattle.meaning.specs.declared.Tri.{Tri}
-use Rattle.meaning.specs.Mesh.{Mesh, Edge, edges, base, sameEdge}
+use Rattle.meaning.specs.Mesh.{Mesh, Edge, tri, edges, base, sameEdge}
+use Rattle.meaning.specs.Lawful.{rowOf}
 use Rattle.meaning.specs.Split.{Closed, memEdge, pulls, addBase, grow, closure, splitEdges, Way, ifMarked, started}
 use Rattle.laws.specs.Edges.{sameEdge-eq, sameEdge-refl, memEdge-in, memEdge-at}
 
@@ -196,15 +198,30 @@ module _ (m : Mesh) (start : List Edge) where
 
 -- ---- the starting edges of marked rows
 
-started-all : {P : Edge → Type 0} (w : Way) (marks : List ℕ) {ts : List Tri} → All (λ t. All P (w .starts t)) ts → All P (started w marks ts)
-started-all w [] h = nil
-started-all w (k ∷ ks) nil = nil
-started-all {P} w (k ∷ ks) (cons {x = t} {xs = ts} h hs) = go (eqb k 1) (started-all w ks hs)
+-- the starting edges of every marked row are there, and no other edge
+pub started-marked : (w : Way) (marks : List ℕ) (ts : List Tri) (i : ℕ) → i < length ts → getD marks i 0 ≡ 1 → All (λ e. List·Memᴰ e (started w marks ts)) (w .starts (rowOf ts i))
+started-marked w [] ts i h one = absurd (omega arith)
+started-marked w (k ∷ ks) [] i h one = absurd (omega arith)
+started-marked w (k ∷ ks) (t ∷ ts) zero h one = rw one (All-of (w .starts t) (λ e j. Memᴰ·append-left (started w ks ts) j))
+started-marked w (k ∷ ks) (t ∷ ts) (suc i) h one = All-imp (λ e j. go (eqb k 1) j) (started-marked w ks ts i (omega arith) one)
   where
-    go : (b : Bool) → All P (started w ks ts) → All P (ifMarked b (w .starts t) (started w ks ts))
-    go true below = All-append h below
-    go false below = below
+    go : {e : Edge} (b : Bool) → List·Memᴰ e (started w ks ts) → List·Memᴰ e (ifMarked b (w .starts t) (started w ks ts))
+    go true j = Memᴰ·append-right (w .starts t) j
+    go false j = j
+
+pub started-only : (w : Way) (marks : List ℕ) (ts : List Tri) → All (λ e. (i : ℕ) × (i < length ts) × (getD marks i 0 ≡ 1) × List·Memᴰ e (w .starts (rowOf ts i))) (started w marks ts)
+started-only w [] ts = nil
+started-only w (k ∷ ks) [] = nil
+started-only w (k ∷ ks) (t ∷ ts) = go (eqb k 1) refl (All-imp (λ e r. (suc (r .0), omega (arith, r .1), r .2, r .3)) (started-only w ks ts))
+  where
+    Of : Edge → Type 0
+    Of e = (i : ℕ) × (i < suc (length ts)) × (getD (k ∷ ks) i 0 ≡ 1) × List·Memᴰ e (w .starts (rowOf (t ∷ ts) i))
+
+    go : (b : Bool) → eqb k 1 ≡ b → All Of (started w ks ts) → All Of (ifMarked b (w .starts t) (started w ks ts))
+    go true q below = All-append (All-of (w .starts t) (λ e j. (0, omega arith, eqb-true k 1 q, j))) below
+    go false q below = below
 
 -- a way that starts with edges of the marked rows: the split edges are the least closed set
 pub started-edges : (w : Way) → ((t : Tri) → All (λ e. List·Memᴰ e (edges t)) (w .starts t)) → (marks : List ℕ) (ts : List Tri) → All (EdgeOf ts) (started w marks ts)
-started-edges w own marks ts = started-all w marks (All-of ts (λ t i. All-imp (λ e j. (t, i, j)) (own t)))
+started-edges w own marks ts =
+    All-imp (λ e r. (rowOf ts (r .0), at-mem ts (r .0) (tri 0 0 0) (r .1), All-at (own (rowOf ts (r .0))) (r .3))) (started-only w marks ts)

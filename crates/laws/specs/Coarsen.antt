@@ -3,7 +3,7 @@
 use mathlib.Core.Bool.{Bool, true, false, not, _&&_}
 use mathlib.Core.List.{List, map, List·Memᴰ}
 use mathlib.Core.Logic.{_↔_}
-use mathlib.Core.Path.{_≡_, refl, sym, subst, ap}
+use mathlib.Core.Path.{_≡_, refl, sym, subst}
 use Prim.Native.Nat.{ℕ, _+_, _≤_, _<_}
 use native.Mathlib.Omega.{arith}
 use lib.Dec.{eqb, ltb}
@@ -16,7 +16,7 @@ use Rattle.lists.specs.Tally.{bit, tally, count-tally, only-le}
 use Rattle.meaning.specs.declared.Tri.{Tri}
 use Rattle.meaning.specs.Mesh.{Mesh, at, total}
 use Rattle.meaning.specs.Lawful.{Lawful}
-use Rattle.meaning.specs.Good.{Brothers, pairs, good}
+use Rattle.meaning.specs.Good.{good}
 use Rattle.meaning.specs.Coarsen.{marked, taken, fate, stays, renumber, renamed, without, coarsened}
 use Rattle.laws.specs.Stay.{stayed-mono, stayed-all, renumber-lt, renumber-falls, staying-rest}
 use Rattle.laws.specs.Star.{Pair, GoodStar, good-added, good-star}

@@ -1,4 +1,8 @@
 -- The rows after the nodes zs have gone, before the nodes are renumbered: the rows that hold none of them, and the fathers. Assumes nothing.
+--
+-- A row holds at most one of the nodes, as its newest vertex; so the pairs round the nodes are the rows that hold one, each once
+-- (`before`). A row that is the left one of a pair becomes the father and one that is the right one goes, so afterwards the fathers stand
+-- for the pairs (`after`). Both are sums over the rows of any number f, so that counts of arrows and nodes, and areas, follow alike.
 use mathlib.Core.Bool.{Bool, true, false, not}
 use mathlib.Core.List.{List, [], _∷_, List·Memᴰ}
 use mathlib.Core.Option.{Option}
@@ -10,7 +14,7 @@ use borrow.Author.Tests.{eq-eqb}
 use Rattle.lists.specs.Lists.{any, joined, All, nil, cons}
 use Rattle.lists.specs.ListsLaw.{or-left, both-ways, All-imp, All-at, All-of, All-joined, any-at, any-row, any-none, FirstIs, no-row, row, first-is}
 use Rattle.lists.specs.MembersLaw.{only-in}
-use Rattle.lists.specs.Tally.{if-so, bit, bit-le, if-swap, tally, tally-le, tally-eq, tally-add, tally-only, tally-parts, tally-joined, tally-swap, bits-some, bits-none, if-any, pick-one}
+use Rattle.lists.specs.Tally.{if-so, bit, bit-le, bit-yes, bit-no, bit-one, if-swap, tally, tally-le, tally-eq, tally-add, tally-only, tally-parts, tally-joined, tally-swap, bits-some, bits-none, if-any, pick-one}
 use Rattle.meaning.specs.declared.Tri.{Tri}
 use Rattle.meaning.specs.Mesh.{Mesh, sameTri, holdsNode}
 use Rattle.meaning.specs.Lawful.{Lawful}
@@ -28,23 +32,11 @@ touched zs t = any (λ z. holdsNode z t) zs
 abbrev pub brood : Mesh → List ℕ → List Brothers
 brood m zs = joined (pairs m) zs
 
--- what becomes of row t
+-- what becomes of row t: "The left row becomes" the father, "the brothers' rows go", and a row that holds none of the nodes stays
 pub data Fate (bs : List Brothers) (zs : List ℕ) (t : Tri) : List Tri → Type 0 where
   to-father : {b : Brothers} → List·Memᴰ b bs → sameTri (b .left) t ≡ true → Fate bs zs t (father b ∷ [])
   to-none : {b : Brothers} → List·Memᴰ b bs → sameTri (b .right) t ≡ true → All (λ b. sameTri (b .left) t ≡ false) bs → touched zs t ≡ true → Fate bs zs t []
   to-self : All (λ b. sameTri (b .left) t ≡ false) bs → touched zs t ≡ false → Fate bs zs t (t ∷ [])
-
-bit-yes : (b : Bool) → 1 ≤ bit b → b ≡ true
-bit-yes true h = refl
-bit-yes false h = absurd (omega arith)
-
-bit-no : (b : Bool) → bit b ≡ 0 → b ≡ false
-bit-no true h = absurd (omega arith)
-bit-no false h = refl
-
-bit-one : (b : Bool) → bit b ≤ 1
-bit-one true = omega arith
-bit-one false = omega arith
 
 -- the nodes may be taken together: they meet G1 to G4, are listed once, and no two have the same pair b, c
 pub record Takeable (m : Mesh) (zs : List ℕ) : Type 0 where

@@ -1,16 +1,16 @@
 -- Laws of edges, arrows and rows that are told apart by tests, and of their counts over rows. Assumes nothing.
 use mathlib.Core.Bool.{Bool, true, false, _&&_, _||_}
-use mathlib.Core.List.{List, [], _∷_, _++_, map, List·Memᴰ}
+use mathlib.Core.List.{List, [], _∷_, List·Memᴰ}
 use mathlib.Core.Path.{_≡_, refl, sym, subst, subst⁻¹, ap, _∙_}
-use Prim.Native.Nat.{ℕ, zero, suc, min, max, _+_, _*_, _≤_}
+use Prim.Native.Nat.{ℕ, min, max, _+_, _*_, _≤_}
 use native.Mathlib.Omega.{arith}
 use lib.Dec.{eqb}
-use borrow.Author.Tests.{eqb-true, eq-eqb}
-use Rattle.lists.specs.Lists.{any, count, sucIf, joined, All}
-use Rattle.lists.specs.ListsLaw.{and-both, and-left, and-right, both-ways, All-at, any-at, any-row}
-use Rattle.lists.specs.Tally.{tally, tally-append}
+use borrow.Author.Tests.{eqb-true, eq-eqb, ne-eqb}
+use Rattle.lists.specs.Lists.{count, sucIf, joined, All}
+use Rattle.lists.specs.ListsLaw.{clash, and-both, and-left, and-right, or-left, or-right, or-no, both-ways, All-at, any-at, any-row}
+use Rattle.lists.specs.Tally.{tally}
 use Rattle.meaning.specs.declared.Tri.{Tri}
-use Rattle.meaning.specs.Mesh.{Edge, Arrow, edge, arrow, arrows, sameEdge, sameArrow, sameTri, holdsNode}
+use Rattle.meaning.specs.Mesh.{Edge, Arrow, edge, arrow, arrows, sameEdge, sameArrow, sameTri, holdsNode, holdsArrow}
 use Rattle.meaning.specs.Split.{memEdge}
 
 -- ---- edges
@@ -120,7 +120,37 @@ hit-le e d a b a′ b′ f = go (sameArrow e (arrow a b)) refl
     go true q = let r = arrow-eq e a b q in let s = f (r .0) (r .1) in rw (eq-arrow d a′ b′ (s .0) (s .1)) (omega arith)
     go false q = omega arith
 
+-- a row holds an arrow, or is not hit by it
+or3 : (a b c : Bool) → a || (b || (c || false)) ≡ false → (a ≡ false) × (b ≡ false) × (c ≡ false)
+or3 a b c e =
+    let h = or-no a (b || (c || false)) e in
+    let k = or-no b (c || false) (h .1) in
+    (h .0, k .0, or-no c false (k .1) .0)
+
+pub not-held : (e : Arrow) (t : Tri) → holdsArrow e t ≡ false → hits e t ≡ 0
+unfolding hit
+not-held e t h = let k = or3 (sameArrow e (arrow (t .p) (t .q))) (sameArrow e (arrow (t .q) (t .r))) (sameArrow e (arrow (t .r) (t .p))) h in rw (k .0, k .1, k .2)
+
+pub held-hit : (e : Arrow) (t : Tri) → holdsArrow e t ≡ true → 1 ≤ hits e t
+unfolding hit
+held-hit e t h = go (sameArrow e (arrow (t .p) (t .q))) (sameArrow e (arrow (t .q) (t .r))) (sameArrow e (arrow (t .r) (t .p))) h
+  where
+    go : (a b c : Bool) → a || (b || (c || false)) ≡ true → 1 ≤ sucIf a 0 + sucIf b 0 + sucIf c 0
+    go true b c e = omega arith
+    go false true c e = omega arith
+    go false false true e = omega arith
+    go false false false e = clash (sym e)
+
 -- ---- corners
+
+pub holds-p : (t : Tri) → holdsNode (t .p) t ≡ true
+holds-p t = or-left (eqb (t .r) (t .p)) (or-left (eqb (t .q) (t .p)) (eq-eqb (t .p) (t .p) refl))
+
+pub holds-q : (t : Tri) → holdsNode (t .q) t ≡ true
+holds-q t = or-left (eqb (t .r) (t .q)) (or-right (eqb (t .p) (t .q)) (eq-eqb (t .q) (t .q) refl))
+
+pub holds-r : (t : Tri) → holdsNode (t .r) t ≡ true
+holds-r t = or-right (eqb (t .p) (t .r) || eqb (t .q) (t .r)) (eq-eqb (t .r) (t .r) refl)
 
 -- 1 if a is z, else 0
 unfoldable pub here : ℕ → ℕ → ℕ
@@ -129,6 +159,18 @@ here z a = sucIf (eqb a z) 0
 pub here-self : (z : ℕ) → here z z ≡ 1
 unfolding here
 here-self z = rw (eq-eqb z z refl)
+
+pub here-no : (z a : ℕ) → (a ≡ z → ⊥) → here z a ≡ 0
+unfolding here
+here-no z a h = ap (λ b. sucIf b 0) (ne-eqb a z h)
+
+pub here-le : (z y a b : ℕ) → (a ≡ z → b ≡ y) → here z a ≤ here y b
+unfolding here
+here-le z y a b f = go (eqb a z) refl
+  where
+    go : (t : Bool) → eqb a z ≡ t → sucIf t 0 ≤ sucIf (eqb b y) 0
+    go true e = rw (eq-eqb b y (f (eqb-true a z e))) (omega arith)
+    go false e = omega arith
 
 -- how often z is a corner of the row
 abbrev pub names : ℕ → Tri → ℕ

@@ -27,7 +27,7 @@ use Rattle.meaning.specs.declared.Tri.{Tri}
 use Rattle.meaning.specs.declared.Fault.{Fault}
 use Rattle.meaning.specs.Mesh.{Mesh, Arrow, Edge, tri, arrow, arrows, base, origin, at, sameArrow, sameEdge, holdsNode, holdsArrow, holdsEdge, twiceArea}
 use Rattle.meaning.specs.Lawful.{InRange, Named, Lawful, Compatible, Applies, out-of-range, misnames, occurs-twice, not-above, in-none, Lowest, far, outside, misnamed, rowOf, repeats, flat, unused, clashes, firstOutside, firstMisnamed, firstRepeat, firstFlat, firstUnused, firstClash, fault, orLater, faultOf, refusal, compatible}
-use Rattle.laws.specs.Edges.{sameEdge-eq, sameEdge-refl, sameArrow-eq, hit, hits, count-arrows, hit-no, arrow-eq, eq-arrow}
+use Rattle.laws.specs.Edges.{sameEdge-eq, sameEdge-refl, sameArrow-eq, hit, hits, count-arrows, hit-no, arrow-eq, eq-arrow, not-held, held-hit}
 
 -- ---- 3
 
@@ -63,27 +63,6 @@ yes-named n t h =
     simp (lt-leb _ _ (h .p-below), lt-leb _ _ (h .q-below), lt-leb _ _ (h .r-below), ne-eqb _ _ (h .p≢q), ne-eqb _ _ (h .q≢r), ne-eqb _ _ (h .r≢p))
 
 -- ---- 5
-
--- a row holds an arrow, or is not hit by it
-or3 : (a b c : Bool) → a || (b || (c || false)) ≡ false → (a ≡ false) × (b ≡ false) × (c ≡ false)
-or3 a b c e =
-    let h = or-no a (b || (c || false)) e in
-    let k = or-no b (c || false) (h .1) in
-    (h .0, k .0, or-no c false (k .1) .0)
-
-not-held : (e : Arrow) (t : Tri) → holdsArrow e t ≡ false → hits e t ≡ 0
-unfolding hit
-not-held e t h = let k = or3 (sameArrow e (arrow (t .p) (t .q))) (sameArrow e (arrow (t .q) (t .r))) (sameArrow e (arrow (t .r) (t .p))) h in rw (k .0, k .1, k .2)
-
-held-hit : (e : Arrow) (t : Tri) → holdsArrow e t ≡ true → 1 ≤ hits e t
-unfolding hit
-held-hit e t h = go (sameArrow e (arrow (t .p) (t .q))) (sameArrow e (arrow (t .q) (t .r))) (sameArrow e (arrow (t .r) (t .p))) h
-  where
-    go : (a b c : Bool) → a || (b || (c || false)) ≡ true → 1 ≤ sucIf a 0 + sucIf b 0 + sucIf c 0
-    go true b c e = omega arith
-    go false true c e = omega arith
-    go false false true e = omega arith
-    go false false false e = clash (sym e)
 
 -- the three arrows of a row that names three nodes differ
 hit-most : (e : Arrow) (a b : ℕ) → hit e a b ≤ 1
@@ -295,11 +274,19 @@ refusal-lowest m = record { applies = whole .applies; no-lower = λ j a. whole .
   where
     whole : LowestFrom m 3 (faultOf m .number)
     whole =
-        link m 3 (firstOutside m) _ (omega arith) (found-3 m) λ e3. (not-3 (none-3 m e3),
-        link m 4 (firstMisnamed m) _ (omega arith) (found-4 m) λ e4. (not-4 (none-4 m e4),
-        link m 5 (firstRepeat m) _ (omega arith) (found-5 m) λ e5. (not-5 (none-5 m (none-4 m e4) e5),
-        link m 6 (firstFlat m) _ (omega arith) (found-6 m) λ e6. (not-6 (none-6 m e6),
-        link m 7 (firstUnused m) _ (omega arith) (found-7 m) λ e7. (not-7 (none-7 m e7), none-from-8 m)))))
+        link m 3 (firstOutside m) _ (omega arith) (found-3 m) λ e3. (
+          not-3 (none-3 m e3),
+          link m 4 (firstMisnamed m) _ (omega arith) (found-4 m) λ e4. (
+            not-4 (none-4 m e4),
+            link m 5 (firstRepeat m) _ (omega arith) (found-5 m) λ e5. (
+              not-5 (none-5 m (none-4 m e4) e5),
+              link m 6 (firstFlat m) _ (omega arith) (found-6 m) λ e6. (
+                not-6 (none-6 m e6),
+                link m 7 (firstUnused m) _ (omega arith) (found-7 m) λ e7. (not-7 (none-7 m e7), none-from-8 m),
+              ),
+            ),
+          ),
+        )
 
 -- one number is the lowest
 pub lowest-one : {m : Mesh} (j k : ℕ) → Lowest m j → Lowest m k → j ≡ k
@@ -315,6 +302,9 @@ refusal-exact m k = (λ e. subst (Lowest m) e (refusal-lowest m), λ l. lowest-o
 pub applies-to-7 : (m : Mesh) (k : ℕ) → refusal m ≡ k → k ≤ 7
 applies-to-7 m zero e = omega arith
 applies-to-7 m (suc k) e = at-most-7 (refusal-exact m (suc k) .0 e .applies (omega arith))
+
+pub applies-from-3 : (m : Mesh) (k : ℕ) → refusal m ≡ k → 0 < k → 3 ≤ k
+applies-from-3 m k e h = at-least-3 (refusal-exact m k .0 e .applies h)
 
 lawful-none : {m : Mesh} → Lawful m → Lowest m 0
 lawful-none {m} law = record { applies = λ h. absurd (omega arith); no-lower = λ j a. absurd (go a) }

@@ -6,6 +6,11 @@ pub mod Check
 pub mod Closure
 pub mod Cut
 pub mod Bisected
+pub mod Midpoints
+pub mod Source
+pub mod SplitLaw
+pub mod Marks
+pub mod Refine
 pub mod Stay
 pub mod Pairs
 pub mod Star
@@ -13,4 +18,6 @@ pub mod CoarsenRows
 pub mod Without
 pub mod Coarsen
 pub mod Restore
-pub mod Brotherly
+pub mod Good
+pub mod CoarsenCalls
+pub mod OneOutcome

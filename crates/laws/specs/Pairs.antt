@@ -7,18 +7,17 @@ use mathlib.Core.Logic.{_≢_}
 use mathlib.Core.Path.{_≡_, refl, sym, subst, ap, _∙_}
 use Prim.Native.Nat.{ℕ, zero, suc, _+_, _*_, _≤_}
 use native.Mathlib.Omega.{arith}
-use lib.Dec.{eqb}
 use lib.ListN.{length}
 use borrow.Author.Tests.{eq-eqb}
-use Rattle.lists.specs.Lists.{only, sucIf, All, nil, cons}
+use Rattle.lists.specs.Lists.{only, All, nil, cons}
 use Rattle.lists.specs.ListsLaw.{clash, and-both, or-left, or-right, All-at, All-of, FirstIs, no-row, row, first-is}
-use Rattle.lists.specs.MembersLaw.{only-keeps}
-use Rattle.lists.specs.Tally.{bit, tally, tally-le, tally-length, tally-only, tally-parts, only-le, pick-one}
+use Rattle.lists.specs.MembersLaw.{only-in, only-keeps}
+use Rattle.lists.specs.Tally.{bit, tally, tally-le, tally-length, tally-only, tally-parts, only-le, bits-some, pick-one}
 use Rattle.meaning.specs.declared.Tri.{Tri}
-use Rattle.meaning.specs.Mesh.{Mesh, Arrow, arrow, sameArrow, sameTri, holdsNode, holdsArrow}
+use Rattle.meaning.specs.Mesh.{Mesh, Arrow, arrow, sameArrow, sameTri, holdsArrow}
 use Rattle.meaning.specs.Lawful.{Named, Lawful}
-use Rattle.meaning.specs.Good.{Brothers, brothers, rowsOf, addPair, pairOff}
-use Rattle.laws.specs.Edges.{sameTri-eq, sameTri-refl, arrow-eq, hit, hits, hit-self, count-arrows}
+use Rattle.meaning.specs.Good.{Brothers, brothers, addPair, pairOff}
+use Rattle.laws.specs.Edges.{sameTri-eq, sameTri-refl, arrow-eq, hits, hit-self, count-arrows, held-hit}
 
 -- no row stands twice, no arrow occurs twice
 abbrev pub RowsOnce : List Tri → Type 0
@@ -47,11 +46,30 @@ only-once f ts o u = let a = only-le (λ v. bit (sameTri u v)) f ts in let b = o
 only-arrows : (f : Tri → Bool) (ts : List Tri) → ArrowsOnce ts → ArrowsOnce (only f ts)
 only-arrows f ts o e = let a = only-le (hits e) f ts in let b = o e in omega arith
 
+-- a row that stands first stands nowhere else
+pub not-again : (t : Tri) {v : Tri} {ts : List Tri} → RowsOnce (t ∷ ts) → List·Memᴰ v ts → sameTri t v ≡ false
+not-again t {v} {ts} o i = go (sameTri t v) refl
+  where
+    go : (b : Bool) → sameTri t v ≡ b → b ≡ false
+    go true e =
+        let a = bits-some (sameTri t) i e in
+        let b = o t in
+        let c = ap bit (sameTri-refl t) in
+        absurd (omega arith)
+    go false e = refl
+
 -- the rows but one
 abbrev pub but : Tri → List Tri → List Tri
 but u ts = only (λ v. not (sameTri u v)) ts
 
-pub but-one : (f : Tri → ℕ) {u : Tri} {ts : List Tri} → List·Memᴰ u ts → RowsOnce ts → tally f ts ≡ f u + tally f (but u ts)
+pub but-in : {u v : Tri} {ts : List Tri} → List·Memᴰ v ts → v ≢ u → List·Memᴰ v (but u ts)
+but-in {u} {v} i n = only-in (λ w. not (sameTri u w)) i (go (sameTri u v) refl)
+  where
+    go : (b : Bool) → sameTri u v ≡ b → not b ≡ true
+    go true e = absurd (n (sym (sameTri-eq u v e)))
+    go false e = refl
+
+but-one : (f : Tri → ℕ) {u : Tri} {ts : List Tri} → List·Memᴰ u ts → RowsOnce ts → tally f ts ≡ f u + tally f (but u ts)
 but-one f {u} {ts} i h =
     let a = tally-parts f (sameTri u) ts in
     let b = pick-one (sameTri u) f i (sameTri-refl u) (h u) in
@@ -67,26 +85,20 @@ but-length {u} {ts} i h =
 
 -- ---- the row that holds a→z
 
-pub holds-hits : (e : Arrow) (t : Tri) → bit (holdsArrow e t) ≤ hits e t
-unfolding hit
-holds-hits e t = go (sameArrow e (arrow (t .p) (t .q))) (sameArrow e (arrow (t .q) (t .r))) (sameArrow e (arrow (t .r) (t .p)))
-  where
-    go : (a b c : Bool) → bit (a || (b || (c || false))) ≤ sucIf a 0 + sucIf b 0 + sucIf c 0
-    go true b c = omega arith
-    go false true c = omega arith
-    go false false true = omega arith
-    go false false false = omega arith
-
 -- there is one at most
 pub holder-one : (e : Arrow) {x u : Tri} {ts : List Tri} → ArrowsOnce ts → List·Memᴰ x ts → holdsArrow e x ≡ true → List·Memᴰ u ts → holdsArrow e u ≡ true → x ≡ u
 holder-one e {x} {u} {ts} o i y j w =
-    let a = tally-le (λ v. bit (holdsArrow e v)) (hits e) (All-of ts (λ v i. holds-hits e v)) in
+    let a = tally-le (λ v. bit (holdsArrow e v)) (hits e) (All-of ts (λ v i. held v (holdsArrow e v) refl)) in
     let b = o e in
     let c = pick-one (holdsArrow e) (λ v. bit (sameTri x v)) i y (omega arith) in
     let d = pick-one (holdsArrow e) (λ v. bit (sameTri x v)) j w (omega arith) in
     let f = ap bit (sameTri-refl x) in
     go (sameTri x u) refl (omega arith)
   where
+    held : (v : Tri) (b : Bool) → holdsArrow e v ≡ b → bit b ≤ hits e v
+    held v true w = held-hit e v w
+    held v false w = omega arith
+
     go : (b : Bool) → sameTri x u ≡ b → bit b ≡ 1 → x ≡ u
     go true w k = sameTri-eq x u w
     go false w k = absurd (omega arith)
@@ -97,7 +109,7 @@ third-holds u a z e f =
     or-right (sameArrow (arrow a z) (arrow (u .p) (u .q))) (or-right (sameArrow (arrow a z) (arrow (u .q) (u .r)))
     (or-left false (and-both (eq-eqb a (u .r) (sym e)) (eq-eqb z (u .p) (sym f)))))
 
-pub third-is : (a z n : ℕ) (u : Tri) → Named n u → u .p ≡ z → a ≢ z → holdsArrow (arrow a z) u ≡ true → u .r ≡ a
+third-is : (a z n : ℕ) (u : Tri) → Named n u → u .p ≡ z → a ≢ z → holdsArrow (arrow a z) u ≡ true → u .r ≡ a
 third-is a z n u h e ne t = go (sameArrow (arrow a z) (arrow (u .p) (u .q))) refl (sameArrow (arrow a z) (arrow (u .q) (u .r))) refl (sameArrow (arrow a z) (arrow (u .r) (u .p))) refl t
   where
     go : (b : Bool) → sameArrow (arrow a z) (arrow (u .p) (u .q)) ≡ b → (c : Bool) → sameArrow (arrow a z) (arrow (u .q) (u .r)) ≡ c →

@@ -1,19 +1,29 @@
 -- A full pass takes the good nodes, and a pass that takes one makes the mesh smaller; a restore ends where no node is good, after no more
 -- passes than nodes were added, and leaves a lawful mesh of the same total, with the base nodes. Assumes nothing.
 use mathlib.Core.Bool.{true, _&&_}
-use mathlib.Core.List.{List, [], _∷_}
+use mathlib.Core.List.{List, [], _∷_, List·Memᴰ}
+use mathlib.Core.Logic.{_↔_}
 use mathlib.Core.Path.{_≡_, refl, sym, subst, ap, _∙_}
 use Prim.Native.Nat.{ℕ, zero, suc, _+_, _≤_, _<_}
 use native.Mathlib.Omega.{arith}
 use lib.ListN.{length}
-use Rattle.lists.specs.ListsLaw.{All-imp}
-use Rattle.lists.specs.MembersLaw.{only-cong, upTo-below}
+use Rattle.lists.specs.Lists.{upTo}
+use Rattle.lists.specs.ListsLaw.{All-imp, All-at}
+use Rattle.lists.specs.MembersLaw.{only-in, only-passes, only-keeps, only-cong, upTo-below, upTo-in}
 use Rattle.meaning.specs.declared.Place.{Place}
 use Rattle.meaning.specs.Mesh.{Mesh}
 use Rattle.meaning.specs.Lawful.{Lawful}
 use Rattle.meaning.specs.Good.{good}
 use Rattle.meaning.specs.Coarsen.{marked, taken, without, coarsened, goodNodes, allMarked, pass, Restored, more, run, restored}
 use Rattle.laws.specs.Coarsen.{Gone, Kept, coarsened-count, coarsened-gone, coarsened-kept}
+
+-- the good nodes, as a list
+pub goodNodes-is : (n0 : ℕ) (m : Mesh) (z : ℕ) → List·Memᴰ z (goodNodes n0 m) ↔ ((z < length (m .nodes)) × (good n0 m z ≡ true))
+unfolding goodNodes
+goodNodes-is n0 m z = (
+  λ i. (All-at (only-keeps (good n0 m) (upTo-below (length (m .nodes)))) i, All-at (only-passes (good n0 m) (upTo (length (m .nodes)))) i),
+  λ h. only-in (good n0 m) (upTo-in (length (m .nodes)) (h .0)) (h .1),
+)
 
 -- ---- a full pass
 

@@ -4,14 +4,14 @@ use mathlib.Core.Bool.{Bool, true, false, not, _&&_, _||_}
 use mathlib.Core.List.{List, [], _∷_, List·Memᴰ}
 use mathlib.Core.Logic.{_↔_, _≢_}
 use mathlib.Core.Path.{_≡_, refl, sym, subst, subst⁻¹, ap, ap₂, _∙_}
-use Prim.Native.Nat.{ℕ, zero, suc, min, max, _+_, _*_, _≤_, _<_}
+use Prim.Native.Nat.{ℕ, min, max, _+_, _*_, _≤_, _<_}
 use native.Mathlib.Omega.{arith}
 use lib.Dec.{eqb, leb, ltb}
-use lib.IntN.{ℤ, pos, negℤ, _+ℤ_}
+use lib.IntN.{ℤ, pos, _+ℤ_}
 use lib.Signed.{leZ, _<ℤ_}
 use lib.ListN.{length}
 use borrow.Author.Tests.{eqb-true, eqb-false, eq-eqb, not-true, leb-true, le-leb, le-ltb, ltb-false}
-use Rattle.lists.specs.Lists.{all, only, upTo, All, nil, cons}
+use Rattle.lists.specs.Lists.{all, upTo, All, nil, cons}
 use Rattle.lists.specs.ListsLaw.{clash, and-both, and-left, and-right, or-left, or-right, All-imp, All-both, All-at, All-of, all-yes, yes-all, any-none}
 use Rattle.lists.specs.MembersLaw.{only-keeps, none-any, upTo-below, upTo-in}
 use Rattle.lists.specs.Tally.{tally, tally-le, tally-add, tally-length, tally-only, count-tally, only-le}
@@ -25,7 +25,7 @@ use Rattle.meaning.specs.Lawful.{Named, Lawful}
 use Rattle.meaning.specs.Good.{Middle, Brothers, father, rowsOf, pairs, spanOf, span, closes, sameZ, isMiddle, G1, G2, G3, G4, G1-4, G5, good}
 use Rattle.laws.specs.Area.{turn-mirror, bisect-area, middle-either, middle-edge}
 use Rattle.laws.specs.Edges.{edge-comm, sameEdge-eq, sameEdge-refl, hit, hits, hit-self, hit-le}
-use Rattle.laws.specs.Pairs.{RowsOnce, ArrowsOnce, arrows-once, row-once, only-once, Matched, matched-rows, matched-all, matched-off, off-half, off-length, off-matched}
+use Rattle.laws.specs.Pairs.{RowsOnce, arrows-once, row-once, only-once, Matched, matched-rows, matched-all, matched-off, off-half, off-length, off-matched}
 
 -- ---- a pair of brothers
 

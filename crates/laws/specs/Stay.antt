@@ -19,7 +19,7 @@ module _ (zs : List ℕ) where
   -- ---- their numbers
 
   -- a node that stays is counted below every later one
-  pub stayed-lt : (i a b : ℕ) → a < b → stays zs (i + a) ≡ true → stayed zs i a < stayed zs i b
+  stayed-lt : (i a b : ℕ) → a < b → stays zs (i + a) ≡ true → stayed zs i a < stayed zs i b
   stayed-lt i a zero h s = absurd (omega arith)
   stayed-lt i zero (suc b) h s = let e : i + 0 ≡ i = omega arith in rw (rw e at s) (omega arith)
   stayed-lt i (suc a) (suc b) h s =

@@ -1,6 +1,11 @@
 -- Taking nodes that meet G1 to G4, with a pair each of its own, out of a lawful mesh leaves a lawful mesh of the same total.
 -- Assumes nothing.
-use mathlib.Core.Bool.{Bool, true, false, not, _||_}
+--
+-- Names: a father's corners are corners of its brothers, and not their newest vertex, so they stay. Directed edges: a→b and c→a were the
+-- brothers'; b→c is new, no old row holds it (G4), no other node that goes makes it, and the other father of this one makes c→b.
+-- Area: the father has the brothers' twice-areas. Used: a node that stays and was a corner of a brother is a corner of the father.
+-- All this is said of the rows with their old numbers first; the new numbers change no node's place, and no two nodes get one.
+use mathlib.Core.Bool.{Bool, true, false, not}
 use mathlib.Core.List.{List, map, List·Memᴰ, List·Memᴰ·head, List·Memᴰ·tail}
 use mathlib.Core.Path.{_≡_, refl, sym, subst, subst⁻¹, ap, ap₂, _∙_}
 use Prim.Native.Nat.{ℕ, _+_, _≤_, _<_}
@@ -9,43 +14,20 @@ use lib.Dec.{eqb, ltb}
 use lib.IntN.{ℤ, pos, negsuc, natAbs, _+ℤ_}
 use lib.Signed.{_<ℤ_}
 use lib.ListN.{length, length-map}
-use borrow.Author.Tests.{eqb-true, eq-eqb, ne-eqb, ltb-true, ltb-false}
-use Rattle.lists.specs.Lists.{any, count, sucIf, joined, All, nil, cons}
-use Rattle.lists.specs.ListsLaw.{clash, or-left, or-right, All-imp, All-at, All-of, All-map, any-at, any-row, any-none}
+use borrow.Author.Tests.{eqb-true, eq-eqb, ltb-true, ltb-false}
+use Rattle.lists.specs.Lists.{any, count, joined, All, nil, cons}
+use Rattle.lists.specs.ListsLaw.{clash, All-imp, All-at, All-of, All-map, any-at, any-row, any-none}
 use Rattle.lists.specs.Tally.{bit, bit-le, tally, tally-le, tally-eq, tally-add, tally-zero, tally-map, tally-joined, tally-length, bits-none}
 use Rattle.meaning.specs.declared.Tri.{Tri}
 use Rattle.meaning.specs.Mesh.{Mesh, Edge, Arrow, arrow, arrows, edge, edges, origin, sameEdge, sameArrow, holdsNode, holdsEdge, at, twiceArea, sum, total}
 use Rattle.meaning.specs.Lawful.{InRange, Named, Lawful}
 use Rattle.meaning.specs.Good.{Brothers, father, pairs, span}
 use Rattle.meaning.specs.Coarsen.{fate, stays, renumber, renamed, without}
-use Rattle.laws.specs.Edges.{sameEdge-eq, sameEdge-refl, hit, hits, count-arrows, hit-no, hit-le, here, names, count-names, names-count}
+use Rattle.laws.specs.Edges.{sameEdge-eq, sameEdge-refl, hit, hits, count-arrows, hit-no, hit-le, holds-p, holds-q, holds-r, here, here-no, here-le, names, count-names, names-count}
 use Rattle.laws.specs.Stay.{renumber-lt, renumber-one, staying-length, staying-at, staying-onto, staying-all}
 use Rattle.laws.specs.Pairs.{arrows-once}
 use Rattle.laws.specs.Star.{Pair, Star, opposed, father-area, father-positive, father-named}
 use Rattle.laws.specs.CoarsenRows.{Takeable, touched, brood, newest-of, before, after, after-all, broods}
-
--- ---- nodes of rows
-
-holds-p : (t : Tri) → holdsNode (t .p) t ≡ true
-holds-p t = or-left (eqb (t .r) (t .p)) (or-left (eqb (t .q) (t .p)) (eq-eqb (t .p) (t .p) refl))
-
-holds-q : (t : Tri) → holdsNode (t .q) t ≡ true
-holds-q t = or-left (eqb (t .r) (t .q)) (or-right (eqb (t .p) (t .q)) (eq-eqb (t .q) (t .q) refl))
-
-holds-r : (t : Tri) → holdsNode (t .r) t ≡ true
-holds-r t = or-right (eqb (t .p) (t .r) || eqb (t .q) (t .r)) (eq-eqb (t .r) (t .r) refl)
-
-here-no : (z a : ℕ) → (a ≡ z → ⊥) → here z a ≡ 0
-unfolding here
-here-no z a h = ap (λ b. sucIf b 0) (ne-eqb a z h)
-
-here-le : (z y a b : ℕ) → (a ≡ z → b ≡ y) → here z a ≤ here y b
-unfolding here
-here-le z y a b f = go (eqb a z) refl
-  where
-    go : (t : Bool) → eqb a z ≡ t → sucIf t 0 ≤ sucIf (eqb b y) 0
-    go true e = rw (eq-eqb b y (f (eqb-true a z e))) (omega arith)
-    go false e = omega arith
 
 -- ---- the nodes that are left
 
@@ -91,12 +73,12 @@ sum-map f g k (cons h hs) = ap₂ _+ℤ_ h (sum-map f g k hs)
 -- ---- the rows after, with the old numbers
 
 -- a row of three nodes that stay
-pub record Sound (m : Mesh) (zs : List ℕ) (t : Tri) : Type 0 where
-  pub named : Named (length (m .nodes)) t
-  pub p-stays : stays zs (t .p) ≡ true
-  pub q-stays : stays zs (t .q) ≡ true
-  pub r-stays : stays zs (t .r) ≡ true
-  pub above : pos 0 <ℤ twiceArea m t
+record Sound (m : Mesh) (zs : List ℕ) (t : Tri) : Type 0 where
+  named : Named (length (m .nodes)) t
+  p-stays : stays zs (t .p) ≡ true
+  q-stays : stays zs (t .q) ≡ true
+  r-stays : stays zs (t .r) ≡ true
+  above : pos 0 <ℤ twiceArea m t
 
 stays-not : (zs : List ℕ) (z k : ℕ) → List·Memᴰ z zs → stays zs k ≡ true → z ≡ k → ⊥
 stays-not zs z k i s e = clash (sym s ∙ ap not (any-at (eqb k) (eq-eqb k z (sym e)) i))
@@ -138,11 +120,11 @@ module _ (m : Mesh) (zs : List ℕ) (law : Lawful m) (ok : Takeable m zs) where
         above = father-positive m z h law;
       }
 
-  us : List Tri
-  us = joined (fate (brood m zs)) (m .tris)
+  rows-after : List Tri
+  rows-after = joined (fate (brood m zs)) (m .tris)
 
-  sound : All (Sound m zs) us
-  unfolding us
+  sound : All (Sound m zs) rows-after
+  unfolding rows-after
   sound = after-all m zs law ok (All-imp (λ b. father-sound) (broods m zs law ok)) one
     where
       one : (t : Tri) → List·Memᴰ t (m .tris) → touched zs t ≡ false → Sound m zs t
@@ -154,9 +136,9 @@ module _ (m : Mesh) (zs : List ℕ) (law : Lawful m) (ok : Takeable m zs) where
         above = All-at (law .positive) j;
       }
 
-  -- ---- 5
+  -- ---- no directed edge occurs twice
 
-  -- a row that does not hold the edge x–y holds neither x→y
+  -- a row that does not hold the edge x–y does not hold x→y
   no-hit : (e : Arrow) (t : Tri) → holdsEdge (edge (e .from) (e .to)) t ≡ false → hits e t ≡ 0
   no-hit e t n =
       let E = edge (e .from) (e .to) in
@@ -211,9 +193,9 @@ module _ (m : Mesh) (zs : List ℕ) (law : Lawful m) (ok : Takeable m zs) where
           let d = le in
           omega arith
 
-  us-once : (e : Arrow) → tally (hits e) us ≤ 1
-  unfolding us new-hits
-  us-once e =
+  after-once : (e : Arrow) → tally (hits e) rows-after ≤ 1
+  unfolding rows-after new-hits
+  after-once e =
       let a = before m zs law ok (hits e) in
       let b = after m zs law ok (hits e) in
       let c = tally-le (λ b. hits e (father b)) (λ b. (hits e (b .left) + hits e (b .right)) + hit e (b .left .r) (b .right .q)) (All-imp (λ b s. one b (s .2 .joint)) (broods m zs law ok)) in
@@ -225,11 +207,11 @@ module _ (m : Mesh) (zs : List ℕ) (law : Lawful m) (ok : Takeable m zs) where
       one : (b : Brothers) → b .right .r ≡ b .left .q → hits e (father b) ≤ (hits e (b .left) + hits e (b .right)) + hit e (b .left .r) (b .right .q)
       one b w = let k = ap (hit e (b .right .q)) w in omega arith
 
-  -- ---- 7
+  -- ---- every node is used
 
-  us-used : (k : ℕ) → k < length (m .nodes) → stays zs k ≡ true → 1 ≤ tally (names k) us
-  unfolding us
-  us-used k h s =
+  after-used : (k : ℕ) → k < length (m .nodes) → stays zs k ≡ true → 1 ≤ tally (names k) rows-after
+  unfolding rows-after
+  after-used k h s =
       let a = before m zs law ok (names k) in
       let b = after m zs law ok (names k) in
       let c = tally-le (λ b. names k (b .left) + names k (b .right)) (λ b. names k (father b) + names k (father b)) (All-imp one (broods m zs law ok)) in
@@ -247,9 +229,9 @@ module _ (m : Mesh) (zs : List ℕ) (law : Lawful m) (ok : Takeable m zs) where
 
   -- ---- the total
 
-  us-total : sum (twiceArea m) us ≡ sum (twiceArea m) (m .tris)
-  unfolding us
-  us-total =
+  after-total : sum (twiceArea m) rows-after ≡ sum (twiceArea m) (m .tris)
+  unfolding rows-after
+  after-total =
       let a = before m zs law ok (λ t. natAbs (twiceArea m t)) in
       let b = after m zs law ok (λ t. natAbs (twiceArea m t)) in
       let c = tally-eq (λ b. natAbs (twiceArea m (father b))) (λ b. natAbs (twiceArea m (b .left)) + natAbs (twiceArea m (b .right))) (All-imp (λ b s. one b (s .0) (s .2)) (broods m zs law ok)) in
@@ -278,15 +260,15 @@ module _ (m : Mesh) (zs : List ℕ) (law : Lawful m) (ok : Takeable m zs) where
       let n = h .named in
       rw (left-at m zs (t .p) (n .p-below) (h .p-stays), left-at m zs (t .q) (n .q-below) (h .q-stays), left-at m zs (t .r) (n .r-below) (h .r-stays))
 
-  new-rows : without m zs .tris ≡ map (renamed zs) us
-  unfolding without us
+  new-rows : without m zs .tris ≡ map (renamed zs) rows-after
+  unfolding without rows-after
   new-rows = refl
 
   -- an arrow of the new mesh is one old arrow, renumbered
   new-once : (e : Arrow) → count (sameArrow e) (joined arrows (without m zs .tris)) ≤ 1
   new-once e =
       let a = count-arrows e (without m zs .tris) in
-      let b : tally (hits e) (without m zs .tris) ≡ tally (λ t. hits e (renamed zs t)) us = ap (tally (hits e)) new-rows ∙ tally-map (hits e) (renamed zs) us in
+      let b : tally (hits e) (without m zs .tris) ≡ tally (λ t. hits e (renamed zs t)) rows-after = ap (tally (hits e)) new-rows ∙ tally-map (hits e) (renamed zs) rows-after in
       let c = go (ltb (e .from) n′) refl (ltb (e .to) n′) refl in
       omega arith
     where
@@ -294,7 +276,7 @@ module _ (m : Mesh) (zs : List ℕ) (law : Lawful m) (ok : Takeable m zs) where
       n′ = length (without m zs .nodes)
 
       -- an end that no node of the new mesh has
-      beyond : ((t : Tri) → Sound m zs t → (a b : ℕ) → a < n′ → b < n′ → e .from ≡ a → e .to ≡ b → ⊥) → tally (λ t. hits e (renamed zs t)) us ≤ 1
+      beyond : ((t : Tri) → Sound m zs t → (a b : ℕ) → a < n′ → b < n′ → e .from ≡ a → e .to ≡ b → ⊥) → tally (λ t. hits e (renamed zs t)) rows-after ≤ 1
       beyond f =
           let z = tally-zero (λ t. hits e (renamed zs t)) (All-imp one sound) in
           omega arith
@@ -307,7 +289,7 @@ module _ (m : Mesh) (zs : List ℕ) (law : Lawful m) (ok : Takeable m zs) where
               let z = hit-no e (renumber zs (t .r)) (renumber zs (t .p)) (f t h _ _ (n .r-below) (n .p-below)) in
               omega arith
 
-      go : (x : Bool) → ltb (e .from) n′ ≡ x → (y : Bool) → ltb (e .to) n′ ≡ y → tally (λ t. hits e (renamed zs t)) us ≤ 1
+      go : (x : Bool) → ltb (e .from) n′ ≡ x → (y : Bool) → ltb (e .to) n′ ≡ y → tally (λ t. hits e (renamed zs t)) rows-after ≤ 1
       go false x y w = let g = ltb-false (e .from) n′ x in beyond (λ t h a b an bn p q. omega arith)
       go true x false w = let g = ltb-false (e .to) n′ w in beyond (λ t h a b an bn p q. omega arith)
       go true x true w =
@@ -315,7 +297,7 @@ module _ (m : Mesh) (zs : List ℕ) (law : Lawful m) (ok : Takeable m zs) where
           let l = left-onto m zs (e .to) (ltb-true (e .to) n′ w) in
           let d = arrow (k .0) (l .0) in
           let z = tally-le (λ t. hits e (renamed zs t)) (hits d) (All-imp (one k l) sound) in
-          let u = us-once d in
+          let u = after-once d in
           omega arith
         where
           one : (k : (k : ℕ) × (k < length (m .nodes)) × (stays zs k ≡ true) × (renumber zs k ≡ e .from)) (l : (k : ℕ) × (k < length (m .nodes)) × (stays zs k ≡ true) × (renumber zs k ≡ e .to)) →
@@ -333,9 +315,9 @@ module _ (m : Mesh) (zs : List ℕ) (law : Lawful m) (ok : Takeable m zs) where
   new-used : (z : ℕ) → z < length (without m zs .nodes) → 1 ≤ count (holdsNode z) (without m zs .tris)
   new-used z h =
       let k = left-onto m zs z h in
-      let a = us-used (k .0) (k .1) (k .2) in
-      let b : tally (names z) (without m zs .tris) ≡ tally (λ t. names z (renamed zs t)) us = ap (tally (names z)) new-rows ∙ tally-map (names z) (renamed zs) us in
-      let c = tally-le (names (k .0)) (λ t. names z (renamed zs t)) (All-of us (λ t i. one (k .0) (k .3) t)) in
+      let a = after-used (k .0) (k .1) (k .2) in
+      let b : tally (names z) (without m zs .tris) ≡ tally (λ t. names z (renamed zs t)) rows-after = ap (tally (names z)) new-rows ∙ tally-map (names z) (renamed zs) rows-after in
+      let c = tally-le (names (k .0)) (λ t. names z (renamed zs t)) (All-of rows-after (λ t i. one (k .0) (k .3) t)) in
       let d = names-count z (without m zs .tris) in
       omega arith
     where
@@ -361,19 +343,19 @@ module _ (m : Mesh) (zs : List ℕ) (law : Lawful m) (ok : Takeable m zs) where
   pub without-total : total (without m zs) ≡ total m
   unfolding total
   without-total =
-      ap (sum (twiceArea (without m zs))) new-rows ∙ sum-map (twiceArea (without m zs)) (twiceArea m) (renamed zs) (All-imp new-area sound) ∙ us-total
+      ap (sum (twiceArea (without m zs))) new-rows ∙ sum-map (twiceArea (without m zs)) (twiceArea m) (renamed zs) (All-imp new-area sound) ∙ after-total
 
   -- ---- the counts
 
   -- each pair of brothers is one row afterwards
   pub without-rows : length (without m zs .tris) + length (brood m zs) ≡ length (m .tris)
-  unfolding us
+  unfolding rows-after
   without-rows =
       let a = before m zs law ok (λ t. 1) in
       let b = after m zs law ok (λ t. 1) in
       let c = tally-length (m .tris) in
-      let d = tally-length us in
+      let d = tally-length rows-after in
       let e = tally-length (brood m zs) in
       let f = tally-add {A = Brothers} (λ b. 1) (λ b. 1) (brood m zs) in
-      let g : length (without m zs .tris) ≡ length us = ap length new-rows ∙ length-map us (renamed zs) in
+      let g : length (without m zs .tris) ≡ length rows-after = ap length new-rows ∙ length-map rows-after (renamed zs) in
       omega arith

@@ -2,16 +2,21 @@
 use mathlib.Core.Bool.{Bool, true, false, not, _||_}
 use mathlib.Core.List.{List, [], _∷_, _++_, List·Memᴰ, List·Memᴰ·head, List·Memᴰ·tail, Memᴰ·append-left, Memᴰ·append-right}
 use mathlib.Core.Logic.{_≢_}
+use mathlib.Core.Option.{Option, none, some, Option·none-ne-some, Option·some-injective}
 use mathlib.Core.Path.{_≡_, refl, sym, subst, ap, ap₂, _∙_}
 use Prim.Native.Nat.{ℕ, zero, suc, _+_, _≤_, _<_}
 use native.Mathlib.Omega.{arith}
 use lib.Dec.{eqb}
 use lib.ListN.{length, getD}
 use borrow.Author.Tests.{eqb-true, eqb-false}
-use Rattle.lists.specs.Lists.{any, only, once, consIf, sucIf, count, joined, upTo, All, nil, cons}
-use Rattle.lists.specs.ListsLaw.{clash, All-append, All-imp, All-at, All-of, count-append}
+use Rattle.lists.specs.Lists.{any, only, once, consIf, sucIf, count, first, firstOr, joined, upTo, All, nil, cons}
+use Rattle.lists.specs.ListsLaw.{clash, All-append, All-imp, All-at, All-of, FirstIs, no-row, row, first-is, count-append}
 
 module _ {A : Type 0} where
+  pub in-tail : {x y : A} {l : List A} → List·Memᴰ x (y ∷ l) → x ≢ y → List·Memᴰ x l
+  in-tail (List·Memᴰ·head e) n = absurd (n e)
+  in-tail (List·Memᴰ·tail i) n = i
+
   pub only-in : (f : A → Bool) {x : A} {l : List A} → List·Memᴰ x l → f x ≡ true → List·Memᴰ x (only f l)
   only-in f (List·Memᴰ·head {x = y} {xs = ys} e) t = rw (ap f (sym e) ∙ t) (List·Memᴰ·head e)
   only-in f {x} (List·Memᴰ·tail {x = y} {xs = ys} i) t = go (f y) (only-in f i t)
@@ -42,6 +47,35 @@ module _ {A : Type 0} where
   pub only-cong : (f g : A → Bool) {l : List A} → All (λ x. f x ≡ g x) l → only f l ≡ only g l
   only-cong f g nil = refl
   only-cong f g (cons {x = x} {xs = xs} e h) = ap₂ (λ b l. consIf b x l) e (only-cong f g h)
+
+  -- ---- the first that passes is the first of those that pass
+
+  abbrev pub headOf : List A → Option A
+  headOf [] = none
+  headOf (x ∷ xs) = some x
+
+  pub first-head : (f : A → Bool) (l : List A) → first f l ≡ headOf (only f l)
+  first-head f [] = refl
+  first-head f (x ∷ xs) = go (f x) (first-head f xs)
+    where
+      go : (b : Bool) → first f xs ≡ headOf (only f xs) → firstOr b x (first f xs) ≡ headOf (consIf b x (only f xs))
+      go true e = refl
+      go false e = e
+
+  pub first-cong : (f g : A → Bool) {l : List A} → All (λ x. f x ≡ g x) l → first f l ≡ first g l
+  first-cong f g nil = refl
+  first-cong f g (cons {x = x} {xs = xs} e h) = ap₂ (λ b o. firstOr b x o) e (first-cong f g h)
+
+  pub head-is : (l : List A) {x : A} → headOf l ≡ some x → (xs : List A) × (l ≡ x ∷ xs)
+  head-is [] {x} e = absurd (Option·none-ne-some x e)
+  head-is (y ∷ ys) {x} e = (ys, ap (λ w. w ∷ ys) (Option·some-injective y x e))
+
+  pub first-found : (f : A → Bool) (l : List A) {x : A} → first f l ≡ some x → List·Memᴰ x l × (f x ≡ true)
+  first-found f l {x} e = go (first-is f l) e
+    where
+      go : {o : Option A} → FirstIs f l o → o ≡ some x → List·Memᴰ x l × (f x ≡ true)
+      go (no-row h) e = absurd (Option·none-ne-some x e)
+      go (row {x = y} i t) e = let w = Option·some-injective y x e in (subst (λ v. List·Memᴰ v l) w i, subst (λ v. f v ≡ true) w t)
 
   pub once-keeps : {P : A → Type 0} (same : A → A → Bool) {l : List A} → All P l → All P (once same l)
   once-keeps same nil = nil

@@ -25,6 +25,18 @@ pub bit-le : (a b : Bool) → (a ≡ true → b ≡ true) → bit a ≤ bit b
 bit-le true b h = rw (h refl) (omega arith)
 bit-le false b h = omega arith
 
+pub bit-yes : (b : Bool) → 1 ≤ bit b → b ≡ true
+bit-yes true h = refl
+bit-yes false h = absurd (omega arith)
+
+pub bit-no : (b : Bool) → bit b ≡ 0 → b ≡ false
+bit-no true h = absurd (omega arith)
+bit-no false h = refl
+
+pub bit-one : (b : Bool) → bit b ≤ 1
+bit-one true = omega arith
+bit-one false = omega arith
+
 pub if-swap : (a b : Bool) → if-so a (bit b) ≡ if-so b (bit a)
 if-swap true true = refl
 if-swap true false = refl

@@ -1,6 +1,6 @@
 -- The code's turns, in the form of their needs. Assumes nothing.
 use mathlib.Core.Path.{_≡_, refl, sym, ap, _∙_}
-use mathlib.Core.List.{List, [], _∷_, _++_, map}
+use mathlib.Core.List.{List, [], map}
 use mathlib.Core.Option.{Option, none, some}
 use Prim.Native.Nat.{ℕ, zero, suc, _+_, _-_, _*_, _≤_, _<_}
 use native.Mathlib.Omega.{arith}
@@ -10,18 +10,16 @@ use Rattle.lists.specs.Search.{items, iter}
 use Rattle.lists.specs.ItemsLaw.{items-cons, items-none, items-split, items-agree, sumTo, sum-none, sum-more, sum-le, sum-few}
 use Rattle.meaning.specs.declared.Tri.{Tri}
 use Rattle.meaning.specs.declared.Mids.{Mids}
-use Rattle.meaning.specs.Mesh.{tri}
 use Rattle.meaning.specs.Split.{Cut, cut, bisected}
 use Rattle.meaning.specs.Tables.{rowAt}
 use Rattle.tables.specs.Put.{setRow}
 use Rattle.tables.specs.PutLaw.{length-setRow, row-set-same, row-set-other}
 use Rattle.tables.specs.Ready.{Ready, ready-fewer}
-use Rattle.notes.specs.declared.Note.{Note}
-use Rattle.notes.specs.Notes.{noteAt, midsAt}
+use Rattle.notes.specs.Notes.{midsAt}
 use Rattle.notes.specs.NotesLaw.{note-bits}
 use Rattle.notes.specs.AgreeLaw.{mids-agree}
 use Rattle.cut.specs.declared.Children.{Children}
-use Rattle.cut.specs.Cutting.{opt, cutBy, children, append, placed, putRows, putCut, cutAt, addedAt, cutAll, splitsOf, splits}
+use Rattle.cut.specs.Cutting.{opt, cutBy, children, append, placed, putRows, putCut, cutAt, addedAt, cutAll, splits}
 use Rattle.cut.specs.PutRowsLaw.{length-put, put-below, put-above, put-rows, placed-put}
 
 pub opt-yes : (a : ℕ) → (a ≡ 0 → ⊥) → opt a ≡ some a

@@ -1,9 +1,9 @@
 -- All rows cut are the rows of document 01's refined mesh, where the notes say its numbers; and their count. Assumes nothing.
-use mathlib.Core.Bool.{Bool, true, false}
+use mathlib.Core.Bool.{false}
 use mathlib.Core.Path.{_≡_, refl, sym, ap, _∙_}
 use mathlib.Core.List.{List, [], _∷_, _++_, map, append-nil}
 use mathlib.Core.Option.{Option, none, some}
-use Prim.Native.Nat.{ℕ, zero, suc, _+_, _-_, _*_, _≤_, _<_}
+use Prim.Native.Nat.{ℕ, zero, suc, _+_, _-_, _<_}
 use native.Mathlib.Omega.{arith}
 use lib.ListN.{length, length-append, length-map}
 use Rattle.lists.specs.declared.Found.{Found}
@@ -22,7 +22,7 @@ use Rattle.meaning.specs.Tables.{rowAt}
 use Rattle.notes.specs.declared.Note.{Note}
 use Rattle.notes.specs.Notes.{noteAt, mids, midsAt}
 use Rattle.notes.specs.Met.{Says}
-use Rattle.cut.specs.Cutting.{opt, cutBy, cutAt, addedAt, cutAll, splitsOf, splits}
+use Rattle.cut.specs.Cutting.{opt, cutBy, cutAt, addedAt, cutAll, splits}
 use Rattle.cut.specs.CutLaw.{opt-yes}
 
 -- ---- any way to cut a row

@@ -1,14 +1,13 @@
 -- A table after rows are put, and after one cut is put. Assumes nothing.
-use mathlib.Core.Path.{_≡_, refl, sym, ap, _∙_}
-use mathlib.Core.Logic.{_≢_}
-use mathlib.Core.List.{List, [], _∷_, _++_}
-use Prim.Native.Nat.{ℕ, zero, suc, _+_, _-_, _*_, _≤_, _<_}
+use mathlib.Core.Path.{_≡_, refl, _∙_}
+use mathlib.Core.List.{List, [], _∷_}
+use Prim.Native.Nat.{ℕ, suc, _+_, _-_, _*_, _≤_, _<_}
 use native.Mathlib.Omega.{arith}
 use lib.ListN.{length}
 use Rattle.lists.specs.Search.{items, iter, iterFrom}
-use Rattle.lists.specs.ItemsLaw.{items-cons, items-none, items-agree}
+use Rattle.lists.specs.ItemsLaw.{items-cons, items-none}
 use Rattle.meaning.specs.declared.Tri.{Tri}
-use Rattle.meaning.specs.Split.{Cut, cut}
+use Rattle.meaning.specs.Split.{cut}
 use Rattle.meaning.specs.Tables.{rowAt}
 use Rattle.tables.specs.Put.{setRow}
 use Rattle.tables.specs.PutLaw.{length-setRow, row-set-same, row-set-other}

@@ -1,7 +1,7 @@
 // Cutting: the rows of one triangle, and all rows of a table in place, from the last to the first. A row's midpoint that a lower row
 // numbered is looked up among the rows below, which are still whole.
 ghost use mathlib.Core.Path.{_≡_};
-ghost use Prim.Native.Nat.{ℕ, _+_, _-_, _*_, _≤_, _<_};
+ghost use Prim.Native.Nat.{_+_, _-_, _*_, _≤_, _<_};
 ghost use lib.ListN.{length};
 ghost use Rattle.lists.specs.Search.{items, iter};
 ghost use Rattle.lists.specs.ItemsLaw.{sumTo};

@@ -1,14 +1,13 @@
 -- The code's turns, in the form of their needs. Assumes nothing.
 use mathlib.Core.Path.{_≡_, refl, sym, ap, _∙_, subst}
 use mathlib.Core.Bool.{Bool, true, false, not, _&&_, _||_}
-use mathlib.Core.List.{List, [], _∷_}
-use Prim.Native.Nat.{ℕ, zero, suc, _+_, _*_, _-_, _≤_, _<_, _/_}
+use mathlib.Core.List.{List}
+use Prim.Native.Nat.{ℕ, suc, _+_, _*_, _≤_, _/_}
 use native.Mathlib.Omega.{arith}
 use native.Mathlib.Decide.{ℕ-discrete}
 use borrow.Author.Tests.{eq-eqb, ne-eqb}
 use lib.Dec.{eqb}
 use lib.IntN.{ℤ, pos, negsuc, natAbs, _+ℤ_}
-use lib.ListN.{length}
 use Rattle.whole.specs.Bound.{abs-add, abs-neg}
 use Rattle.lists.specs.Lists.{cases}
 use Rattle.meaning.specs.declared.Place.{Place}
@@ -22,7 +21,7 @@ use Rattle.tables.specs.PutLaw.{length-setPlace, place-set-same, place-set-othe
 use Rattle.notes.specs.declared.Note.{Note}
 use Rattle.notes.specs.Notes.{noteAt, ownM, ownU, ownV}
 use Rattle.notes.specs.Met.{after}
-use Rattle.nodes.specs.Nodes.{Near, Stands, Standing, evenBetween, middleOf, oddSplit, oddRow, oddAt, placeEdge, placeThree, placeRow}
+use Rattle.nodes.specs.Nodes.{Stands, Standing, evenBetween, middleOf, oddSplit, oddRow, oddAt, placeEdge, placeThree, placeRow}
 
 -- ---- midpoints
 

@@ -1,8 +1,8 @@
 -- A row with an odd split edge is found exactly where a split edge has no exact midpoint: document 01's number 8. Assumes nothing.
-use mathlib.Core.Path.{_≡_, refl, sym, ap, _∙_}
+use mathlib.Core.Path.{_≡_, refl, sym, _∙_}
 use mathlib.Core.Bool.{Bool, true, false, not, _&&_, _||_}
-use mathlib.Core.List.{List, [], _∷_, _++_}
-use Prim.Native.Nat.{ℕ, _+_, _*_, _≤_, _<_}
+use mathlib.Core.List.{List}
+use Prim.Native.Nat.{ℕ, _*_, _≤_, _<_}
 use native.Mathlib.Omega.{arith}
 use borrow.Author.Tests.{eqb-true}
 use lib.Dec.{eqb}
@@ -23,7 +23,7 @@ use Rattle.tables.specs.Sized.{Corners}
 use Rattle.notes.specs.declared.Note.{Note}
 use Rattle.notes.specs.Notes.{noteAt}
 use Rattle.notes.specs.Met.{Says}
-use Rattle.nodes.specs.Nodes.{Stands, Standing, evenBetween, oddSplit, oddRow, oddAt}
+use Rattle.nodes.specs.Nodes.{Stands, Standing, oddSplit, oddRow, oddAt}
 use Rattle.nodes.specs.PlacedLaw.{halves-is}
 
 -- the corners of a row that names nodes below n, all in range

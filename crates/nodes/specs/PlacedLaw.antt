@@ -6,7 +6,7 @@ use Prim.Native.Nat.{ℕ, zero, suc, _+_, _*_, _≤_, _<_, min, max}
 use native.Mathlib.Omega.{arith}
 use borrow.Author.Tests.{eqb-true, ltb-true, ltb-false}
 use lib.Dec.{eqb, ltb}
-use lib.IntN.{ℤ, pos, _+ℤ_, +ℤ-comm}
+use lib.IntN.{ℤ, _+ℤ_, +ℤ-comm}
 use lib.ListN.{length, getD, length-append, List·getD-append, List·getD-map}
 use lib.Seq.{getD-append-add}
 use Rattle.lists.specs.Lists.{cases, consIf}
@@ -16,7 +16,6 @@ use Rattle.lists.specs.ItemsLaw.{items-snoc, items-agree, iter-carries}
 use Rattle.meaning.specs.declared.Place.{Place}
 use Rattle.meaning.specs.declared.Tri.{Tri}
 use Rattle.meaning.specs.Mesh.{Mesh, Edge, at, edge, base, origin, place}
-use Rattle.meaning.specs.Lawful.{InRange}
 use Rattle.meaning.specs.Split.{Cutting, even, half, halves, midpoint, splitAt}
 use Rattle.meaning.specs.Tables.{placeAt, rowAt}
 use Rattle.tables.specs.Sized.{Corners}
@@ -26,8 +25,8 @@ use Rattle.notes.specs.declared.Note.{Note}
 use Rattle.notes.specs.Notes.{noteAt, ownM, ownU, ownV}
 use Rattle.notes.specs.NotesLaw.{note-bits}
 use Rattle.notes.specs.Met.{metOf, metAt, metTo, after}
-use Rattle.notes.specs.MetLaw.{met-none, met-more, length-metAt, after-is, met-le}
-use Rattle.nodes.specs.Nodes.{Stands, Standing, evenBetween, middleOf, placeEdge, placeThree, placeRow}
+use Rattle.notes.specs.MetLaw.{met-none, met-more, after-is, met-le}
+use Rattle.nodes.specs.Nodes.{evenBetween, middleOf, placeEdge, placeThree, placeRow}
 
 -- ---- the places of a mesh
 

@@ -1,21 +1,19 @@
 -- Laws of the edges first met: row by row, and their numbers. Assumes nothing.
-use mathlib.Core.Path.{_≡_, refl, sym, ap, _∙_}
-use mathlib.Core.Bool.{Bool, true, false}
+use mathlib.Core.Path.{_≡_, refl, ap, _∙_}
 use mathlib.Core.List.{List, [], _∷_, _++_, append-nil}
-use Prim.Native.Nat.{ℕ, zero, suc, _+_, _≤_, _<_}
+use Prim.Native.Nat.{ℕ, zero, suc, _+_, _≤_}
 use native.Mathlib.Omega.{arith}
 use native.Mathlib.Decide.{ℕ-discrete}
 use native.Mathlib.Numerals.{add-one}
-use borrow.Author.Tests.{eqb-true, eqb-false}
 use lib.Dec.{eqb}
 use lib.ListN.{length, length-append}
-use Rattle.lists.specs.Lists.{consIf, joined, upTo}
+use Rattle.lists.specs.Lists.{consIf, upTo}
 use Rattle.lists.specs.ItemsLaw.{joined-append}
 use Rattle.meaning.specs.declared.Tri.{Tri}
 use Rattle.meaning.specs.Mesh.{Edge, edge, base}
 use Rattle.meaning.specs.Tables.{rowAt}
 use Rattle.notes.specs.Notes.{Note, noteAt}
-use Rattle.notes.specs.NotesLaw.{Bits, note-bits}
+use Rattle.notes.specs.NotesLaw.{note-bits}
 use Rattle.notes.specs.Met.{metOf, metAt, metTo, after}
 
 pub met-none : (l s : List ℕ) → metTo l s 0 ≡ []

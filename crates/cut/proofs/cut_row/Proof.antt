@@ -1,4 +1,3 @@
-use native.Mathlib.Omega.{arith}
 use Rattle.cut.specs.CutLaw.{children-some, children-few, children-end, children-room, children-begin, children-put}
 use borrow.Author.Needs.{needs}
 use Rattle.cut.proofs.cut_row.Statement.{statement}

@@ -1,7 +1,6 @@
 use Rattle.cut.specs.CutLaw.{count-start, count-fits, count-turn, count-end}
 use Rattle.cut.specs.Cutting.{splits}
 use Rattle.lists.specs.ItemsLaw.{sumTo}
-use native.Mathlib.Omega.{arith}
 use Prim.Native.Nat.{_≤_, _-_, _+_}
 use mathlib.Core.Path.{_≡_}
 use borrow.Author.Needs.{needs}

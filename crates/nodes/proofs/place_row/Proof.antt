@@ -1,4 +1,3 @@
-use native.Mathlib.Omega.{arith}
 use Rattle.nodes.specs.NodesLaw.{standing-of, room-of, row-is}
 use borrow.Author.Needs.{needs}
 use Rattle.nodes.proofs.place_row.Statement.{statement}

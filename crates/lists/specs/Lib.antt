@@ -6,3 +6,8 @@ pub mod Search
 pub mod SearchLaw
 pub mod IterLaw
 pub mod FillLaw
+pub mod ByNumberLaw
+pub mod PartsLaw
+pub mod Loops
+pub mod LoopsLaw
+pub mod ChainLaw

@@ -11,3 +11,4 @@ pub mod PartsLaw
 pub mod Loops
 pub mod LoopsLaw
 pub mod ChainLaw
+pub mod ItemsLaw

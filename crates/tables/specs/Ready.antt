@@ -37,6 +37,12 @@ pub ready-next : (s tri : List ℕ) (nc i : ℕ) → 3 * i + 3 ≤ length tri �
 unfolding Ready
 ready-next s tri nc i h c r = record { sizes = r .sizes; rows = omega arith }
 
+-- fewer rows: the search reads only these, so that the others may have changed
+pub ready-fewer : (s tri tri′ : List ℕ) (nc t i : ℕ) → i ≤ t → length tri′ ≡ length tri → ((j : ℕ) → j < i → rowAt tri′ j ≡ rowAt tri j) →
+    Ready s nc tri t → Ready s nc tri′ i
+unfolding Ready
+ready-fewer s tri tri′ nc t i h e a r = record { sizes = rw e (r .sizes); rows = let b = r .rows in omega arith }
+
 -- ---- from the laws above
 
 -- a note is put

@@ -20,3 +20,4 @@ pub mod Coarsen
 pub mod Restore
 pub mod Good
 pub mod CoarsenCalls
+pub mod EdgeArrow

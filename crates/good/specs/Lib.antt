@@ -1,0 +1,7 @@
+pub mod Meshes
+pub mod Round
+pub mod RoundLaw
+pub mod Pair
+pub mod PairLaw
+pub mod Sign
+pub mod SignLaw

@@ -1,5 +1,6 @@
 pub mod Meshes
 pub mod Round
+pub mod RoundNeeds
 pub mod RoundLaw
 pub mod Pair
 pub mod PairLaw

@@ -7,6 +7,8 @@ use Rattle.lists.specs.Lists.{cases}
 use Rattle.meaning.specs.declared.Tri.{Tri}
 use Rattle.meaning.specs.Mesh.{Edge, arrow, holdsArrow}
 use Rattle.good.specs.declared.Ends.{Ends}
+use Rattle.good.specs.declared.Round.{Round}
+use Rattle.good.specs.Round.{rowIn}
 
 -- v holds a→z, where w is (z, a, b)
 unfoldable pub joins : Tri → Tri → ℕ → Bool
@@ -26,6 +28,16 @@ fourTest w x y v z =
 
 unfoldable pub brotherOf : Tri → Tri → Tri → Tri → ℕ → Tri
 brotherOf w x y v z = cases (joins w x z) x (cases (joins w y z) y v)
+
+-- of the rows by number
+unfoldable pub twoIn : List ℕ → Round → ℕ → Bool
+twoIn l k z = joins (rowIn l (k .first)) (rowIn l (k .second)) z
+
+unfoldable pub fourIn : List ℕ → Round → ℕ → Bool
+fourIn l k z = fourTest (rowIn l (k .first)) (rowIn l (k .second)) (rowIn l (k .third)) (rowIn l (k .fourth)) z
+
+unfoldable pub brotherIn : List ℕ → Round → ℕ → Tri
+brotherIn l k z = brotherOf (rowIn l (k .first)) (rowIn l (k .second)) (rowIn l (k .third)) (rowIn l (k .fourth)) z
 
 -- the pair of a node, the lower end first
 abbrev pub edgeOf : Ends → Edge

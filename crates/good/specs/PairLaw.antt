@@ -24,7 +24,7 @@ use Rattle.good.specs.declared.Round.{Round}
 use Rattle.good.specs.Meshes.{rowsAlone, Fair}
 use Rattle.good.specs.Round.{newest, older, rowsRound, Around, roundBy, rowIn, twoOrFour}
 use Rattle.good.specs.RoundLaw.{Shape, two, four, other, shape-is, shape-test, round-rows, older-none}
-use Rattle.good.specs.Pair.{joins, closing, fourTest, brotherOf, edgeOf}
+use Rattle.good.specs.Pair.{joins, closing, fourTest, brotherOf, twoIn, fourIn, brotherIn, edgeOf}
 
 -- ---- two rows
 
@@ -163,17 +163,13 @@ module _ (tri : List ℕ) (n t z : ℕ) (f : Fair tri n t) (s : List ℕ) (nc : 
   shaped {k} (other x y e) = clash (sym some-shape ∙ sym (shape-test tri t z (other x y e)) ∙ e)
 
   -- G2, as the code asks it
-  pub G2-two : (k : Round) (w v : Tri) (r : Bool) → k ≡ roundBy s nc z → k .third ≡ 0 → w ≡ rowIn tri (k .first) → v ≡ rowIn tri (k .second) →
-      r ≡ joins w v z → r ≡ G2 (rowsAlone tri t) z
-  unfolding answer
-  G2-two k w v r e h p q u =
-      u ∙ sym (shaped (shape-is tri t z s nc a) ∙ rw (← e, h, ← p, ← q))
+  pub G2-two : (k : Round) (r : Bool) → k ≡ roundBy s nc z → k .third ≡ 0 → r ≡ twoIn tri k z → r ≡ G2 (rowsAlone tri t) z
+  unfolding answer twoIn
+  G2-two k r e h u = u ∙ sym (shaped (shape-is tri t z s nc a) ∙ rw (← e, h))
 
-  pub G2-four : (k : Round) (w x y v : Tri) (r : Bool) → k ≡ roundBy s nc z → (k .third ≡ 0 → ⊥) → w ≡ rowIn tri (k .first) → x ≡ rowIn tri (k .second) →
-      y ≡ rowIn tri (k .third) → v ≡ rowIn tri (k .fourth) → r ≡ fourTest w x y v z → r ≡ G2 (rowsAlone tri t) z
-  unfolding answer
-  G2-four k w x y v r e h p q j l u =
-      u ∙ sym (shaped (shape-is tri t z s nc a) ∙ rw (← e, ne-eqb (k .third) 0 h, ← p, ← q, ← j, ← l))
+  pub G2-four : (k : Round) (r : Bool) → k ≡ roundBy s nc z → (k .third ≡ 0 → ⊥) → r ≡ fourIn tri k z → r ≡ G2 (rowsAlone tri t) z
+  unfolding answer fourIn
+  G2-four k r e h u = u ∙ sym (shaped (shape-is tri t z s nc a) ∙ rw (← e, ne-eqb (k .third) 0 h))
 
   -- the pair
   spanned : {k : Round} → Shape tri t z k → G2 (rowsAlone tri t) z ≡ true →
@@ -224,8 +220,8 @@ module _ (tri : List ℕ) (n t z : ℕ) (f : Fair tri n t) (s : List ℕ) (nc : 
   pub span-below : G2 (rowsAlone tri t) z ≡ true → (span (rowsAlone tri t) z .lo < n) × (span (rowsAlone tri t) z .hi < n)
   span-below q = span-in (shape-is tri t z s nc a) q
 
-  pub span-ends : (k : Round) (w x y v u : Tri) (lo hi : ℕ) → G2 (rowsAlone tri t) z ≡ true → k ≡ roundBy s nc z → w ≡ rowIn tri (k .first) → x ≡ rowIn tri (k .second) →
-      y ≡ rowIn tri (k .third) → v ≡ rowIn tri (k .fourth) → u ≡ brotherOf w x y v z → lo ≡ min (w .r) (u .q) → hi ≡ max (w .r) (u .q) →
-      edgeOf (record { lo = lo; hi = hi }) ≡ span (rowsAlone tri t) z
-  span-ends k w x y v u lo hi g2 e p q j l b c d =
-      (λ i. record { lo = c i; hi = d i }) ∙ sym (spanned (shape-is tri t z s nc a) g2 ∙ rw (← e, ← p, ← q, ← j, ← l, ← b))
+  pub span-ends : (k : Round) (w u : Tri) (lo hi : ℕ) → G2 (rowsAlone tri t) z ≡ true → k ≡ roundBy s nc z → w ≡ rowIn tri (k .first) → u ≡ brotherIn tri k z →
+      lo ≡ min (w .r) (u .q) → hi ≡ max (w .r) (u .q) → edgeOf (record { lo = lo; hi = hi }) ≡ span (rowsAlone tri t) z
+  unfolding brotherIn
+  span-ends k w u lo hi g2 e p q c d =
+      (λ i. record { lo = c i; hi = d i }) ∙ sym (spanned (shape-is tri t z s nc a) g2 ∙ rw (← e, ← q, ← p))

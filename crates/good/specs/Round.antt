@@ -72,3 +72,10 @@ twoOrFour k = not (eqb (k .second) 0) && eqb (k .third) 0 || not (eqb (k .fourth
 unfoldable pub rowIn : List ℕ → ℕ → Tri
 rowIn l zero = tri 0 0 0
 rowIn l (suc i) = rowAt l i
+
+-- the numbers are those of rows, or 0
+pub record Within (l : List ℕ) (k : Round) : Type 0 where
+  pub first-in : 3 * k .first ≤ length l
+  pub second-in : 3 * k .second ≤ length l
+  pub third-in : 3 * k .third ≤ length l
+  pub fourth-in : 3 * k .fourth ≤ length l

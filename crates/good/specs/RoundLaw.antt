@@ -186,8 +186,8 @@ module _ (tri : List ℕ) (n t z : ℕ) (f : Fair tri n t) where
   older-none e = not-so (any (older z) (items (rowAt tri) 0 t)) (λ q. clash (sym e ∙ G1-no q))
 
   -- G1, as the code asks it
-  pub G1-is : (s : List ℕ) (nc a : ℕ) (k : Round) → Around s nc tri t z → a ≡ getD s (nc + z) 0 → k ≡ roundBy s nc z → eqb a 0 && twoOrFour k ≡ G1 (rowsAlone tri t) z
-  G1-is s nc a k w e g = rw (e, w .elder, g) (go (any (older z) (items (rowAt tri) 0 t)) refl)
+  pub G1-is : (s : List ℕ) (nc a : ℕ) (k : Round) (c : Bool) → Around s nc tri t z → a ≡ getD s (nc + z) 0 → k ≡ roundBy s nc z → c ≡ twoOrFour k → eqb a 0 && c ≡ G1 (rowsAlone tri t) z
+  G1-is s nc a k c w e g h = rw (h, e, w .elder, g) (go (any (older z) (items (rowAt tri) 0 t)) refl)
     where
       go : (b : Bool) → any (older z) (items (rowAt tri) 0 t) ≡ b → eqb (bit b) 0 && twoOrFour (roundBy s nc z) ≡ G1 (rowsAlone tri t) z
       go true q = sym (G1-no q)

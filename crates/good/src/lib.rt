@@ -1,7 +1,31 @@
-// Good nodes: G1 to G5 of document 01.
+// Good nodes: G1 to G5 of document 01, for all nodes of a lawful mesh as given.
+//
+// Notes, with nc the room of nodes; a row or a node is noted one too large, and 0 says none:
+//   z          the lowest row of which node z is the newest vertex
+//   nc + z     1 where a row holds node z otherwise; later twice the number of its pair b, c, and 1 more where it is good
+//   2 nc + i   the next row with the newest vertex of row i
+// and once the pairs are known, for G5:
+//   2 nc + k   the lowest node whose pair's number leaves the remainder k by t
+//   z          the next node with the same remainder
 ghost use mathlib.Core.Path.{_≡_};
+ghost use mathlib.Core.Bool.{true, not};
+ghost use Prim.Native.Nat.{ℕ, _+_, _-_, _*_, _≤_, _<_, min, max};
+ghost use lib.ListN.{length, getD, set};
+ghost use Rattle.lists.specs.Lists.{any};
+ghost use Rattle.lists.specs.Search.{iter, items};
+ghost use Rattle.lists.specs.Loops.{down};
+ghost use Rattle.lists.specs.ChainLaw.{linked};
+ghost use Rattle.meaning.specs.Mesh.{holdsEdge};
+ghost use Rattle.meaning.specs.Good.{isMiddle, span, G1, G2};
+ghost use Rattle.meaning.specs.Tables.{rowAt, placeAt};
+ghost use Rattle.tables.specs.Ready.{Ready};
+ghost use Rattle.good.specs.Meshes.{rowsAlone, Fair};
+ghost use Rattle.good.specs.Round.{Around, olderStep, linkStep, nextOf, roundBy, twoOrFour, rowIn, Within};
+ghost use Rattle.good.specs.Pair.{joins, closing, fourTest, brotherOf, twoIn, fourIn, brotherIn, edgeOf};
+ghost use Rattle.good.specs.Sign.{pairNo};
+use meaning::Tri;
 
-// The rows of which a node is the newest vertex, lowest first, by their numbers and one more; 0: there is none.
+// The rows of which a node is the newest vertex, lowest first.
 pub struct Round {
     pub first: u32,
     pub second: u32,
@@ -14,4 +38,245 @@ pub struct Round {
 pub struct Ends {
     pub lo: u32,
     pub hi: u32,
+}
+
+// ---- the rows round each node
+
+fn put_at(s: &mut [u32], o: usize, k: u32, v: u32)
+    requires { ⌜ o + k < length (now s) ⌝ }
+    ensures { λ _. ⌜ now (s .exit) ≡ set (now (s .entry)) (o + k) v ⌝ }
+{
+    tables::put_note(s, o + k as usize, v);
+}
+
+fn mark_older(tri: &[u32], s: &mut [u32], nc: usize, n: usize, t: usize, i: usize)
+    requires { ⌜ Fair (now tri) n t ⌝ }
+    requires { ⌜ i < t ⌝ }
+    requires { ⌜ nc + n ≤ length (now s) ⌝ }
+    ensures { λ _. ⌜ now (s .exit) ≡ olderStep (now (tri .entry)) nc i (now (s .entry)) ⌝ }
+{
+    let w = tables::row_at(tri, i);
+    put_at(s, nc, w.q, 1);
+    put_at(s, nc, w.r, 1);
+}
+
+fn mark_olders(tri: &[u32], s: &mut [u32], nc: usize, n: usize, t: usize)
+    requires { ⌜ Fair (now tri) n t ⌝ }
+    requires { ⌜ nc + n ≤ length (now s) ⌝ }
+    ensures { λ _. ⌜ now (s .exit) ≡ iter (olderStep (now (tri .entry)) nc) 0 t (now (s .entry)) ⌝ }
+{
+    let mut i = 0;
+    while i < t {
+        mark_older(tri, s, nc, n, t, i);
+        i += 1;
+    }
+}
+
+// Item i comes before those linked at g; its next is noted at y.
+fn link(s: &mut [u32], g: usize, y: usize, i: usize)
+    requires { ⌜ g < length (now s) ⌝ }
+    requires { ⌜ y < length (now s) ⌝ }
+    requires { ⌜ i ≤ 262_144 ⌝ }
+    ensures { λ _. ⌜ now (s .exit) ≡ linked g y i (now (s .entry)) ⌝ }
+{
+    let v = tables::note_at(s, g);
+    tables::put_note(s, y, v);
+    tables::put_note(s, g, i as u32 + 1);
+}
+
+fn link_row(tri: &[u32], s: &mut [u32], nc: usize, n: usize, t: usize, i: usize)
+    requires { ⌜ Fair (now tri) n t ⌝ }
+    requires { ⌜ i < t ⌝ }
+    requires { ⌜ n ≤ nc ⌝ }
+    requires { ⌜ 2 * nc + t ≤ length (now s) ⌝ }
+    ensures { λ _. ⌜ now (s .exit) ≡ linkStep (now (tri .entry)) nc i (now (s .entry)) ⌝ }
+{
+    let w = tables::row_at(tri, i);
+    link(s, w.p as usize, 2 * nc + i, i);
+}
+
+fn link_rows(tri: &[u32], s: &mut [u32], nc: usize, n: usize, t: usize)
+    requires { ⌜ Fair (now tri) n t ⌝ }
+    requires { ⌜ n ≤ nc ⌝ }
+    requires { ⌜ 2 * nc + t ≤ length (now s) ⌝ }
+    ensures { λ _. ⌜ now (s .exit) ≡ down (linkStep (now (tri .entry)) nc) t (now (s .entry)) ⌝ }
+{
+    let mut i = t;
+    while i > 0 {
+        i -= 1;
+        link_row(tri, s, nc, n, t, i);
+    }
+}
+
+// The row after row number k.
+fn after(s: &[u32], nc: usize, k: u32) -> u32
+    requires { ⌜ 2 * nc + k ≤ length (now s) ⌝ }
+    ensures { λ r. ⌜ r ≡ nextOf (now (s .entry)) nc k ⌝ }
+{
+    if k == 0 {
+        return 0;
+    }
+    tables::note_at(s, 2 * nc + k as usize - 1)
+}
+
+fn round_of(tri: &[u32], s: &[u32], nc: usize, t: usize, z: usize) -> Round
+    requires { ⌜ Around (now s) nc (now tri) t z ⌝ }
+    ensures { λ r. ⌜ r ≡ roundBy (now (s .entry)) nc z ⌝ }
+{
+    let first = tables::note_at(s, z);
+    let second = after(s, nc, first);
+    let third = after(s, nc, second);
+    let fourth = after(s, nc, third);
+    let fifth = after(s, nc, fourth);
+    Round {
+        first,
+        second,
+        third,
+        fourth,
+        fifth,
+    }
+}
+
+// ---- G1
+
+fn two_or_four(k: Round) -> bool
+    ensures { λ r. ⌜ r ≡ twoOrFour k ⌝ }
+{
+    (k.second != 0) & (k.third == 0) | (k.fourth != 0) & (k.fifth == 0)
+}
+
+fn g1(tri: &[u32], s: &[u32], nc: usize, n: usize, t: usize, z: usize) -> bool
+    requires { ⌜ Fair (now tri) n t ⌝ }
+    requires { ⌜ Around (now s) nc (now tri) t z ⌝ }
+    ensures { λ r. ⌜ r ≡ G1 (rowsAlone (now (tri .entry)) t) z ⌝ }
+{
+    let a = tables::note_at(s, nc + z);
+    let k = round_of(tri, s, nc, t, z);
+    (a == 0) & two_or_four(k)
+}
+
+// ---- G2 and the pair b, c
+
+// Row number k, where there is one.
+fn row_in(tri: &[u32], k: u32) -> Tri
+    requires { ⌜ 3 * k ≤ length (now tri) ⌝ }
+    ensures { λ w. ⌜ w ≡ rowIn (now (tri .entry)) k ⌝ }
+{
+    if k == 0 {
+        return Tri { p: 0, q: 0, r: 0 };
+    }
+    tables::row_at(tri, k as usize - 1)
+}
+
+// v holds a→z, where w is (z, a, b).
+fn joins(w: Tri, v: Tri, z: u32) -> bool
+    ensures { λ r. ⌜ r ≡ joins w v z ⌝ }
+{
+    tables::has_edge(v, w.q, z)
+}
+
+// w, v are (z, a, b), (z, c, a): x, y are (z, d, c), (z, b, d).
+fn closing(w: Tri, v: Tri, x: Tri, y: Tri, z: u32) -> bool
+    ensures { λ r. ⌜ r ≡ closing w v x y z ⌝ }
+{
+    joins(x, y, z) & ((x.r == v.q) & (y.q == w.r))
+}
+
+// Of four rows, lowest first.
+fn four_close(w: Tri, x: Tri, y: Tri, v: Tri, z: u32) -> bool
+    ensures { λ r. ⌜ r ≡ fourTest w x y v z ⌝ }
+{
+    if joins(w, x, z) {
+        return closing(w, x, y, v, z);
+    }
+    if joins(w, y, z) {
+        return closing(w, y, x, v, z);
+    }
+    if joins(w, v, z) {
+        return closing(w, v, x, y, z);
+    }
+    false
+}
+
+fn two_in(tri: &[u32], k: Round, z: u32) -> bool
+    requires { ⌜ Within (now tri) k ⌝ }
+    ensures { λ r. ⌜ r ≡ twoIn (now (tri .entry)) k z ⌝ }
+{
+    joins(row_in(tri, k.first), row_in(tri, k.second), z)
+}
+
+fn four_in(tri: &[u32], k: Round, z: u32) -> bool
+    requires { ⌜ Within (now tri) k ⌝ }
+    ensures { λ r. ⌜ r ≡ fourIn (now (tri .entry)) k z ⌝ }
+{
+    let w = row_in(tri, k.first);
+    let x = row_in(tri, k.second);
+    let y = row_in(tri, k.third);
+    let v = row_in(tri, k.fourth);
+    four_close(w, x, y, v, z)
+}
+
+fn g2(tri: &[u32], s: &[u32], nc: usize, n: usize, t: usize, z: u32) -> bool
+    requires { ⌜ Fair (now tri) n t ⌝ }
+    requires { ⌜ Around (now s) nc (now tri) t z ⌝ }
+    requires { ⌜ G1 (rowsAlone (now tri) t) z ≡ true ⌝ }
+    ensures { λ r. ⌜ r ≡ G2 (rowsAlone (now (tri .entry)) t) z ⌝ }
+{
+    let k = round_of(tri, s, nc, t, z as usize);
+    if k.third == 0 {
+        return two_in(tri, k, z);
+    }
+    four_in(tri, k, z)
+}
+
+// The row that holds a→z, of three.
+fn brother(w: Tri, x: Tri, y: Tri, v: Tri, z: u32) -> Tri
+    ensures { λ r. ⌜ r ≡ brotherOf w x y v z ⌝ }
+{
+    if joins(w, x, z) {
+        return x;
+    }
+    if joins(w, y, z) {
+        return y;
+    }
+    v
+}
+
+fn brother_in(tri: &[u32], k: Round, z: u32) -> Tri
+    requires { ⌜ Within (now tri) k ⌝ }
+    ensures { λ r. ⌜ r ≡ brotherIn (now (tri .entry)) k z ⌝ }
+{
+    let w = row_in(tri, k.first);
+    let x = row_in(tri, k.second);
+    let y = row_in(tri, k.third);
+    let v = row_in(tri, k.fourth);
+    brother(w, x, y, v, z)
+}
+
+fn low(b: u32, c: u32) -> u32
+    ensures { λ r. ⌜ r ≡ min b c ⌝ }
+{
+    if b < c { b } else { c }
+}
+
+fn high(b: u32, c: u32) -> u32
+    ensures { λ r. ⌜ r ≡ max b c ⌝ }
+{
+    if b < c { c } else { b }
+}
+
+fn span_of(tri: &[u32], s: &[u32], nc: usize, n: usize, t: usize, z: u32) -> Ends
+    requires { ⌜ Fair (now tri) n t ⌝ }
+    requires { ⌜ Around (now s) nc (now tri) t z ⌝ }
+    requires { ⌜ G1 (rowsAlone (now tri) t) z ≡ true ⌝ }
+    requires { ⌜ G2 (rowsAlone (now tri) t) z ≡ true ⌝ }
+    ensures { λ r. ⌜ edgeOf r ≡ span (rowsAlone (now (tri .entry)) t) z ⌝ }
+{
+    let k = round_of(tri, s, nc, t, z as usize);
+    let w = row_in(tri, k.first);
+    let u = brother_in(tri, k, z);
+    Ends {
+        lo: low(w.r, u.q),
+        hi: high(w.r, u.q),
+    }
 }

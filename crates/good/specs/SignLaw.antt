@@ -14,46 +14,21 @@ use Rattle.lists.specs.Lists.{cases, any, isFound}
 use Rattle.lists.specs.ListsLaw.{clash, and-left, and-right}
 use Rattle.lists.specs.Search.{lowest, items}
 use Rattle.lists.specs.SearchLaw.{lowest-any}
+use Rattle.meaning.specs.declared.Place.{Place}
 use Rattle.meaning.specs.declared.Tri.{Tri}
 use Rattle.meaning.specs.Mesh.{Mesh, Edge, edge, arrow, holdsArrow, holdsEdge, at}
-use Rattle.meaning.specs.Good.{isMiddle, pairs, span, G1, G2, G3, G4, G1-4}
+use Rattle.meaning.specs.Good.{Brothers, isMiddle, pairs, spanOf, span, G1, G2, G3, G4, G1-4}
 use Rattle.meaning.specs.Tables.{placeAt, rowAt}
 use Rattle.laws.specs.EdgeArrow.{edge-arrows}
 use Rattle.tables.specs.Arrow.{arrowAt}
 use Rattle.good.specs.declared.Ends.{Ends}
-use Rattle.good.specs.Meshes.{meshAt, rowsAlone, at-is}
+use Rattle.good.specs.Meshes.{meshAt, rowsAlone, Fair, at-is}
+use Rattle.good.specs.Round.{Around}
+use Rattle.good.specs.PairLaw.{span-below}
 use Rattle.good.specs.Pair.{edgeOf}
-use Rattle.good.specs.Sign.{pairNo, signOf, signFrom}
+use Rattle.good.specs.Sign.{pairNo, signOn, signOf, signFrom}
 
--- ---- G4
-
-any-split : {A : Type 0} (f g h : A → Bool) → ((x : A) → f x ≡ g x || h x) → (l : List A) → any f l ≡ any g l || any h l
-any-split f g h e [] = refl
-any-split f g h e (x ∷ l) = rw (e x, any-split f g h e l) (shuffle (g x) (h x) (any g l) (any h l))
-  where
-    shuffle : (a b c d : Bool) → (a || b) || (c || d) ≡ (a || c) || (b || d)
-    shuffle true b c d = refl
-    shuffle false true true d = refl
-    shuffle false true false d = refl
-    shuffle false false c d = refl
-
-pub held-either : (l : List ℕ) (t : ℕ) (e : Ends) (f g : Found) (a b : Bool) → e .lo ≤ e .hi → f ≡ lowest (arrowAt l (e .lo) (e .hi)) 0 t → a ≡ isFound f →
-    g ≡ lowest (arrowAt l (e .hi) (e .lo)) 0 t → b ≡ isFound g → not (a || b) ≡ not (any (holdsEdge (edgeOf e)) (items (rowAt l) 0 t))
-unfolding arrowAt
-held-either l t e f g a b h p q r u =
-    let x = e .lo in
-    let y = e .hi in
-    let n : edge x y ≡ edgeOf e = (let p : min x y ≡ x = omega arith in let q : max x y ≡ y = omega arith in λ i. record { lo = p i; hi = q i }) in
-    let v : a || b ≡ any (holdsEdge (edge x y)) (items (rowAt l) 0 t) =
-        rw (
-          q, p, u, r,
-          lowest-any (holdsArrow (arrow x y)) (rowAt l) (arrowAt l x y) t (λ j k. refl),
-          lowest-any (holdsArrow (arrow y x)) (rowAt l) (arrowAt l y x) t (λ j k. refl),
-        )
-        (sym (any-split (holdsEdge (edge x y)) (holdsArrow (arrow x y)) (holdsArrow (arrow y x)) (edge-arrows x y) (items (rowAt l) 0 t))) in
-    ap not (v ∙ ap (λ (d : Edge). any (holdsEdge d) (items (rowAt l) 0 t)) n)
-
--- ---- all
+-- ---- G1, G2 and the pair ask for no place
 
 module _ (nodes : List ℤ) (tri : List ℕ) (n t z : ℕ) where
   pub first-same : G1 (meshAt nodes tri n t) z ≡ G1 (rowsAlone tri t) z
@@ -68,6 +43,58 @@ module _ (nodes : List ℤ) (tri : List ℕ) (n t z : ℕ) where
   unfolding meshAt pairs span
   span-same = refl
 
+  pub fourth-same : G4 (meshAt nodes tri n t) z ≡ G4 (rowsAlone tri t) z
+  unfolding meshAt
+  fourth-same = rw span-same
+
+-- ---- G4
+
+any-split : {A : Type 0} (f g h : A → Bool) → ((x : A) → f x ≡ g x || h x) → (l : List A) → any f l ≡ any g l || any h l
+any-split f g h e [] = refl
+any-split f g h e (x ∷ l) = rw (e x, any-split f g h e l) (shuffle (g x) (h x) (any g l) (any h l))
+  where
+    shuffle : (a b c d : Bool) → (a || b) || (c || d) ≡ (a || c) || (b || d)
+    shuffle true b c d = refl
+    shuffle false true true d = refl
+    shuffle false true false d = refl
+    shuffle false false c d = refl
+
+span-order : (m : Mesh) (z : ℕ) → span m z .lo ≤ span m z .hi
+unfolding span
+span-order m z = go (pairs m z)
+  where
+    go : (bs : List Brothers) → spanOf bs .lo ≤ spanOf bs .hi
+    go [] = omega arith
+    go (x ∷ xs) = omega arith
+
+pub held-either : (l : List ℕ) (t z : ℕ) (e : Ends) (f g : Found) (a b : Bool) → edgeOf e ≡ span (rowsAlone l t) z → f ≡ lowest (arrowAt l (e .lo) (e .hi)) 0 t → a ≡ isFound f →
+    g ≡ lowest (arrowAt l (e .hi) (e .lo)) 0 t → b ≡ isFound g → not (a || b) ≡ G4 (rowsAlone l t) z
+unfolding arrowAt
+held-either l t z e f g a b k p q r u =
+    let x = e .lo in
+    let y = e .hi in
+    let h : x ≤ y = rw (← k) at (span-order (rowsAlone l t) z) in
+    let n : edge x y ≡ edgeOf e = (let p : min x y ≡ x = omega arith in let q : max x y ≡ y = omega arith in λ i. record { lo = p i; hi = q i }) in
+    let v : a || b ≡ any (holdsEdge (edge x y)) (items (rowAt l) 0 t) =
+        rw (
+          q, p, u, r,
+          lowest-any (holdsArrow (arrow x y)) (rowAt l) (arrowAt l x y) t (λ j k. refl),
+          lowest-any (holdsArrow (arrow y x)) (rowAt l) (arrowAt l y x) t (λ j k. refl),
+        )
+        (sym (any-split (holdsEdge (edge x y)) (holdsArrow (arrow x y)) (holdsArrow (arrow y x)) (edge-arrows x y) (items (rowAt l) 0 t))) in
+    ap not (v ∙ ap (λ (d : Edge). any (holdsEdge d) (items (rowAt l) 0 t)) (n ∙ k))
+
+-- ---- G3
+
+pub middle-is : (nodes : List ℤ) (tri : List ℕ) (n t z : ℕ) (e : Ends) (a b c : Place) (r : Bool) → edgeOf e ≡ span (rowsAlone tri t) z → z < n → e .lo < n → e .hi < n →
+    a ≡ placeAt nodes z → b ≡ placeAt nodes (e .lo) → c ≡ placeAt nodes (e .hi) → r ≡ isMiddle a b c → r ≡ G3 (meshAt nodes tri n t) z
+middle-is nodes tri n t z e a b c r k zn ln hn p q u v =
+    let s : span (meshAt nodes tri n t) z ≡ edgeOf e = span-same nodes tri n t z ∙ sym k in
+    v ∙ rw (p, q, u) (sym (rw (s, at-is nodes tri n t z zn, at-is nodes tri n t (e .lo) ln, at-is nodes tri n t (e .hi) hn)))
+
+-- ---- all
+
+module _ (nodes : List ℤ) (tri : List ℕ) (n t z : ℕ) where
   four : (a b c d : Bool) → a ≡ false → a && b && c && d ≡ false
   four a b c d e = rw e
 
@@ -75,45 +102,51 @@ module _ (nodes : List ℤ) (tri : List ℕ) (n t z : ℕ) where
   four2 true b c d e = rw e
   four2 false b c d e = refl
 
-  four-yes : (a b x : Bool) → a ≡ true → b ≡ true → (c d : Bool) → c && d ≡ x → a && b && c && d ≡ x
-  four-yes a b x e f c d g = rw (e, f) g
-
   pub sign-not-1 : (b : Bool) → b ≡ G1 (rowsAlone tri t) z → not b ≡ true → 0 ≡ signOf (meshAt nodes tri n t) z
   unfolding signOf G1-4
   sign-not-1 b e h =
-      rw (four (G1 (meshAt nodes tri n t) z) (G2 (meshAt nodes tri n t) z) (G3 (meshAt nodes tri n t) z) (G4 (meshAt nodes tri n t) z) (first-same ∙ sym e ∙ not-true b h))
+      rw (four (G1 (meshAt nodes tri n t) z) (G2 (meshAt nodes tri n t) z) (G3 (meshAt nodes tri n t) z) (G4 (meshAt nodes tri n t) z) (first-same nodes tri n t z ∙ sym e ∙ not-true b h))
 
   pub sign-not-2 : (b : Bool) → b ≡ G2 (rowsAlone tri t) z → not b ≡ true → 0 ≡ signOf (meshAt nodes tri n t) z
   unfolding signOf G1-4
   sign-not-2 b e h =
-      rw (four2 (G1 (meshAt nodes tri n t) z) (G2 (meshAt nodes tri n t) z) (G3 (meshAt nodes tri n t) z) (G4 (meshAt nodes tri n t) z) (second-same ∙ sym e ∙ not-true b h))
+      rw (four2 (G1 (meshAt nodes tri n t) z) (G2 (meshAt nodes tri n t) z) (G3 (meshAt nodes tri n t) z) (G4 (meshAt nodes tri n t) z) (second-same nodes tri n t z ∙ sym e ∙ not-true b h))
 
-  module _ (a b : Bool) (e : Ends) (c d : Bool) (ga : a ≡ G1 (rowsAlone tri t) z) (ha : not a ≡ false) (gb : b ≡ G2 (rowsAlone tri t) z) (hb : not b ≡ false)
-      (ge : edgeOf e ≡ span (rowsAlone tri t) z) (zn : z < n) (lo-in : e .lo < n) (hi-in : e .hi < n)
-      (gc : c ≡ isMiddle (placeAt nodes z) (placeAt nodes (e .lo)) (placeAt nodes (e .hi)))
-      (gd : d ≡ not (any (holdsEdge (edgeOf e)) (items (rowAt tri) 0 t))) where
-    third-same : G3 (meshAt nodes tri n t) z ≡ c
-    third-same =
-        rw (span-same, ← ge, at-is nodes tri n t z zn, at-is nodes tri n t (e .lo) lo-in, at-is nodes tri n t (e .hi) hi-in) (sym gc)
+  module _ (a b : Bool) (ga : a ≡ G1 (rowsAlone tri t) z) (ha : not a ≡ false) (gb : b ≡ G2 (rowsAlone tri t) z) (hb : not b ≡ false) where
+    first-yes : G1 (rowsAlone tri t) z ≡ true
+    first-yes = sym ga ∙ not-false a ha
 
-    fourth-same : G4 (meshAt nodes tri n t) z ≡ d
-    unfolding meshAt
-    fourth-same = rw (span-same, ← ge) (sym gd)
+    second-yes : G2 (rowsAlone tri t) z ≡ true
+    second-yes = sym gb ∙ not-false b hb
 
-    all-same : G1-4 (meshAt nodes tri n t) z ≡ c && d
-    unfolding G1-4
-    all-same =
-        four-yes (G1 (meshAt nodes tri n t) z) (G2 (meshAt nodes tri n t) z) (c && d)
-        (first-same ∙ sym ga ∙ not-false a ha) (second-same ∙ sym gb ∙ not-false b hb)
-        (G3 (meshAt nodes tri n t) z) (G4 (meshAt nodes tri n t) z) (rw (third-same, fourth-same))
+    module _ (s : List ℕ) (nc : ℕ) (f : Fair tri n t) (r : Around s nc tri t z) (e : Ends) (ge : edgeOf e ≡ span (rowsAlone tri t) z) where
+      in-span : (span (rowsAlone tri t) z .lo < n) × (span (rowsAlone tri t) z .hi < n)
+      in-span = span-below tri n t z f s nc r first-yes second-yes
 
-    pub sign-yes : (r : ℕ) → c && d ≡ true → r ≡ pairNo (edgeOf e) → r ≡ signOf (meshAt nodes tri n t) z
-    unfolding signOf
-    sign-yes r h g = g ∙ rw (all-same, h, span-same, ← ge)
+      pub lo-in : e .lo < n
+      lo-in = rw (ap (λ (d : Edge). d .lo) ge) (in-span .0)
 
-    pub sign-no : c && d ≡ false → 0 ≡ signOf (meshAt nodes tri n t) z
-    unfolding signOf
-    sign-no h = rw (all-same, h)
+      pub hi-in : e .hi < n
+      hi-in = rw (ap (λ (d : Edge). d .hi) ge) (in-span .1)
+
+    pub sign-all : (r : ℕ) → r ≡ signOn (meshAt nodes tri n t) z → r ≡ signOf (meshAt nodes tri n t) z
+    unfolding signOn signOf G1-4
+    sign-all r g = g ∙ rw (first-same nodes tri n t z, first-yes, second-same nodes tri n t z, second-yes)
+
+  module _ (e : Ends) (ge : edgeOf e ≡ span (rowsAlone tri t) z) (c d : Bool) (gc : c ≡ G3 (meshAt nodes tri n t) z) (gd : d ≡ G4 (rowsAlone tri t) z) where
+    both-same : G3 (meshAt nodes tri n t) z && G4 (meshAt nodes tri n t) z ≡ c && d
+    both-same = rw (← gc, fourth-same nodes tri n t z, ← gd)
+
+    pub sign-yes : (r : ℕ) → c && d ≡ true → r ≡ pairNo (edgeOf e) → r ≡ signOn (meshAt nodes tri n t) z
+    unfolding signOn
+    sign-yes r h g = g ∙ rw (both-same, h, span-same nodes tri n t z, ← ge)
+
+    pub sign-no : c && d ≡ false → 0 ≡ signOn (meshAt nodes tri n t) z
+    unfolding signOn
+    sign-no h = rw (both-same, h)
+
+pub came : (b x : Bool) → b ≡ x → not b ≡ false → x ≡ true
+came b x e h = sym e ∙ not-false b h
 
 pub sign-base : (n0 z : ℕ) (m : Mesh) → z < n0 → 0 ≡ signFrom n0 m z
 unfolding signFrom

@@ -8,21 +8,18 @@
 //   2 nc + k   the lowest node whose pair's number leaves the remainder k by t
 //   z          the next node with the same remainder
 ghost use mathlib.Core.Path.{_≡_};
-ghost use mathlib.Core.Bool.{true, not};
+ghost use mathlib.Core.Bool.{true};
 ghost use Prim.Native.Nat.{ℕ, _+_, _-_, _*_, _≤_, _<_, min, max};
 ghost use lib.ListN.{length, getD, set};
-ghost use Rattle.lists.specs.Lists.{any};
-ghost use Rattle.lists.specs.Search.{iter, items};
+ghost use Rattle.lists.specs.Search.{iter};
 ghost use Rattle.lists.specs.Loops.{down};
 ghost use Rattle.lists.specs.ChainLaw.{linked};
-ghost use Rattle.meaning.specs.Mesh.{holdsEdge};
-ghost use Rattle.meaning.specs.Good.{isMiddle, span, G1, G2};
-ghost use Rattle.meaning.specs.Tables.{rowAt, placeAt};
+ghost use Rattle.meaning.specs.Good.{span, G1, G2, G3, G4};
 ghost use Rattle.tables.specs.Ready.{Ready};
-ghost use Rattle.good.specs.Meshes.{rowsAlone, Fair};
+ghost use Rattle.good.specs.Meshes.{meshAt, rowsAlone, Fair};
 ghost use Rattle.good.specs.Round.{Around, olderStep, linkStep, nextOf, roundBy, twoOrFour, rowIn, Within};
 ghost use Rattle.good.specs.Pair.{joins, closing, fourTest, brotherOf, twoIn, fourIn, brotherIn, edgeOf};
-ghost use Rattle.good.specs.Sign.{pairNo};
+ghost use Rattle.good.specs.Sign.{pairNo, signOn, signOf, signFrom};
 use meaning::Tri;
 
 // The rows of which a node is the newest vertex, lowest first.
@@ -279,4 +276,91 @@ fn span_of(tri: &[u32], s: &[u32], nc: usize, n: usize, t: usize, z: u32) -> End
         lo: low(w.r, u.q),
         hi: high(w.r, u.q),
     }
+}
+
+// ---- G3, G4
+
+fn g3(nodes: &[i32], tri: &[u32], n: usize, t: usize, z: u32, e: Ends) -> bool
+    requires { ⌜ 2 * n ≤ length (now nodes) ⌝ }
+    requires { ⌜ z < n ⌝ }
+    requires { ⌜ e .lo < n ⌝ }
+    requires { ⌜ e .hi < n ⌝ }
+    requires { ⌜ edgeOf e ≡ span (rowsAlone (now tri) t) z ⌝ }
+    ensures { λ r. ⌜ r ≡ G3 (meshAt (now (nodes .entry)) (now (tri .entry)) n t) z ⌝ }
+{
+    plane::is_middle(
+        tables::corner(nodes, z),
+        tables::corner(nodes, e.lo),
+        tables::corner(nodes, e.hi),
+    )
+}
+
+fn g4(tri: &[u32], s: &[u32], nc: usize, t: usize, z: u32, e: Ends) -> bool
+    requires { ⌜ Ready (now s) nc (now tri) t ⌝ }
+    requires { ⌜ edgeOf e ≡ span (rowsAlone (now tri) t) z ⌝ }
+    ensures { λ r. ⌜ r ≡ G4 (rowsAlone (now (tri .entry)) t) z ⌝ }
+{
+    let f = tables::find_edge(tri, s, nc, t, e.lo, e.hi);
+    let g = tables::find_edge(tri, s, nc, t, e.hi, e.lo);
+    !(tables::is_found(f) | tables::is_found(g))
+}
+
+// ---- one number a node: 0 where it does not meet G1 to G4, else the number of its pair
+
+fn pair_number(e: Ends) -> u32
+    requires { ⌜ e .lo < 32_768 ⌝ }
+    requires { ⌜ e .hi < 32_768 ⌝ }
+    ensures { λ r. ⌜ r ≡ pairNo (edgeOf e) ⌝ }
+{
+    e.lo * 32768 + e.hi + 1
+}
+
+// G3 and G4, with the pair e.
+fn sign_on(nodes: &[i32], tri: &[u32], s: &[u32], nc: usize, n: usize, t: usize, z: u32, e: Ends) -> u32
+    requires { ⌜ Ready (now s) nc (now tri) t ⌝ }
+    requires { ⌜ 2 * n ≤ length (now nodes) ⌝ }
+    requires { ⌜ n ≤ 32_768 ⌝ }
+    requires { ⌜ (z < n) × (e .lo < n) × (e .hi < n) ⌝ }
+    requires { ⌜ edgeOf e ≡ span (rowsAlone (now tri) t) z ⌝ }
+    ensures { λ r. ⌜ r ≡ signOn (meshAt (now (nodes .entry)) (now (tri .entry)) n t) z ⌝ }
+{
+    if g3(nodes, tri, n, t, z, e) & g4(tri, s, nc, t, z, e) {
+        return pair_number(e);
+    }
+    0
+}
+
+// G1 to G4.
+fn sign(nodes: &[i32], tri: &[u32], s: &[u32], nc: usize, n: usize, t: usize, z: u32) -> u32
+    requires { ⌜ Fair (now tri) n t ⌝ }
+    requires { ⌜ Around (now s) nc (now tri) t z ⌝ }
+    requires { ⌜ Ready (now s) nc (now tri) t ⌝ }
+    requires { ⌜ 2 * n ≤ length (now nodes) ⌝ }
+    requires { ⌜ n ≤ 32_768 ⌝ }
+    requires { ⌜ z < n ⌝ }
+    ensures { λ r. ⌜ r ≡ signOf (meshAt (now (nodes .entry)) (now (tri .entry)) n t) z ⌝ }
+{
+    if !g1(tri, s, nc, n, t, z as usize) {
+        return 0;
+    }
+    if !g2(tri, s, nc, n, t, z) {
+        return 0;
+    }
+    let e = span_of(tri, s, nc, n, t, z);
+    sign_on(nodes, tri, s, nc, n, t, z, e)
+}
+
+fn sign_from(nodes: &[i32], tri: &[u32], s: &[u32], nc: usize, n0: usize, n: usize, t: usize, z: usize) -> u32
+    requires { ⌜ Fair (now tri) n t ⌝ }
+    requires { ⌜ Around (now s) nc (now tri) t z ⌝ }
+    requires { ⌜ Ready (now s) nc (now tri) t ⌝ }
+    requires { ⌜ 2 * n ≤ length (now nodes) ⌝ }
+    requires { ⌜ n ≤ 32_768 ⌝ }
+    requires { ⌜ z < n ⌝ }
+    ensures { λ r. ⌜ r ≡ signFrom n0 (meshAt (now (nodes .entry)) (now (tri .entry)) n t) z ⌝ }
+{
+    if z < n0 {
+        return 0;
+    }
+    sign(nodes, tri, s, nc, n, t, z as u32)
 }

@@ -1,6 +1,7 @@
 pub mod Meshes
 pub mod Round
 pub mod RoundNeeds
+pub mod NotesLaw
 pub mod RoundLaw
 pub mod Pair
 pub mod PairLaw

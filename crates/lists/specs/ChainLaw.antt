@@ -9,8 +9,8 @@ use native.Mathlib.Omega.{arith}
 use native.Mathlib.Decide.{ℕ-discrete}
 use borrow.Author.Tests.{eqb-true, eq-eqb, ne-eqb}
 use lib.Dec.{eqb}
-use lib.ListN.{length, getD, set, length-set}
-use lib.Seq.{getD-set-same, getD-set-other}
+use lib.ListN.{length, getD, set, drop, length-set}
+use lib.Seq.{getD-set-same, getD-set-other, drop-set-lt}
 use Rattle.lists.specs.declared.Found.{Found}
 use Rattle.lists.specs.declared.Found.the-variants.{At, Nothing}
 use Rattle.lists.specs.Lists.{cases, only, consIf}
@@ -119,9 +119,13 @@ unfolding linked
 linked-length g y i s = length-set (set s y (getD s g 0)) g (i + 1) ∙ length-set s y (getD s g 0)
 
 -- what is read after
-linked-other : (g y i : ℕ) (s : List ℕ) (p : ℕ) → p ≢ g → p ≢ y → getD (linked g y i s) p 0 ≡ getD s p 0
+pub linked-other : (g y i : ℕ) (s : List ℕ) (p : ℕ) → p ≢ g → p ≢ y → getD (linked g y i s) p 0 ≡ getD s p 0
 unfolding linked
 linked-other g y i s p a b = getD-set-other (set s y (getD s g 0)) g p (i + 1) 0 a ∙ getD-set-other s y p (getD s g 0) 0 b
+
+pub linked-drop : (g y i k : ℕ) (s : List ℕ) → g < k → y < k → drop k (linked g y i s) ≡ drop k s
+unfolding linked
+linked-drop g y i k s a b = drop-set-lt k (set s y (getD s g 0)) g (i + 1) a ∙ drop-set-lt k s y (getD s g 0) b
 
 linked-head : (g y i : ℕ) (s : List ℕ) → g < length s → getD (linked g y i s) g 0 ≡ i + 1
 unfolding linked
@@ -194,6 +198,11 @@ module _ (key : ℕ → ℕ) (top h x t : ℕ) where
       pub chain-link : Chain key top h x t i (linked (h + key i) (x + i) i s)
       unfolding new
       chain-link = record { heads = new-heads; nexts = new-nexts }
+
+-- the same chain, where its notes read the same
+pub chain-kept : (key : ℕ → ℕ) (top h x t : ℕ) (s s′ : List ℕ) → ((k : ℕ) → k < top → getD s′ (h + k) 0 ≡ getD s (h + k) 0) → ((j : ℕ) → j < t → getD s′ (x + j) 0 ≡ getD s (x + j) 0) →
+    Chain key top h x t 0 s → Chain key top h x t 0 s′
+chain-kept key top h x t s s′ a b c = record { heads = λ k l. (a k l ∙ c .heads k l); nexts = λ j l u d. (b j u ∙ c .nexts j l u d) }
 
 -- ---- a walk along a chain: f is looked for, and passes only where g does; k is the number of the item the walk stands at
 

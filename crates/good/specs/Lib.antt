@@ -7,3 +7,5 @@ pub mod Pair
 pub mod PairLaw
 pub mod Sign
 pub mod SignLaw
+pub mod Rival
+pub mod RivalLaw

@@ -166,6 +166,10 @@ pub pair-some : (e : Edge) → 0 < pairNo e
 unfolding pairNo
 pair-some e = omega arith
 
+pub pair-le : (e : Edge) → e .lo < 32_768 → e .hi < 32_768 → pairNo e ≤ 1_073_741_824
+unfolding pairNo
+pair-le e h k = omega arith
+
 pub pair-one : (d e : Edge) → d .hi < 32_768 → e .hi < 32_768 → pairNo d ≡ pairNo e → d ≡ e
 unfolding pairNo
 pair-one d e h k q =

@@ -9,3 +9,4 @@ pub mod Sign
 pub mod SignLaw
 pub mod Rival
 pub mod RivalLaw
+pub mod RivalNeeds

@@ -210,6 +210,6 @@ module _ (s₀ s tri : List ℕ) (nc n t z : ℕ) (g : ℕ → ℕ) (e : s ≡ n
         long = (let l = noted-length nc g z s₀ in let q = ap length e in let u = b .long in omega arith);
       }
 
-pub noted-ready : (s₀ s tri : List ℕ) (nc n t o z : ℕ) (g : ℕ → ℕ) → s ≡ noted o g z s₀ → o + z ≤ indexAt nc (length tri) → Ready s₀ nc tri t → Ready s nc tri t
-noted-ready s₀ s tri nc n t o z g e h r =
-    ready-kept s₀ s tri nc t (rw e (noted-length o g z s₀)) (rw e (noted-drop o g z (indexAt nc (length tri)) s₀ h)) r
+  pub ready-still : Ready s₀ nc tri t → Ready s nc tri t
+  ready-still r =
+      ready-kept s₀ s tri nc t (rw e (noted-length nc g z s₀)) (rw e (noted-drop nc g z (indexAt nc (length tri)) s₀ (omega arith))) r

@@ -38,6 +38,9 @@ fresh n0 m z = 2 * signFrom n0 m z
 abbrev pub judged : ℕ → Mesh → ℕ → ℕ
 judged n0 m z = 2 * signFrom n0 m z + bit (good n0 m z)
 
+abbrev pub blank : ℕ → ℕ
+blank i = 0
+
 unfoldable pub linkNode : ℕ → ℕ → ℕ → List ℕ → List ℕ
 linkNode nc t z s = cases (eqb (getD s (nc + z) 0) 0 || eqb t 0) s (linked (2 * nc + getD s (nc + z) 0 / 2 % t) z z s)
 

@@ -183,15 +183,15 @@ module _ (s : List ℕ) (nc n0 : ℕ) (m : Mesh) (n t z : ℕ) (d : Signed s nc 
   walk-below k o (over e) = absurd (o refl)
   walk-below k o (at j h e f) = omega arith
 
-  pub walk-note : (k : ℕ) → (k ≡ 0 → ⊥) → Walk n0 m n t z k → nc + (k - 1) < length s
-  walk-note k o w = let a = walk-below k o w in let b = d .room in let u = d .long in omega arith
+  pub walk-note : (k y : ℕ) → (k ≡ 0 → ⊥) → y ≡ k - 1 → Walk n0 m n t z k → nc + y < length s
+  walk-note k y o e w = let a = walk-below k o w in let b = d .room in let u = d .long in omega arith
 
-  pub walk-next : (k : ℕ) → (k ≡ 0 → ⊥) → Walk n0 m n t z k → k - 1 < length s
-  walk-next k o w = let a = walk-below k o w in let b = d .room in let u = d .long in omega arith
+  pub walk-next : (k y : ℕ) → (k ≡ 0 → ⊥) → y ≡ k - 1 → Walk n0 m n t z k → y < length s
+  walk-next k y o e w = let a = walk-below k o w in let b = d .room in let u = d .long in omega arith
 
-  pub walk-hit : (k : ℕ) (r : Bool) → (k ≡ 0 → ⊥) → Walk n0 m n t z k → r ≡ rivalAt s nc z (k - 1) → r ≡ true → true ≡ isFound (lowest (rivals (signFrom n0 m) z) 0 n)
-  walk-hit k r o (over x) e y = absurd (o refl)
-  walk-hit k r o (at j h x f) e y =
+  hit : (k : ℕ) (r : Bool) → (k ≡ 0 → ⊥) → Walk n0 m n t z k → r ≡ rivalAt s nc z (k - 1) → r ≡ true → true ≡ isFound (lowest (rivals (signFrom n0 m) z) 0 n)
+  hit k r o (over x) e y = absurd (o refl)
+  hit k r o (at j h x f) e y =
       let q : j + 1 - 1 ≡ j = omega arith in
       let p : rivals (signFrom n0 m) z j ≡ true = sym (rival-is j h) ∙ (rw q at (sym e)) ∙ y in
       sym (lowest-some (rivals (signFrom n0 m) z) n j h p)
@@ -219,12 +219,15 @@ module _ (s : List ℕ) (nc n0 : ℕ) (m : Mesh) (n t z : ℕ) (d : Signed s nc 
               ahead n (code (lowest (sameKey t (signFrom n0 m) z) (j + 1) n)) < ahead n (j + 1)
           rw-end a q = subst (λ (x : ℕ). ahead n (code (lowest (sameKey t (signFrom n0 m) z) (j + 1) n)) < ahead n x) (sym q) a
 
-  module _ (k k′ : ℕ) (r : Bool) (o : k ≡ 0 → ⊥) (w : Walk n0 m n t z k) (e : r ≡ rivalAt s nc z (k - 1)) (y : r ≡ false) (g : k′ ≡ getD s (k - 1) 0) where
-    pub walk-on : Walk n0 m n t z k′
-    walk-on = step k k′ r o w e y g .0
+  module _ (k y : ℕ) (r : Bool) (o : k ≡ 0 → ⊥) (q : y ≡ k - 1) (w : Walk n0 m n t z k) (e : r ≡ rivalAt s nc z y) where
+    pub walk-hit : r ≡ true → true ≡ isFound (lowest (rivals (signFrom n0 m) z) 0 n)
+    walk-hit x = hit k r o w (rw q at e) x
 
-    pub walk-less : ahead n k′ < ahead n k
-    walk-less = step k k′ r o w e y g .1
+    pub walk-on : (k′ : ℕ) → r ≡ false → k′ ≡ getD s y 0 → Walk n0 m n t z k′
+    walk-on k′ x g = step k k′ r o w (rw q at e) x (rw q at g) .0
+
+    pub walk-less : (k′ : ℕ) → r ≡ false → k′ ≡ getD s y 0 → ahead n k′ < ahead n k
+    walk-less k′ x g = step k k′ r o w (rw q at e) x (rw q at g) .1
 
   pub walk-over : (k : ℕ) → k ≡ 0 → Walk n0 m n t z k → false ≡ isFound (lowest (rivals (signFrom n0 m) z) 0 n)
   walk-over k e (over x) = sym (ap isFound x)

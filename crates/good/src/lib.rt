@@ -9,17 +9,20 @@
 //   z          the next node with the same remainder
 ghost use mathlib.Core.Path.{_≡_};
 ghost use mathlib.Core.Bool.{true};
-ghost use Prim.Native.Nat.{ℕ, _+_, _-_, _*_, _≤_, _<_, min, max};
+ghost use Prim.Native.Nat.{ℕ, _+_, _-_, _*_, _/_, _%_, _≤_, _<_, min, max};
 ghost use lib.ListN.{length, getD, set};
-ghost use Rattle.lists.specs.Search.{iter};
-ghost use Rattle.lists.specs.Loops.{down};
+ghost use Rattle.lists.specs.Lists.{isFound};
+ghost use Rattle.lists.specs.Search.{iter, lowest};
+ghost use Rattle.lists.specs.Loops.{down, noted};
 ghost use Rattle.lists.specs.ChainLaw.{linked};
-ghost use Rattle.meaning.specs.Good.{span, G1, G2, G3, G4};
+ghost use Rattle.meaning.specs.Good.{span, G1, G2, G3, G4, G5, good};
+ghost use Rattle.meaning.specs.Lawful.{Lawful};
 ghost use Rattle.tables.specs.Ready.{Ready};
 ghost use Rattle.good.specs.Meshes.{meshAt, rowsAlone, Fair};
 ghost use Rattle.good.specs.Round.{Around, olderStep, linkStep, nextOf, roundBy, twoOrFour, rowIn, Within};
 ghost use Rattle.good.specs.Pair.{joins, closing, fourTest, brotherOf, twoIn, fourIn, brotherIn, edgeOf};
 ghost use Rattle.good.specs.Sign.{pairNo, signOn, signOf, signFrom};
+ghost use Rattle.good.specs.Rival.{rivals, Signed, fresh, judged, blank, linkNode, rivalAt};
 use meaning::Tri;
 
 // The rows of which a node is the newest vertex, lowest first.
@@ -363,4 +366,180 @@ fn sign_from(nodes: &[i32], tri: &[u32], s: &[u32], nc: usize, n0: usize, n: usi
         return 0;
     }
     sign(nodes, tri, s, nc, n, t, z as u32)
+}
+
+fn put_sign(nodes: &[i32], tri: &[u32], s: &mut [u32], nc: usize, n0: usize, n: usize, t: usize, z: usize)
+    requires { ⌜ Lawful (meshAt (now nodes) (now tri) n t) ⌝ }
+    requires { ⌜ Fair (now tri) n t ⌝ }
+    requires { ⌜ Around (now s) nc (now tri) t z ⌝ }
+    requires { ⌜ Ready (now s) nc (now tri) t ⌝ }
+    requires { ⌜ 2 * n ≤ length (now nodes) ⌝ }
+    requires { ⌜ n ≤ 32_768 ⌝ }
+    requires { ⌜ z < n ⌝ }
+    ensures { λ _. ⌜ now (s .exit) ≡ set (now (s .entry)) (nc + z) (fresh n0 (meshAt (now (nodes .entry)) (now (tri .entry)) n t) z) ⌝ }
+{
+    let v = sign_from(nodes, tri, s, nc, n0, n, t, z);
+    tables::put_note(s, nc + z, 2 * v);
+}
+
+// Twice the number of each node, at nc and on.
+fn signs(nodes: &[i32], tri: &[u32], s: &mut [u32], nc: usize, n0: usize, n: usize, t: usize)
+    requires { ⌜ Lawful (meshAt (now nodes) (now tri) n t) ⌝ }
+    requires { ⌜ Fair (now tri) n t ⌝ }
+    requires { ⌜ ((z : ℕ) → z < n → Around (now s) nc (now tri) t z) ⌝ }
+    requires { ⌜ Ready (now s) nc (now tri) t ⌝ }
+    requires { ⌜ 2 * n ≤ length (now nodes) ⌝ }
+    requires { ⌜ n ≤ 32_768 ⌝ }
+    requires { ⌜ n ≤ nc ⌝ }
+    ensures { λ _. ⌜ now (s .exit) ≡ noted nc (fresh n0 (meshAt (now (nodes .entry)) (now (tri .entry)) n t)) n (now (s .entry)) ⌝ }
+{
+    let mut z = 0;
+    while z < n {
+        put_sign(nodes, tri, s, nc, n0, n, t, z);
+        z += 1;
+    }
+}
+
+// ---- G5: nodes with the same number, looked for among those with the same remainder
+
+fn blank_rows(s: &mut [u32], o: usize, t: usize)
+    requires { ⌜ o + t ≤ length (now s) ⌝ }
+    ensures { λ _. ⌜ now (s .exit) ≡ noted o blank t (now (s .entry)) ⌝ }
+{
+    let mut i = 0;
+    while i < t {
+        tables::put_note(s, o + i, 0);
+        i += 1;
+    }
+}
+
+fn bucket(v: u32, t: usize) -> usize
+    requires { ⌜ 0 < t ⌝ }
+    ensures is { λ r. ⌜ r ≡ v / 2 % t ⌝ }
+    ensures below { λ r. ⌜ r < t ⌝ }
+{
+    v as usize / 2 % t
+}
+
+fn link_node(s: &mut [u32], nc: usize, t: usize, z: usize)
+    requires { ⌜ 2 * nc + t ≤ length (now s) ⌝ }
+    requires { ⌜ z < nc ⌝ }
+    requires { ⌜ nc ≤ 65_536 ⌝ }
+    ensures { λ _. ⌜ now (s .exit) ≡ linkNode nc t z (now (s .entry)) ⌝ }
+{
+    let v = tables::note_at(s, nc + z);
+    if (v == 0) | (t == 0) {
+        return;
+    }
+    let b = bucket(v, t);
+    link(s, 2 * nc + b, z, z);
+}
+
+fn link_nodes(s: &mut [u32], nc: usize, n: usize, t: usize)
+    requires { ⌜ 2 * nc + t ≤ length (now s) ⌝ }
+    requires { ⌜ n ≤ nc ⌝ }
+    requires { ⌜ nc ≤ 65_536 ⌝ }
+    ensures { λ _. ⌜ now (s .exit) ≡ down (linkNode nc t) n (now (s .entry)) ⌝ }
+{
+    let mut z = n;
+    while z > 0 {
+        z -= 1;
+        link_node(s, nc, t, z);
+    }
+}
+
+fn rival(s: &[u32], nc: usize, z: usize, y: usize) -> bool
+    requires { ⌜ nc + z < length (now s) ⌝ }
+    requires { ⌜ nc + y < length (now s) ⌝ }
+    ensures { λ r. ⌜ r ≡ rivalAt (now (s .entry)) nc z y ⌝ }
+{
+    let a = tables::note_at(s, nc + y);
+    let b = tables::note_at(s, nc + z);
+    (a / 2 == b / 2) & (y != z)
+}
+
+// The item that number k says.
+fn item(k: u32) -> usize
+    requires { ⌜ (k ≡ 0 → ⊥) ⌝ }
+    ensures { λ r. ⌜ r ≡ k - 1 ⌝ }
+{
+    k as usize - 1
+}
+
+fn find_rival(nodes: &[i32], tri: &[u32], s: &[u32], nc: usize, n0: usize, n: usize, t: usize, z: usize) -> bool
+    requires { ⌜ Signed (now s) nc n0 (meshAt (now nodes) (now tri) n t) n t ⌝ }
+    requires { ⌜ z < n ⌝ }
+    requires { ⌜ (signFrom n0 (meshAt (now nodes) (now tri) n t) z ≡ 0 → ⊥) ⌝ }
+    requires { ⌜ 0 < t ⌝ }
+    ensures { λ r. ⌜ r ≡ isFound (lowest (rivals (signFrom n0 (meshAt (now (nodes .entry)) (now (tri .entry)) n t)) z) 0 n) ⌝ }
+{
+    let v = tables::note_at(s, nc + z);
+    let b = bucket(v, t);
+    let mut k = tables::note_at(s, 2 * nc + b);
+    while k != 0 {
+        let y = item(k);
+        if rival(s, nc, z, y) {
+            return true;
+        }
+        k = tables::note_at(s, y);
+    }
+    false
+}
+
+fn g5(nodes: &[i32], tri: &[u32], s: &[u32], nc: usize, n0: usize, n: usize, t: usize, z: usize) -> bool
+    requires { ⌜ Lawful (meshAt (now nodes) (now tri) n t) ⌝ }
+    requires { ⌜ Signed (now s) nc n0 (meshAt (now nodes) (now tri) n t) n t ⌝ }
+    requires { ⌜ n ≤ 32_768 ⌝ }
+    requires { ⌜ z < n ⌝ }
+    requires { ⌜ (signFrom n0 (meshAt (now nodes) (now tri) n t) z ≡ 0 → ⊥) ⌝ }
+    ensures { λ r. ⌜ r ≡ G5 n0 (meshAt (now (nodes .entry)) (now (tri .entry)) n t) z ⌝ }
+{
+    !find_rival(nodes, tri, s, nc, n0, n, t, z)
+}
+
+// ---- good
+
+pub fn good(nodes: &[i32], tri: &[u32], s: &[u32], nc: usize, n0: usize, n: usize, t: usize, z: usize) -> bool
+    requires { ⌜ Lawful (meshAt (now nodes) (now tri) n t) ⌝ }
+    requires { ⌜ Signed (now s) nc n0 (meshAt (now nodes) (now tri) n t) n t ⌝ }
+    requires { ⌜ n ≤ 32_768 ⌝ }
+    requires { ⌜ z < n ⌝ }
+    ensures { λ r. ⌜ r ≡ good n0 (meshAt (now (nodes .entry)) (now (tri .entry)) n t) z ⌝ }
+{
+    let v = tables::note_at(s, nc + z);
+    if v / 2 == 0 {
+        return false;
+    }
+    g5(nodes, tri, s, nc, n0, n, t, z)
+}
+
+// What is noted of a node, and 1 more where it is good.
+fn tag(nodes: &[i32], tri: &[u32], s: &[u32], nc: usize, n0: usize, n: usize, t: usize, z: usize) -> u32
+    requires { ⌜ Lawful (meshAt (now nodes) (now tri) n t) ⌝ }
+    requires { ⌜ Signed (now s) nc n0 (meshAt (now nodes) (now tri) n t) n t ⌝ }
+    requires { ⌜ n ≤ 32_768 ⌝ }
+    requires { ⌜ z < n ⌝ }
+    requires { ⌜ getD (now s) (nc + z) 0 ≡ fresh n0 (meshAt (now nodes) (now tri) n t) z ⌝ }
+    ensures { λ r. ⌜ r ≡ judged n0 (meshAt (now (nodes .entry)) (now (tri .entry)) n t) z ⌝ }
+{
+    let v = tables::note_at(s, nc + z);
+    if good(nodes, tri, s, nc, n0, n, t, z) {
+        return v + 1;
+    }
+    v
+}
+
+fn tags(nodes: &[i32], tri: &[u32], s: &mut [u32], nc: usize, n0: usize, n: usize, t: usize)
+    requires { ⌜ Lawful (meshAt (now nodes) (now tri) n t) ⌝ }
+    requires { ⌜ Signed (now s) nc n0 (meshAt (now nodes) (now tri) n t) n t ⌝ }
+    requires { ⌜ n ≤ 32_768 ⌝ }
+    requires { ⌜ ((z : ℕ) → z < n → getD (now s) (nc + z) 0 ≡ fresh n0 (meshAt (now nodes) (now tri) n t) z) ⌝ }
+    ensures { λ _. ⌜ now (s .exit) ≡ noted nc (judged n0 (meshAt (now (nodes .entry)) (now (tri .entry)) n t)) n (now (s .entry)) ⌝ }
+{
+    let mut z = 0;
+    while z < n {
+        let v = tag(nodes, tri, s, nc, n0, n, t, z);
+        tables::put_note(s, nc + z, v);
+        z += 1;
+    }
 }

@@ -231,3 +231,6 @@ module _ (s : List ℕ) (n0 : ℕ) (m : Mesh) (p z v : ℕ) (r : Bool) (e : v �
 
 pub judged-put : (o n0 z v : ℕ) (m : Mesh) (s₀ s s′ : List ℕ) → s ≡ noted o (judged n0 m) z s₀ → v ≡ judged n0 m z → s′ ≡ set s (o + z) v → s′ ≡ noted o (judged n0 m) (z + 1) s₀
 judged-put o n0 z v m s₀ s s′ e f g = noted-turn o (judged n0 m) z s₀ s s′ e (g ∙ ap (λ (x : ℕ). set s (o + z) x) f)
+
+pub judged-read : (s s′ : List ℕ) (nc n0 : ℕ) (m : Mesh) (n t : ℕ) → s′ ≡ noted nc (judged n0 m) n s → Signed s nc n0 m n t → (z : ℕ) → z < n → getD s′ (nc + z) 0 ≡ judged n0 m z
+judged-read s s′ nc n0 m n t e d z h = rw e (noted-at nc (judged n0 m) n s z 0 h (let a = d .room in let b = d .long in omega arith))

@@ -10,13 +10,14 @@
 ghost use mathlib.Core.Path.{_≡_};
 ghost use mathlib.Core.Bool.{true};
 ghost use Prim.Native.Nat.{ℕ, _+_, _-_, _*_, _/_, _%_, _≤_, _<_, min, max};
-ghost use lib.ListN.{length, getD, set};
+ghost use lib.ListN.{length, getD, set, take, replicate};
 ghost use Rattle.lists.specs.Lists.{isFound};
 ghost use Rattle.lists.specs.Search.{iter, lowest};
 ghost use Rattle.lists.specs.Loops.{down, noted};
 ghost use Rattle.lists.specs.ChainLaw.{linked};
 ghost use Rattle.meaning.specs.Good.{span, G1, G2, G3, G4, G5, good};
 ghost use Rattle.meaning.specs.Lawful.{Lawful};
+ghost use Rattle.tables.specs.Sized.{Sized, indexAt};
 ghost use Rattle.tables.specs.Ready.{Ready};
 ghost use Rattle.good.specs.Meshes.{meshAt, rowsAlone, Fair};
 ghost use Rattle.good.specs.Round.{Around, olderStep, linkStep, nextOf, roundBy, twoOrFour, rowIn, Within};
@@ -542,4 +543,49 @@ fn tags(nodes: &[i32], tri: &[u32], s: &mut [u32], nc: usize, n0: usize, n: usiz
         tables::put_note(s, nc + z, v);
         z += 1;
     }
+}
+
+// ---- all nodes
+
+fn note_rows(tri: &[u32], s: &mut [u32], nc: usize, n: usize, t: usize)
+    requires { ⌜ Fair (now tri) n t ⌝ }
+    requires { ⌜ Sized nc (length (now tri)) (length (now s)) ⌝ }
+    requires { ⌜ n ≤ nc ⌝ }
+    requires { ⌜ take (indexAt nc (length (now tri))) (now s) ≡ replicate (indexAt nc (length (now tri))) 0 ⌝ }
+    requires { ⌜ Ready (now s) nc (now tri) t ⌝ }
+    ensures rows { λ _. ⌜ ((z : ℕ) → z < n → Around (now (s .exit)) nc (now (tri .entry)) t z) ⌝ }
+    ensures ready { λ _. ⌜ Ready (now (s .exit)) nc (now (tri .entry)) t ⌝ }
+{
+    mark_olders(tri, s, nc, n, t);
+    link_rows(tri, s, nc, n, t);
+}
+
+fn note_pairs(nodes: &[i32], tri: &[u32], s: &mut [u32], nc: usize, n0: usize, n: usize, t: usize)
+    requires { ⌜ Lawful (meshAt (now nodes) (now tri) n t) ⌝ }
+    requires { ⌜ Fair (now tri) n t ⌝ }
+    requires { ⌜ ((z : ℕ) → z < n → Around (now s) nc (now tri) t z) ⌝ }
+    requires { ⌜ Ready (now s) nc (now tri) t ⌝ }
+    requires { ⌜ 2 * n ≤ length (now nodes) ⌝ }
+    requires { ⌜ (n ≤ nc) × (nc ≤ 32_768) × (2 * nc + t ≤ length (now s)) ⌝ }
+    ensures numbers { λ _. ⌜ ((z : ℕ) → z < n → getD (now (s .exit)) (nc + z) 0 ≡ fresh n0 (meshAt (now (nodes .entry)) (now (tri .entry)) n t) z) ⌝ }
+    ensures linked { λ _. ⌜ Signed (now (s .exit)) nc n0 (meshAt (now (nodes .entry)) (now (tri .entry)) n t) n t ⌝ }
+{
+    signs(nodes, tri, s, nc, n0, n, t);
+    blank_rows(s, 2 * nc, t);
+    link_nodes(s, nc, n, t);
+}
+
+// For a lawful mesh all of whose rows are in the index: each node's number and whether it is good, at nc and on.
+pub fn judge(nodes: &[i32], tri: &[u32], s: &mut [u32], nc: usize, n0: usize, n: usize, t: usize)
+    requires { ⌜ Lawful (meshAt (now nodes) (now tri) n t) ⌝ }
+    requires { ⌜ Sized nc (length (now tri)) (length (now s)) ⌝ }
+    requires { ⌜ (2 * n ≤ length (now nodes)) × (3 * t ≤ length (now tri)) ⌝ }
+    requires { ⌜ (n ≤ nc) × (nc ≤ 32_768) ⌝ }
+    requires { ⌜ take (indexAt nc (length (now tri))) (now s) ≡ replicate (indexAt nc (length (now tri))) 0 ⌝ }
+    requires { ⌜ Ready (now s) nc (now tri) t ⌝ }
+    ensures { λ _. ⌜ ((z : ℕ) → z < n → getD (now (s .exit)) (nc + z) 0 ≡ judged n0 (meshAt (now (nodes .entry)) (now (tri .entry)) n t) z) ⌝ }
+{
+    note_rows(tri, s, nc, n, t);
+    note_pairs(nodes, tri, s, nc, n0, n, t);
+    tags(nodes, tri, s, nc, n0, n, t);
 }

@@ -1,7 +1,7 @@
 -- Which nodes go, what becomes of a row, the new numbers: by the notes in s. Assumes nothing.
 use mathlib.Core.Bool.{Bool, true, false, not, _&&_}
 use mathlib.Core.List.{List}
-use Prim.Native.Nat.{ℕ, zero, suc, _+_, _-_, _*_, _/_, _%_}
+use Prim.Native.Nat.{ℕ, zero, suc, _+_, _-_, _*_, _/_, _%_, _≤_, _<_}
 use lib.Dec.{eqb, ltb}
 use lib.ListN.{getD}
 use Rattle.lists.specs.Lists.{cases}
@@ -22,6 +22,10 @@ fateNo v w =
     (cases (eqb (w .r) ((v - 1) / 32_768)) ((v - 1) % 32_768 + 2)
     (cases (eqb (w .r) ((v - 1) % 32_768)) ((v - 1) / 32_768 + 2)
     1))
+
+-- the numbers of pairs that are noted
+pub record Small (s : List ℕ) (nc n : ℕ) : Type 0 where
+  pub small : (z : ℕ) → z < n → getD s (nc + z) 0 ≤ 1_073_741_824
 
 unfoldable pub fateAt : List ℕ → List ℕ → ℕ → ℕ → ℕ
 fateAt l s nc i = fateNo (getD s (nc + rowAt l i .p) 0) (rowAt l i)

@@ -23,7 +23,7 @@ use Rattle.meaning.specs.Tables.{rowAt, placeAt, flatRows, flatNodes, filled}
 use Rattle.tables.specs.Put.{setRow, setPlace}
 use Rattle.tables.specs.PutLaw.{row-set-same, row-set-other, place-set-same, place-set-other}
 use Rattle.good.specs.Meshes.{Fair}
-use Rattle.gather.specs.Goes.{takeAt, fateNo, fateAt, goneNode, nextNumber, numberBelow, goneRow, fatherBy, renamedBy, newRow}
+use Rattle.gather.specs.Goes.{Small, takeAt, fateNo, fateAt, goneNode, nextNumber, numberBelow, goneRow, fatherBy, renamedBy, newRow}
 
 -- ---- which nodes go
 
@@ -68,18 +68,20 @@ module _ (w : Tri) (l s : List ℕ) (n t i nc : ℕ) (e : w ≡ rowAt l i) (f : 
   pub newest-in : nc + n ≤ length s → nc + w .p < length s
   newest-in k = rw e (omega (arith, f .named i h))
 
-  pub newest-few : (v : ℕ) → ((z : ℕ) → z < n → getD s (nc + z) 0 ≤ 1_073_741_824) → v ≡ getD s (nc + w .p) 0 → v ≤ 1_073_741_824
-  newest-few v k g = let a = k (w .p) (rw e (f .named i h .p-below)) in omega arith
+  pub newest-few : (v : ℕ) → Small s nc n → v ≡ getD s (nc + w .p) 0 → v ≤ 1_073_741_824
+  newest-few v k g = let a = k .small (w .p) (rw e (f .named i h .p-below)) in omega arith
 
   pub fate-made : (v r : ℕ) → v ≡ getD s (nc + w .p) 0 → r ≡ fateNo v w → r ≡ fateAt l s nc i
   unfolding fateAt
   fate-made v r g k = k ∙ rw (g, e)
 
 module _ (l s₀ s : List ℕ) (nc n t i : ℕ) (f : Fair l n t) (room : n ≤ nc) (h : i < t) (e : s ≡ noted (2 * nc) (fateAt l s₀ nc) i s₀) where
-  pub pairs-still : ((z : ℕ) → z < n → getD s₀ (nc + z) 0 ≤ 1_073_741_824) → (z : ℕ) → z < n → getD s (nc + z) 0 ≤ 1_073_741_824
-  pairs-still k z l′ =
-      let q : getD s (nc + z) 0 ≡ getD s₀ (nc + z) 0 = rw e (noted-below (2 * nc) (fateAt l s₀ nc) i s₀ (nc + z) 0 (omega arith)) in
-      rw q (k z l′)
+  pub pairs-still : Small s₀ nc n → Small s nc n
+  pairs-still k = record {
+    small = λ z l′.
+        (let q : getD s (nc + z) 0 ≡ getD s₀ (nc + z) 0 = rw e (noted-below (2 * nc) (fateAt l s₀ nc) i s₀ (nc + z) 0 (omega arith)) in
+        rw q (k .small z l′));
+  }
 
   pub fate-turn : (s′ : List ℕ) (v : ℕ) → v ≡ fateAt l s nc i → s′ ≡ set s (2 * nc + i) v → s′ ≡ noted (2 * nc) (fateAt l s₀ nc) (i + 1) s₀
   unfolding fateAt

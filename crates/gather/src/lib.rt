@@ -17,7 +17,8 @@ ghost use Rattle.tables.specs.Sized.{Sized, indexAt};
 ghost use Rattle.tables.specs.Put.{setRow, setPlace};
 ghost use Rattle.tables.specs.Ready.{Ready};
 ghost use Rattle.good.specs.Meshes.{meshAt, Fair};
-ghost use Rattle.gather.specs.Goes.{takeAt, fateNo, fateAt, goneNode, nextNumber, numberBelow, goneRow, fatherBy, renamedBy, newRow};
+ghost use Rattle.gather.specs.Whole.{Going, Settled, left, leftOf};
+ghost use Rattle.gather.specs.Goes.{Small, takeAt, fateNo, fateAt, goneNode, nextNumber, numberBelow, goneRow, fatherBy, renamedBy, newRow};
 use meaning::Place;
 use meaning::Tri;
 
@@ -87,7 +88,7 @@ fn fate_at(tri: &[u32], s: &[u32], nc: usize, n: usize, t: usize, i: usize) -> u
     requires { ⌜ Fair (now tri) n t ⌝ }
     requires { ⌜ i < t ⌝ }
     requires { ⌜ nc + n ≤ length (now s) ⌝ }
-    requires { ⌜ ((z : ℕ) → z < n → getD (now s) (nc + z) 0 ≤ 1_073_741_824) ⌝ }
+    requires { ⌜ Small (now s) nc n ⌝ }
     ensures { λ r. ⌜ r ≡ fateAt (now (tri .entry)) (now (s .entry)) nc i ⌝ }
 {
     let w = tables::row_at(tri, i);
@@ -99,7 +100,7 @@ fn fates(tri: &[u32], s: &mut [u32], nc: usize, n: usize, t: usize)
     requires { ⌜ Fair (now tri) n t ⌝ }
     requires { ⌜ n ≤ nc ⌝ }
     requires { ⌜ 2 * nc + t ≤ length (now s) ⌝ }
-    requires { ⌜ ((z : ℕ) → z < n → getD (now s) (nc + z) 0 ≤ 1_073_741_824) ⌝ }
+    requires { ⌜ Small (now s) nc n ⌝ }
     ensures { λ _. ⌜ now (s .exit) ≡ noted (2 * nc) (fateAt (now (tri .entry)) (now (s .entry)) nc) t (now (s .entry)) ⌝ }
 {
     let mut i = 0;
@@ -286,4 +287,68 @@ fn close_nodes(nodes: &mut [i32], s: &[u32], nc: usize, n: usize) -> usize
     let k = keep_nodes(nodes, s, nc, n);
     tables::clear_places_from(nodes, k);
     k
+}
+
+// ---- all of it
+
+pub struct Counts {
+    pub n: usize,
+    pub t: usize,
+}
+
+// Notes which nodes go, each with its pair.
+fn note_nodes(nodes: &[i32], tri: &[u32], s: &mut [u32], marks: &[u8], nc: usize, n0: usize, n: usize, t: usize)
+    requires { ⌜ Lawful (meshAt (now nodes) (now tri) n t) ⌝ }
+    requires { ⌜ Sized nc (length (now tri)) (length (now s)) ⌝ }
+    requires { ⌜ (2 * n ≤ length (now nodes)) × (3 * t ≤ length (now tri)) ⌝ }
+    requires { ⌜ (n ≤ nc) × (nc ≤ 32_768) ⌝ }
+    requires { ⌜ n ≤ length (now marks) ⌝ }
+    requires { ⌜ take (indexAt nc (length (now tri))) (now s) ≡ replicate (indexAt nc (length (now tri))) 0 ⌝ }
+    requires { ⌜ Ready (now s) nc (now tri) t ⌝ }
+    ensures { λ _. ⌜ Going (now (s .exit)) nc n0 (meshAt (now (nodes .entry)) (now (tri .entry)) n t) (now (marks .entry)) n ⌝ }
+{
+    good::judge(nodes, tri, s, nc, n0, n, t);
+    take_nodes(s, marks, nc, n);
+}
+
+// Notes which nodes go, what becomes of each row, and the new numbers.
+fn note(nodes: &[i32], tri: &[u32], s: &mut [u32], marks: &[u8], nc: usize, n0: usize, n: usize, t: usize)
+    requires { ⌜ Lawful (meshAt (now nodes) (now tri) n t) ⌝ }
+    requires { ⌜ Sized nc (length (now tri)) (length (now s)) ⌝ }
+    requires { ⌜ (2 * n ≤ length (now nodes)) × (3 * t ≤ length (now tri)) ⌝ }
+    requires { ⌜ (n ≤ nc) × (nc ≤ 32_768) ⌝ }
+    requires { ⌜ n ≤ length (now marks) ⌝ }
+    requires { ⌜ take (indexAt nc (length (now tri))) (now s) ≡ replicate (indexAt nc (length (now tri))) 0 ⌝ }
+    requires { ⌜ Ready (now s) nc (now tri) t ⌝ }
+    ensures { λ _. ⌜ Settled (now (s .exit)) nc n0 (meshAt (now (nodes .entry)) (now (tri .entry)) n t) (now (marks .entry)) (now (tri .entry)) n t ⌝ }
+{
+    note_nodes(nodes, tri, s, marks, nc, n0, n, t);
+    fates(tri, s, nc, n, t);
+    numbers(s, nc, n);
+}
+
+// Takes the marked good nodes out of a lawful mesh all of whose rows are in the index.
+pub fn take_out(
+    nodes: &mut [i32],
+    tri: &mut [u32],
+    s: &mut [u32],
+    marks: &[u8],
+    nc: usize,
+    n0: usize,
+    n: usize,
+    t: usize,
+) -> Counts
+    requires { ⌜ Lawful (meshAt (now nodes) (now tri) n t) ⌝ }
+    requires { ⌜ Sized nc (length (now tri)) (length (now s)) ⌝ }
+    requires { ⌜ (2 * n ≤ length (now nodes)) × (3 * t ≤ length (now tri)) ⌝ }
+    requires { ⌜ (n ≤ nc) × (nc ≤ 32_768) ⌝ }
+    requires { ⌜ n ≤ length (now marks) ⌝ }
+    requires { ⌜ take (indexAt nc (length (now tri))) (now s) ≡ replicate (indexAt nc (length (now tri))) 0 ⌝ }
+    requires { ⌜ Ready (now s) nc (now tri) t ⌝ }
+    ensures { λ r. ⌜ left r (now (nodes .exit)) (now (tri .exit)) ≡ leftOf (length (now (nodes .entry))) (length (now (tri .entry))) (coarsened n0 (meshAt (now (nodes .entry)) (now (tri .entry)) n t) (now (marks .entry))) ⌝ }
+{
+    note(nodes, tri, s, marks, nc, n0, n, t);
+    let rows = close_rows(tri, s, nc, t);
+    let places = close_nodes(nodes, s, nc, n);
+    Counts { n: places, t: rows }
 }

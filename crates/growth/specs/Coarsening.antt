@@ -1,7 +1,7 @@
 -- Coarsening keeps a mesh grown from a base. Assumes nothing.
 use mathlib.Core.Bool.{Bool, true, false, not}
 use mathlib.Core.List.{List, [], _∷_, map, List·Memᴰ, Memᴰ·cast}
-use mathlib.Core.Logic.{_⊎_, inl, inr, _≢_}
+use mathlib.Core.Logic.{_⊎_, inl, inr}
 use mathlib.Core.Path.{_≡_, refl, sym, subst, ap, ap₂, _∙_}
 use Prim.Native.Nat.{ℕ, zero, suc, _+_, _≤_, _<_}
 use native.Mathlib.Nat.{zero-add}
@@ -23,13 +23,13 @@ use Rattle.laws.specs.Stay.{stayed-more, staying-length}
 use Rattle.laws.specs.Star.{Pair, good-added}
 use Rattle.laws.specs.CoarsenRows.{Takeable, touched, brood, Fate, to-father, to-none, to-self, fate-is, touched-is, broods}
 use Rattle.laws.specs.Coarsen.{taken-is, takeable, coarsened-lawful, coarsened-gone, coarsened-kept}
-use Rattle.growth.specs.Labels.Names.{Name, mid, mid-injective, Same, straight, crossed}
-use Rattle.growth.specs.Labels.Corners.{Corners, Holds, is-p, arrow-rp}
+use Rattle.growth.specs.Labels.Names.{mid-injective, Same, straight, crossed}
+use Rattle.growth.specs.Labels.Corners.{Corners, is-p, arrow-rp}
 use Rattle.growth.specs.Labels.Cover.{Label, corners-of}
 use Rattle.growth.specs.Labels.Groups.{total, total-same, owner, keep, keep-cases, close-old, joined-length, joined-at, sizes}
 use Rattle.growth.specs.Labels.ForestCoarsened.{Goes, EndsR, goes?, stay}
 use Rattle.growth.specs.Labels.Named.{p-below, name-p, same-number}
-use Rattle.growth.specs.Labels.Around.{RowPair, Of, pair-at}
+use Rattle.growth.specs.Labels.Around.{Of, pair-at}
 use Rattle.growth.specs.Labels.GrownCoarsened.{renum, Removing, Gone, gone, gone-node, Merging, grown-coarsened}
 use Rattle.growth.specs.Rows.{three, rows, all-rows, edge-same, rows-once, named-at}
 use Rattle.growth.specs.GrownFrom.{GrownFrom}

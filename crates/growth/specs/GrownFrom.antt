@@ -1,12 +1,13 @@
 -- Meshes grown from a base: the invariant that refining and coarsening keep. The base has it; with no node added the mesh is the base.
 -- Assumes nothing.
-use mathlib.Core.Path.{_≡_, refl, sym, subst, subst₂, ap, _∙_}
+use mathlib.Core.Path.{_≡_, refl, subst, subst₂, _∙_}
 use Prim.Native.Nat.{ℕ, _<_}
 use lib.ListN.{length}
 use lib.Seq.{ext-getD}
-use Rattle.meaning.specs.declared.Tri.{Tri}
 use Rattle.meaning.specs.Mesh.{Mesh, mesh, tri, at, origin}
 use Rattle.meaning.specs.Lawful.{Lawful, Compatible, rowOf}
+use Rattle.meaning.specs.Calls.{checkNo}
+use Rattle.laws.specs.Check.{check-done}
 use Rattle.growth.specs.Labels.Corners.{Corners, row}
 use Rattle.growth.specs.Labels.Grown.{Grown, grown-base, grown-end}
 use Rattle.growth.specs.Rows.{rows, all-rows, row-is, rows-length, base-below, base-used, base-compatible}
@@ -17,13 +18,17 @@ pub record GrownFrom (base m : Mesh) : Type 0 where
   pub base-place : (k : ℕ) → k < length (base .nodes) → at m k ≡ at base k
 
 -- THE BASE.
-pub from-start : (base : Mesh) → Lawful base → Compatible base → GrownFrom base base
+from-start : (base : Mesh) → Lawful base → Compatible base → GrownFrom base base
 from-start base law c = record {
   lawful = law;
   grown = subst₂ (λ (t : ℕ) (f : ℕ → Corners ℕ). Grown (all-rows base) (length (base .nodes)) (length (base .nodes)) t f (at base)) (rows-length base) (λ i j. row-is base j i)
       (grown-base (all-rows base) (base-compatible base law c) (length (base .nodes)) (at base) (base-below base law) (base-used base law));
   base-place = λ k l. refl;
 }
+
+-- "a lawful base with a compatible labelling"
+pub from-checked : (base : Mesh) → checkNo base ≡ 0 → GrownFrom base base
+from-checked base ok = let c = check-done base .0 ok in from-start base (c .0) (c .1)
 
 -- THE END.
 pub from-end : (base m : Mesh) → GrownFrom base m → length (m .nodes) ≡ length (base .nodes) → m ≡ base

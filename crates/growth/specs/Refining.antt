@@ -1,23 +1,26 @@
 -- Refining keeps a mesh grown from a base: bisection along the closure of any starting edges. Assumes nothing.
 use mathlib.Core.Bool.{Bool, true, false}
-use mathlib.Core.List.{List, [], _∷_, _++_, map, List·Memᴰ, List·Memᴰ·head, List·Memᴰ·tail}
+use mathlib.Core.List.{List, _++_, map, List·Memᴰ, List·Memᴰ·head, List·Memᴰ·tail}
 use mathlib.Core.Option.{Option, none, some}
 use mathlib.Core.Path.{_≡_, refl, sym, subst, subst₂, ap, ap₂, _∙_}
-use Prim.Native.Nat.{ℕ, suc, min, max, _+_, _-_, _≤_, _<_}
+use Prim.Native.Nat.{ℕ, min, max, _+_, _-_, _≤_, _<_}
 use native.Mathlib.Omega.{arith}
 use lib.ListN.{length, getD, length-append, length-map, List·getD-map, List·getD-append}
 use lib.Seq.{getD-append-add}
 use Rattle.lists.specs.declared.Found.{Found}
-use Rattle.lists.specs.declared.Found.the-variants.{At, Nothing}
-use Rattle.lists.specs.Lists.{all, whereFirst, joined, All}
+use Rattle.lists.specs.declared.Found.the-variants.{At}
+use Rattle.lists.specs.Lists.{all, whereFirst, joined}
 use Rattle.lists.specs.ListsLaw.{clash, All-at, All-getD, all-yes, any-at, any-row, WhereIs, nowhere, place-of, where-is}
 use Rattle.lists.specs.MembersLaw.{mem-at, at-mem}
 use Rattle.meaning.specs.declared.Tri.{Tri}
 use Rattle.meaning.specs.Mesh.{Mesh, Edge, tri, edge, edges, sameEdge, at}
-use Rattle.meaning.specs.Lawful.{rowOf}
+use Rattle.meaning.specs.Lawful.{rowOf, refusal}
 use Rattle.meaning.specs.Good.{Middle}
 use Rattle.meaning.specs.Split.{Way, Cut, bisected, memEdge, plus, numberOf, halves, midpoint, cutOf, splitEdges, splitAt, split, started, refined}
+use Rattle.meaning.specs.Tables.{Room}
+use Rattle.meaning.specs.Calls.{marksFit, refineNo}
 use Rattle.laws.specs.Area.{middle-either}
+use Rattle.laws.specs.Numbers.{unless-done, orElse-done}
 use Rattle.laws.specs.Edges.{edge-comm, sameEdge-eq, memEdge-in}
 use Rattle.laws.specs.Closure.{splitEdges-within, splitEdges-apart, splitEdges-pull}
 use Rattle.laws.specs.Bisected.{bisected-laws}
@@ -258,7 +261,7 @@ module _ (base m : Mesh) (G : GrownFrom base m) (start : List Edge) (even : all 
       rw e (middle-either m (midpoint m (edge a b)) a b (midpoint-middle m (edge a b) x))
 
   -- BISECTION KEEPS THE INVARIANT, from any starting edges.
-  pub from-split : GrownFrom base (split bisected m start)
+  from-split : GrownFrom base (split bisected m start)
   unfolding split
   from-split = record {
     lawful = split-lawful bisected-laws m start (G .lawful) even;
@@ -267,8 +270,17 @@ module _ (base m : Mesh) (G : GrownFrom base m) (start : List Edge) (even : all 
   }
 
 -- REFINING KEEPS THE INVARIANT, for any way that cuts by bisection.
-pub from-refined : (base m : Mesh) → GrownFrom base m → (w : Way) → w .cutting ≡ bisected → (marks : List ℕ)
+from-refined : (base m : Mesh) → GrownFrom base m → (w : Way) → w .cutting ≡ bisected → (marks : List ℕ)
     → all (halves m) (splitEdges m (started w marks (m .tris))) ≡ true → GrownFrom base (refined w m marks)
 unfolding refined
 from-refined base m G w cuts marks even =
     subst (λ c. GrownFrom base (split c m (started w marks (m .tris)))) (sym cuts) (from-split base m G (started w marks (m .tris)) even)
+
+-- So an accepted refine does.
+pub from-refine : (base m : Mesh) → GrownFrom base m → (w : Way) → w .cutting ≡ bisected → (room : Room) (marks : List ℕ) → refineNo w room m marks ≡ 0 → GrownFrom base (refined w m marks)
+unfolding refineNo
+from-refine base m G w cuts room marks e =
+    let a = unless-done (marksFit (length (m .tris)) marks) 2 _ (omega arith) e in
+    let b = orElse-done (refusal m) _ (a .1) in
+    let c = unless-done (all (halves m) (splitEdges m (started w marks (m .tris)))) 8 _ (omega arith) (b .1) in
+    from-refined base m G w cuts marks (c .0)

@@ -9,12 +9,11 @@ use native.Mathlib.Omega.{arith}
 use lib.Dec.{eqb}
 use lib.ListN.{length, getD, length-map, List·getD-map}
 use borrow.Author.Tests.{eqb-true, eqb-false, eq-eqb}
-use Rattle.lists.specs.Lists.{All}
 use Rattle.lists.specs.ListsLaw.{clash, or-left, or-right, All-at, All-getD, any-at, any-row}
 use Rattle.lists.specs.MembersLaw.{mem-at, at-mem, count-some}
 use Rattle.lists.specs.Tally.{tally, tally-at}
 use Rattle.meaning.specs.declared.Tri.{Tri}
-use Rattle.meaning.specs.Mesh.{Mesh, tri, arrow, edge, edges, base, sameEdge, holdsNode, holdsEdge}
+use Rattle.meaning.specs.Mesh.{Mesh, tri, arrow, edge, edges, sameEdge, holdsNode, holdsEdge}
 use Rattle.meaning.specs.Lawful.{Lawful, Named, rowOf}
 use Rattle.meaning.specs.Lawful as Meaning
 use Rattle.laws.specs.Edges.{edge-comm, sameEdge-eq, sameEdge-refl, hits, hit-self, count-arrows}
@@ -109,8 +108,14 @@ module _ (m : Mesh) (law : Lawful m) where
     where
       twice : (i l : ℕ) → i < l → l < length (m .tris) → Arrow (rows m i) a b → Arrow (rows m l) a b → ⊥
       twice i l h ll x y =
-          omega (arith, two-places (hits (arrow a b)) (m .tris) (tri 0 0 0) i l h ll, count-arrows (arrow a b) (m .tris), law .noTwice (arrow a b),
-          arrow-hits (rowOf (m .tris) i) a b x, arrow-hits (rowOf (m .tris) l) a b y)
+          omega (
+            arith,
+            two-places (hits (arrow a b)) (m .tris) (tri 0 0 0) i l h ll,
+            count-arrows (arrow a b) (m .tris),
+            law .noTwice (arrow a b),
+            arrow-hits (rowOf (m .tris) i) a b x,
+            arrow-hits (rowOf (m .tris) l) a b y,
+          )
 
       go : Dec (j < k) → Dec (k < j) → j ≡ k
       go (yes h) _ = absurd (twice j k h lk u v)

@@ -1,10 +1,10 @@
 -- 10 of a mesh that draws none of 3 to 7: of all rows, only the one that holds r→q can clash with a row whose refinement edge is q–r.
 -- Assumes nothing.
-use mathlib.Core.Path.{_≡_, refl, sym, ap, _∙_}
-use mathlib.Core.Logic.{_≢_, _⊎_, inl, inr, ⊎-elim}
+use mathlib.Core.Path.{_≡_, refl, sym, _∙_}
+use mathlib.Core.Logic.{_⊎_, inl, inr, ⊎-elim}
 use mathlib.Core.Bool.{Bool, true, false, not, _&&_, _||_}
-use mathlib.Core.List.{List, [], _∷_}
-use Prim.Native.Nat.{ℕ, zero, suc, _+_, _-_, _≤_, _<_, min, max}
+use mathlib.Core.List.{List}
+use Prim.Native.Nat.{ℕ, _<_, min, max}
 use native.Mathlib.Omega.{arith}
 use native.Mathlib.Decide.{ℕ-discrete, decLt}
 use borrow.Author.Tests.{eqb-true, eq-eqb}
@@ -12,18 +12,17 @@ use lib.Dec.{eqb}
 use lib.IntN.{ℤ}
 use Rattle.lists.specs.declared.Found.{Found}
 use Rattle.lists.specs.declared.Found.the-variants.{At, Nothing}
-use Rattle.lists.specs.Lists.{any, isFound}
+use Rattle.lists.specs.Lists.{any}
 use Rattle.lists.specs.ListsLaw.{clash, and-both, and-left, and-right, or-left, or-right}
-use Rattle.lists.specs.Search.{lowest, items, itemsFrom}
-use Rattle.lists.specs.SearchLaw.{lowest-where, lowest-nothing, lowest-some, lowest-below, lowest-true}
+use Rattle.lists.specs.Search.{lowest, items}
+use Rattle.lists.specs.SearchLaw.{lowest-where, lowest-nothing, lowest-some, lowest-below, lowest-true, any-no, any-one}
 use Rattle.meaning.specs.declared.Tri.{Tri}
-use Rattle.meaning.specs.declared.Fault.{Fault}
-use Rattle.meaning.specs.Mesh.{arrow, edge, base, sameEdge, sameArrow, holdsArrow, holdsEdge}
-use Rattle.meaning.specs.Lawful.{Named, clashes, fault, orLater, faultOf, firstClash}
+use Rattle.meaning.specs.Mesh.{arrow, edge, base, sameEdge, holdsArrow, holdsEdge}
+use Rattle.meaning.specs.Lawful.{Named, clashes, faultOf, firstClash}
 use Rattle.meaning.specs.Tables.{rowAt, given, meshOf}
 use Rattle.tables.specs.Arrow.{arrowAt}
-use Rattle.lawful.specs.Tests.{outsideAt, misnamedAt, arrowBelow, repeatAt, clashWith, clashFound, clashAt, laterBy, faultBy}
-use Rattle.lawful.specs.MeshLaw.{fault-is, named-row}
+use Rattle.lawful.specs.Tests.{arrowBelow, repeatAt, clashWith, clashFound, clashAt}
+use Rattle.lawful.specs.MeshLaw.{named-row, right}
 
 -- ---- tests
 
@@ -51,9 +50,9 @@ arrow-cases x y u e =
     ⊎-elim
     (λ a. inl (pairs x y (u .p) (u .q) a))
     (λ a. inr (⊎-elim
-      (λ b. inl (pairs x y (u .q) (u .r) b))
-      (λ b. inr (⊎-elim (λ d. pairs x y (u .r) (u .p) d) (λ d. clash (sym d)) (or-either (eqb x (u .r) && eqb y (u .p)) false b)))
-      (or-either (eqb x (u .q) && eqb y (u .r)) _ a)))
+    (λ b. inl (pairs x y (u .q) (u .r) b))
+    (λ b. inr (⊎-elim (λ d. pairs x y (u .r) (u .p) d) (λ d. clash (sym d)) (or-either (eqb x (u .r) && eqb y (u .p)) false b)))
+    (or-either (eqb x (u .q) && eqb y (u .r)) _ a)))
     (or-either (eqb x (u .p) && eqb y (u .q)) _ e)
 
 same-arrow : (x y a b : ℕ) → x ≡ a → y ≡ b → eqb x a && eqb y b ≡ true
@@ -89,12 +88,12 @@ edge-arrow x y u e =
     ⊎-elim
     (λ a. ⊎-elim (λ h. inl (q-r x y u (h .0) (h .1))) (λ h. inr (q-r y x u (h .0) (h .1))) (edge-ends x y (u .q) (u .r) a))
     (λ a. ⊎-elim
-      (λ b. ⊎-elim (λ h. inl (p-q x y u (h .0) (h .1))) (λ h. inr (p-q y x u (h .0) (h .1))) (edge-ends x y (u .p) (u .q) b))
-      (λ b. ⊎-elim
-        (λ d. ⊎-elim (λ h. inl (r-p x y u (h .0) (h .1))) (λ h. inr (r-p y x u (h .0) (h .1))) (edge-ends x y (u .r) (u .p) d))
-        (λ d. clash (sym d))
-        (or-either (sameEdge (edge x y) (edge (u .r) (u .p))) false b))
-      (or-either (sameEdge (edge x y) (edge (u .p) (u .q))) _ a))
+    (λ b. ⊎-elim (λ h. inl (p-q x y u (h .0) (h .1))) (λ h. inr (p-q y x u (h .0) (h .1))) (edge-ends x y (u .p) (u .q) b))
+    (λ b. ⊎-elim
+    (λ d. ⊎-elim (λ h. inl (r-p x y u (h .0) (h .1))) (λ h. inr (r-p y x u (h .0) (h .1))) (edge-ends x y (u .r) (u .p) d))
+    (λ d. clash (sym d))
+    (or-either (sameEdge (edge x y) (edge (u .r) (u .p))) false b))
+    (or-either (sameEdge (edge x y) (edge (u .p) (u .q))) _ a))
     (or-either (sameEdge (edge x y) (base u)) _ e)
 
 arrow-edge : (x y : ℕ) (u : Tri) → holdsArrow (arrow y x) u ≡ true → holdsEdge (edge x y) u ≡ true
@@ -102,10 +101,10 @@ arrow-edge x y u e =
     ⊎-elim
     (λ h. or-right (sameEdge (edge x y) (base u)) (or-left _ (edge-same x y (u .p) (u .q) (omega arith) (omega arith))))
     (λ a. ⊎-elim
-      (λ h. or-left _ (edge-same x y (u .q) (u .r) (omega arith) (omega arith)))
-      (λ h. or-right (sameEdge (edge x y) (base u))
-        (or-right (sameEdge (edge x y) (edge (u .p) (u .q))) (or-left false (edge-same x y (u .r) (u .p) (omega arith) (omega arith)))))
-      a)
+    (λ h. or-left _ (edge-same x y (u .q) (u .r) (omega arith) (omega arith)))
+    (λ h. or-right (sameEdge (edge x y) (base u))
+    (or-right (sameEdge (edge x y) (edge (u .p) (u .q))) (or-left false (edge-same x y (u .r) (u .p) (omega arith) (omega arith)))))
+    a)
     (arrow-cases y x u e)
 
 -- ---- a row that holds r→q of w: its refinement edge is q–r just where it is r→q
@@ -132,35 +131,6 @@ turned w u n k e = same (sameEdge (base w) (base u)) (eqb (u .q) (w .r) && eqb (
 
 -- ---- rows by number
 
-module _ {A : Type 0} (f : A → Bool) (a : ℕ → A) where
-  from-none : (i k : ℕ) → ((j : ℕ) → i ≤ j → j < i + k → f (a j) ≡ false) → any f (itemsFrom a i k) ≡ false
-  unfolding itemsFrom
-  from-none i zero h = refl
-  from-none i (suc k) h = rw (h i (omega arith) (omega arith)) (from-none (i + 1) k (λ j l u. h j (omega arith) (omega arith)))
-
-  pub any-no : (t : ℕ) → ((j : ℕ) → j < t → f (a j) ≡ false) → any f (items a 0 t) ≡ false
-  unfolding items
-  any-no t h = from-none 0 (t - 0) (λ j l u. h j (omega arith))
-
-  or-false : (b : Bool) → b || false ≡ b
-  or-false true = refl
-  or-false false = refl
-
-  from-one : (i k m : ℕ) → i ≤ m → m < i + k → ((j : ℕ) → i ≤ j → j < i + k → j ≢ m → f (a j) ≡ false) → any f (itemsFrom a i k) ≡ f (a m)
-  unfolding itemsFrom
-  from-one i zero m l u h = absurd (omega arith)
-  from-one i (suc k) m l u h =
-      go (ℕ-discrete i m) (λ o. from-one (i + 1) k m (omega arith) (omega arith) (λ j a b. h j (omega arith) (omega arith)))
-    where
-      go : Dec (i ≡ m) → (i ≢ m → any f (itemsFrom a (i + 1) k) ≡ f (a m)) → f (a i) || any f (itemsFrom a (i + 1) k) ≡ f (a m)
-      go (yes e) r = rw (from-none (i + 1) k (λ j b c. h j (omega arith) (omega arith) (omega arith)), e) (or-false (f (a m)))
-      go (no o) r = rw (h i (omega arith) (omega arith) o) (r o)
-
-  -- at most one number passes
-  pub any-one : (t m : ℕ) → m < t → ((j : ℕ) → j < t → j ≢ m → f (a j) ≡ false) → any f (items a 0 t) ≡ f (a m)
-  unfolding items
-  any-one t m u h = from-one 0 (t - 0) m (omega arith) (omega arith) (λ j b c. h j (omega arith))
-
 module _ (l : List ℕ) (n t : ℕ) (named : (i : ℕ) → i < t → Named n (rowAt l i)) (five : lowest (repeatAt l) 0 t ≡ Nothing) where
   -- not 5: two rows that hold a directed edge are one
   twice : (x y i j : ℕ) → i < j → j < t → arrowAt l x y i ≡ true → arrowAt l x y j ≡ true → ⊥
@@ -171,13 +141,13 @@ module _ (l : List ℕ) (n t : ℕ) (named : (i : ℕ) → i < t → Named n (ro
       let b2 = arrowBelow l j (w .q) (w .r) in
       let below : (a b : ℕ) → x ≡ a → y ≡ b → arrowBelow l j a b ≡ true = λ a b p q. rw (← p, ← q) (lowest-some (arrowAt l x y) j i h e) in
       let r : repeatAt l j ≡ true =
-          ⊎-elim
-          (λ p. or-left _ (or-left b2 (below (w .p) (w .q) (p .0) (p .1))))
-          (λ q. ⊎-elim
-            (λ p. or-left _ (or-right b1 (below (w .q) (w .r) (p .0) (p .1))))
-            (λ p. or-right (b1 || b2) (below (w .r) (w .p) (p .0) (p .1)))
-            q)
-          (arrow-cases x y w f) in
+      ⊎-elim
+      (λ p. or-left _ (or-left b2 (below (w .p) (w .q) (p .0) (p .1))))
+      (λ q. ⊎-elim
+      (λ p. or-left _ (or-right b1 (below (w .q) (w .r) (p .0) (p .1))))
+      (λ p. or-right (b1 || b2) (below (w .r) (w .p) (p .0) (p .1)))
+      q)
+      (arrow-cases x y w f) in
       clash (sym r ∙ lowest-nothing (repeatAt l) t j five k)
 
   pub once : (x y i j : ℕ) → i < t → j < t → arrowAt l x y i ≡ true → arrowAt l x y j ≡ true → i ≡ j
@@ -207,8 +177,8 @@ module _ (l : List ℕ) (n t : ℕ) (named : (i : ℕ) → i < t → Named n (ro
           let b = and-right (holdsEdge (base (rowAt l i)) (rowAt l k)) _ g in
           ⊎-elim
           (λ p.
-            let q : k ≡ i = once (rowAt l i .q) (rowAt l i .r) k i u h p (q-r (rowAt l i .q) (rowAt l i .r) (rowAt l i) refl refl) in
-            not-true (sameEdge (base (rowAt l i)) (base (rowAt l k))) b (rw q (edge-same (rowAt l i .q) (rowAt l i .r) (rowAt l i .q) (rowAt l i .r) refl refl)))
+          let q : k ≡ i = once (rowAt l i .q) (rowAt l i .r) k i u h p (q-r (rowAt l i .q) (rowAt l i .r) (rowAt l i) refl refl) in
+          not-true (sameEdge (base (rowAt l i)) (base (rowAt l k))) b (rw q (edge-same (rowAt l i .q) (rowAt l i .r) (rowAt l i .q) (rowAt l i .r) refl refl)))
           (λ p. clash (sym p ∙ e))
           (edge-arrow (rowAt l i .q) (rowAt l i .r) (rowAt l k) a)
 
@@ -228,28 +198,13 @@ module _ (l : List ℕ) (n t : ℕ) (named : (i : ℕ) → i < t → Named n (ro
           let y = lowest-true (arrowAt l (rowAt l i .r) (rowAt l i .q)) t j e in
           one i j h b y
           ∙ sym (any-one (hits i) (rowAt l) t j b
-            (λ k u o. other i k h u (is-false (arrowAt l (rowAt l i .r) (rowAt l i .q) k) (λ f. o (once (rowAt l i .r) (rowAt l i .q) k j u b f y)))))
+          (λ k u o. other i k h u (is-false (arrowAt l (rowAt l i .r) (rowAt l i .q) k) (λ f. o (once (rowAt l i .r) (rowAt l i .q) k j u b f y)))))
 
 -- ---- number 0
 
-or-zero : (k : ℕ) (f : Found) (rest : Fault) → 0 < k → orLater k f rest .number ≡ 0 → (f ≡ Nothing) × (rest .number ≡ 0)
-or-zero k (At i) rest h e = absurd (omega arith)
-or-zero k Nothing rest h e = (refl, e)
-
 module _ (nodes : List ℤ) (l s : List ℕ) (n t : ℕ) (z : faultOf (meshOf (given nodes l s n t)) .number ≡ 0) where
-  by-number : faultBy nodes l n t .number ≡ 0
-  by-number = rw (fault-is nodes l s n t) z
-
-  nones : (lowest (misnamedAt l n) 0 t ≡ Nothing) × (lowest (repeatAt l) 0 t ≡ Nothing)
-  unfolding faultBy laterBy
-  nones =
-      let a = or-zero 3 (lowest (outsideAt nodes) 0 n) _ (omega arith) by-number in
-      let b = or-zero 4 (lowest (misnamedAt l n) 0 t) _ (omega arith) (a .1) in
-      let c = or-zero 5 (lowest (repeatAt l) 0 t) _ (omega arith) (b .1) in
-      (b .0, c .0)
-
   pub clash-is : lowest (clashAt l t) 0 t ≡ firstClash (meshOf (given nodes l s n t))
   unfolding firstClash meshOf
   clash-is =
-      lowest-where (clashes (items (rowAt l) 0 t)) (rowAt l) (clashAt l t) t
-      (clash-row l n t (named-row nodes l s n t (nones .0)) (nones .1))
+      let r = right nodes l s n t z in
+      lowest-where (clashes (items (rowAt l) 0 t)) (rowAt l) (clashAt l t) t (clash-row l n t (named-row nodes l s n t (r .named)) (r .once))

@@ -1,8 +1,7 @@
 -- Marks: after all rows have marked their corners, a node has no mark exactly where no row holds it. Assumes nothing.
 use mathlib.Core.Path.{_≡_, refl, sym, ap, _∙_}
-use mathlib.Core.Logic.{_≢_}
 use mathlib.Core.Bool.{Bool, true, false, not, _||_}
-use mathlib.Core.List.{List, [], _∷_, _++_}
+use mathlib.Core.List.{List, _++_}
 use Prim.Native.Nat.{ℕ, zero, suc, _+_, _-_, _≤_, _<_}
 use native.Mathlib.Omega.{arith}
 use native.Mathlib.Decide.{ℕ-discrete}
@@ -16,7 +15,6 @@ use Rattle.lists.specs.Lists.{any, cases}
 use Rattle.lists.specs.Search.{lowest, items, itemsFrom, iter, iterFrom}
 use Rattle.lists.specs.SearchLaw.{lowest-agree}
 use Rattle.lists.specs.IterLaw.{iter-keeps}
-use Rattle.meaning.specs.declared.Tri.{Tri}
 use Rattle.meaning.specs.Mesh.{holdsNode}
 use Rattle.meaning.specs.Lawful.{unused}
 use Rattle.meaning.specs.Tables.{rowAt}
@@ -97,5 +95,5 @@ pub marks-gone : (l s s′ s″ : List ℕ) (t n : ℕ) → lowest (misnamedAt l
     s″ ≡ replicate n 0 ++ drop n s′ → s″ ≡ s
 marks-gone l s s′ s″ t n m e g h =
     let a : drop n s′ ≡ drop n s = rw g
-        (iter-keeps (markStep l) (λ (r : List ℕ). drop n r ≡ drop n s) t s (λ j r u p. step-above l r n j (corners-at l n n t j (omega arith) m u) ∙ p) refl) in
+    (iter-keeps (markStep l) (λ (r : List ℕ). drop n r ≡ drop n s) t s (λ j r u p. step-above l r n j (corners-at l n n t j (omega arith) m u) ∙ p) refl) in
     h ∙ rw (a, ← e) (take-append-drop n s)

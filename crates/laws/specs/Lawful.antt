@@ -274,11 +274,19 @@ refusal-lowest m = record { applies = whole .applies; no-lower = λ j a. whole .
   where
     whole : LowestFrom m 3 (faultOf m .number)
     whole =
-        link m 3 (firstOutside m) _ (omega arith) (found-3 m) λ e3. (not-3 (none-3 m e3),
-        link m 4 (firstMisnamed m) _ (omega arith) (found-4 m) λ e4. (not-4 (none-4 m e4),
-        link m 5 (firstRepeat m) _ (omega arith) (found-5 m) λ e5. (not-5 (none-5 m (none-4 m e4) e5),
-        link m 6 (firstFlat m) _ (omega arith) (found-6 m) λ e6. (not-6 (none-6 m e6),
-        link m 7 (firstUnused m) _ (omega arith) (found-7 m) λ e7. (not-7 (none-7 m e7), none-from-8 m)))))
+        link m 3 (firstOutside m) _ (omega arith) (found-3 m) λ e3. (
+          not-3 (none-3 m e3),
+          link m 4 (firstMisnamed m) _ (omega arith) (found-4 m) λ e4. (
+            not-4 (none-4 m e4),
+            link m 5 (firstRepeat m) _ (omega arith) (found-5 m) λ e5. (
+              not-5 (none-5 m (none-4 m e4) e5),
+              link m 6 (firstFlat m) _ (omega arith) (found-6 m) λ e6. (
+                not-6 (none-6 m e6),
+                link m 7 (firstUnused m) _ (omega arith) (found-7 m) λ e7. (not-7 (none-7 m e7), none-from-8 m),
+              ),
+            ),
+          ),
+        )
 
 -- one number is the lowest
 pub lowest-one : {m : Mesh} (j k : ℕ) → Lowest m j → Lowest m k → j ≡ k

@@ -21,3 +21,4 @@ pub mod Restore
 pub mod Good
 pub mod CoarsenCalls
 pub mod EdgeArrow
+pub mod OneOutcome

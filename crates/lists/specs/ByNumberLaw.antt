@@ -1,19 +1,20 @@
--- Lists by number: members of `items`, parts of `items`, and searches up to a lower end. Assumes nothing.
+-- Lists by number: members of `items`, parts of `items`, searches up to a lower end; what a counting loop has reached.
+-- Assumes nothing.
 use mathlib.Core.Bool.{Bool, true, false}
-use mathlib.Core.List.{List, [], _∷_, _++_, append-assoc, List·Memᴰ, List·Memᴰ·head, List·Memᴰ·tail}
+use mathlib.Core.List.{List, _∷_, _++_, List·Memᴰ}
 use mathlib.Core.Path.{_≡_, refl, sym, subst, ap, _∙_}
 use Prim.Native.Nat.{ℕ, zero, suc, _+_, _-_, _≤_, _<_}
 use native.Mathlib.Omega.{arith}
 use native.Mathlib.Decide.{ℕ-discrete, decLt}
-use lib.ListN.{length, getD}
 use Rattle.lists.specs.declared.Found.{Found}
 use Rattle.lists.specs.declared.Found.the-variants.{At, Nothing}
 use Rattle.lists.specs.Lists.{All}
 use Rattle.lists.specs.ListsLaw.{clash, All-of}
 use Rattle.lists.specs.MembersLaw.{mem-at, at-mem}
-use Rattle.lists.specs.Search.{lowest, lowestFrom, items, itemsFrom}
+use Rattle.lists.specs.Search.{lowest, lowestFrom, items, iter, iterFrom}
 use Rattle.lists.specs.SearchLaw.{at-some, lowest-below, lowest-true, lowest-nothing}
 use Rattle.lists.specs.IterLaw.{length-items, getD-items}
+use Rattle.lists.specs.ItemsLaw.{items-cons, items-split}
 
 module _ {A : Type 0} (f : ℕ → A) where
   -- ---- members
@@ -32,39 +33,10 @@ module _ {A : Type 0} (f : ℕ → A) where
   pub items-all : {P : A → Type 0} (t : ℕ) → ((i : ℕ) → i < t → P (f i)) → All P (items f 0 t)
   items-all {P} t h = All-of (items f 0 t) (λ a m. let r = items-of t m in subst P (sym (r .2)) (h (r .0) (r .1)))
 
-  -- ---- parts
+  -- ---- those below i, the i-th, the rest
 
-  pub items-none : (i : ℕ) → items f i i ≡ []
-  unfolding items itemsFrom
-  items-none i = let e : i - i ≡ 0 = omega arith in rw e
-
-  pub items-cons : (i t : ℕ) → i < t → items f i t ≡ f i ∷ items f (i + 1) t
-  unfolding items itemsFrom
-  items-cons i t h = let e : t - i ≡ suc (t - (i + 1)) = omega arith in rw e
-
-  from-snoc : (i k : ℕ) → itemsFrom f i (suc k) ≡ itemsFrom f i k ++ (f (i + k) ∷ [])
-  unfolding itemsFrom
-  from-snoc i zero = let e : i + 0 ≡ i = omega arith in rw e
-  from-snoc i (suc k) = let e : i + suc k ≡ i + 1 + k = omega arith in rw e (ap (λ (r : List A). f i ∷ r) (from-snoc (i + 1) k))
-
-  pub items-snoc : (t : ℕ) → items f 0 (t + 1) ≡ items f 0 t ++ (f t ∷ [])
-  unfolding items
-  items-snoc t =
-      let e : t + 1 - 0 ≡ suc (t - 0) = omega arith in
-      let g : 0 + (t - 0) ≡ t = omega arith in
-      rw e (rw g at (from-snoc 0 (t - 0)))
-
-  -- those below k, and the rest
-  pub items-part : (t k : ℕ) → k ≤ t → items f 0 t ≡ items f 0 k ++ items f k t
-  items-part t zero h = rw (items-none 0)
-  items-part t (suc k) h =
-      let e : suc k ≡ k + 1 = omega arith in
-      let b : k < t = omega arith in
-      items-part t k (omega arith) ∙ rw (e, items-snoc k, items-cons k t b, append-assoc)
-
-  -- those below i, the i-th, the rest
-  pub items-split : (t i : ℕ) → i < t → items f 0 t ≡ items f 0 i ++ (f i ∷ items f (i + 1) t)
-  items-split t i h = items-part t i (omega arith) ∙ ap (λ (r : List A). items f 0 i ++ r) (items-cons i t h)
+  pub items-around : (t i : ℕ) → i < t → items f 0 t ≡ items f 0 i ++ (f i ∷ items f (i + 1) t)
+  items-around t i h = items-split f 0 i t (omega arith) (omega arith) ∙ ap (λ (r : List A). items f 0 i ++ r) (items-cons f i t h)
 
 -- ---- the same search, up to a lower end
 
@@ -111,3 +83,15 @@ module _ (f : ℕ → Bool) where
 
   pub lowest-none-below : (t i : ℕ) → lowest f 0 t ≡ Nothing → i ≤ t → lowest f 0 i ≡ Nothing
   lowest-none-below t i e h = lowest-no i (λ k b. lowest-nothing f t k e (omega arith))
+
+-- ---- a loop that has reached i
+
+module _ {S : Type 0} (f : ℕ → S → S) (P : ℕ → S → Type 1) where
+  from-reach : (i k t : ℕ) (s : S) → i + k ≡ t → ((j : ℕ) (r : S) → j < t → P j r → P (j + 1) (f j r)) → P i s → P t (iterFrom f i k s)
+  unfolding iterFrom
+  from-reach i zero t s e h p = let q : i ≡ t = omega arith in subst (λ (n : ℕ). P n s) q p
+  from-reach i (suc k) t s e h p = from-reach (i + 1) k t (f i s) (omega arith) h (h i s (omega arith) p)
+
+  pub iter-reach : (t : ℕ) (s : S) → ((j : ℕ) (r : S) → j < t → P j r → P (j + 1) (f j r)) → P 0 s → P t (iter f 0 t s)
+  unfolding iter
+  iter-reach t s h p = from-reach 0 (t - 0) t s (omega arith) h p

@@ -18,6 +18,7 @@ use Rattle.lists.specs.ListsLaw.{clash}
 use Rattle.lists.specs.PartsLaw.{not-so}
 use Rattle.lists.specs.Search.{lowest, lowestFrom, items, itemsFrom}
 use Rattle.lists.specs.SearchLaw.{lowest-here, lowest-on, lowest-none, at-some}
+use Rattle.lists.specs.ItemsLaw.{items-cons, items-none}
 use Rattle.lists.specs.Loops.{code}
 
 -- ---- searches from i on
@@ -69,21 +70,13 @@ from-later f t i j a b h = go (j - i) i a (omega arith) h
 -- ---- the members that pass, by number
 
 module _ {A : Type 0} (f : A → Bool) (a : ℕ → A) where
-  item-from : (i t : ℕ) → i < t → items a i t ≡ a i ∷ items a (i + 1) t
-  unfolding items itemsFrom
-  item-from i t h = let e : t - i ≡ suc (t - (i + 1)) = omega arith in rw e
-
-  item-none : (i t : ℕ) → t ≤ i → items a i t ≡ []
-  unfolding items itemsFrom
-  item-none i t h = let e : t - i ≡ 0 = omega arith in rw e
-
   only-skip : (t i j : ℕ) → i ≤ j → j ≤ t → ((k : ℕ) → i ≤ k → k < j → f (a k) ≡ false) → only f (items a i t) ≡ only f (items a j t)
   only-skip t i j x y h = go (j - i) i x (omega arith) h
     where
       go : (d i : ℕ) → i ≤ j → d ≡ j - i → ((k : ℕ) → i ≤ k → k < j → f (a k) ≡ false) → only f (items a i t) ≡ only f (items a j t)
       go zero i x e h = let q : i ≡ j = omega arith in rw q
       go (suc d) i x e h =
-          ap (only f) (item-from i t (omega arith))
+          ap (only f) (items-cons a i t (omega arith))
           ∙ ap (λ b. consIf b (a i) (only f (items a (i + 1) t))) (h i (omega arith) (omega arith))
           ∙ go d (i + 1) (omega arith) (omega arith) (λ k l u. h k (omega arith) u)
 
@@ -94,13 +87,13 @@ module _ {A : Type 0} (f : A → Bool) (a : ℕ → A) where
       go (nowhere n) e = at-some j (sym e)
       go (there k l u y n) e =
           let q : k ≡ j = cc in
-          rw (← q) (only-skip t i k l (omega arith) n ∙ ap (only f) (item-from k t u) ∙ ap (λ b. consIf b (a k) (only f (items a (k + 1) t))) y)
+          rw (← q) (only-skip t i k l (omega arith) n ∙ ap (only f) (items-cons a k t u) ∙ ap (λ b. consIf b (a k) (only f (items a (k + 1) t))) y)
 
   pub only-nowhere : (t i : ℕ) → i ≤ t → lowest (λ k. f (a k)) i t ≡ Nothing → only f (items a i t) ≡ []
   only-nowhere t i x e = go (search-is (λ k. f (a k)) i t x) e
     where
       go : {r : Found} → From (λ k. f (a k)) i t r → r ≡ Nothing → only f (items a i t) ≡ []
-      go (nowhere n) e = only-skip t i t x (omega arith) n ∙ ap (only f) (item-none t t (omega arith))
+      go (nowhere n) e = only-skip t i t x (omega arith) n ∙ ap (only f) (items-none a t t (omega arith))
       go (there k l u y n) e = at-some k e
 
 -- ---- chains

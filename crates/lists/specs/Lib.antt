@@ -6,9 +6,10 @@ pub mod Search
 pub mod SearchLaw
 pub mod IterLaw
 pub mod FillLaw
+pub mod ItemsLaw
 pub mod ByNumberLaw
 pub mod PartsLaw
+pub mod AnyLaw
 pub mod Loops
 pub mod LoopsLaw
 pub mod ChainLaw
-pub mod ItemsLaw

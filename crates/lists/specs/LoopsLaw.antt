@@ -12,7 +12,7 @@ use lib.Seq.{getD-set-same, getD-set-other, drop-set-lt}
 use Rattle.lists.specs.Lists.{cases}
 use Rattle.lists.specs.Search.{items, itemsFrom}
 use Rattle.lists.specs.IterLaw.{length-items}
-use Rattle.lists.specs.ByNumberLaw.{items-none, items-snoc}
+use Rattle.lists.specs.ItemsLaw.{items-none, items-snoc, items-agree}
 use Rattle.lists.specs.Loops.{down, noted, kept, keptFrom}
 
 -- ---- down: w is what the whole loop gives, s the state now, s′ after the turn
@@ -90,12 +90,6 @@ pub ruleset noting = (noted-turn, noted-end)
 
 -- ---- kept: those below k are done, those from i on are to do, w is the whole. `a` and `a′` are the table before and after a turn
 
-items-agree : {R : Type 0} (a b : ℕ → R) (k : ℕ) → ((j : ℕ) → j < k → a j ≡ b j) → items a 0 k ≡ items b 0 k
-items-agree a b zero h = items-none a 0 ∙ sym (items-none b 0)
-items-agree a b (suc k) h =
-    let q : suc k ≡ k + 1 = omega arith in
-    rw (q, items-snoc a k, items-snoc b k, h k (omega arith), items-agree a b k (λ j l. h j (omega arith)))
-
 from-agree : {R : Type 0} (f g : ℕ → Bool) (a b : ℕ → R) (i k : ℕ) → ((j : ℕ) → i ≤ j → j < i + k → f j ≡ g j) → ((j : ℕ) → i ≤ j → j < i + k → a j ≡ b j) →
     keptFrom f a i k ≡ keptFrom g b i k
 unfolding keptFrom
@@ -128,10 +122,11 @@ module _ {R : Type 0} (f : ℕ → Bool) (b : ℕ → R) (r : ℕ → R) (k i t 
   pub kept-put : (r′ : ℕ → R) → i < t → f i ≡ false → r′ k ≡ b i → ((j : ℕ) → j < k → r′ j ≡ r j) → items r′ 0 (k + 1) ++ kept f b (i + 1) t ≡ w
   kept-put r′ h e here else =
       let n : items r 0 k ++ (b i ∷ kept f b (i + 1) t) ≡ w = rw (kept-cons f b i t h, e) at inv in
-      rw (items-snoc r′ k, items-agree r′ r k else, here, append-assoc) n
+      let z : 0 ≤ k = omega arith in
+      rw (items-snoc r′ 0 k z, items-agree r′ r 0 k (λ j l u. else j u), here, append-assoc) n
 
   pub kept-done : t ≤ i → items r 0 k ≡ w
   kept-done h = rw (kept-none f b i t h, append-nil) at inv
 
 pub kept-start : {R : Type 0} (f : ℕ → Bool) (b r : ℕ → R) (t : ℕ) → items r 0 0 ++ kept f b 0 t ≡ kept f b 0 t
-kept-start f b r t = rw (items-none r 0)
+kept-start f b r t = let z : 0 ≤ 0 = omega arith in rw (items-none r 0 0 z)

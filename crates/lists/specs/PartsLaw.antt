@@ -1,14 +1,11 @@
 -- Lists in two parts: filtered, searched, joined; members of lists that are filtered or joined. Assumes nothing.
-use mathlib.Core.Bool.{Bool, true, false, _||_}
-use mathlib.Core.List.{List, [], _∷_, _++_, append-assoc, List·Memᴰ, List·Memᴰ·head, List·Memᴰ·tail}
+use mathlib.Core.Bool.{Bool, true, false}
+use mathlib.Core.List.{List, [], _∷_, _++_, List·Memᴰ, List·Memᴰ·head, List·Memᴰ·tail}
 use mathlib.Core.Path.{_≡_, refl, sym, subst, ap, _∙_}
-use Prim.Native.Nat.{ℕ, zero, suc, _+_, _<_}
-use native.Mathlib.Omega.{arith}
 use lib.ListN.{length}
-use Rattle.lists.specs.declared.Found.{Found}
 use Rattle.lists.specs.declared.Found.the-variants.{At, Nothing}
-use Rattle.lists.specs.Lists.{any, only, consIf, whereFirst, next, joined}
-use Rattle.lists.specs.ListsLaw.{clash, or-no}
+use Rattle.lists.specs.Lists.{any, only, consIf, whereFirst, joined}
+use Rattle.lists.specs.ListsLaw.{or-no}
 
 pub not-so : (b : Bool) → (b ≡ true → ⊥) → b ≡ false
 not-so true h = absurd (h refl)
@@ -22,14 +19,6 @@ module _ {A : Type 0} (f : A → Bool) where
   pub only-append : (xs ys : List A) → only f (xs ++ ys) ≡ only f xs ++ only f ys
   only-append [] ys = refl
   only-append (x ∷ xs) ys = ap (consIf (f x) x) (only-append xs ys) ∙ consIf-append (f x) x (only f xs) (only f ys)
-
-  or-assoc : (a b c : Bool) → a || (b || c) ≡ (a || b) || c
-  or-assoc true b c = refl
-  or-assoc false b c = refl
-
-  pub any-append : (xs ys : List A) → any f (xs ++ ys) ≡ any f xs || any f ys
-  any-append [] ys = refl
-  any-append (x ∷ xs) ys = ap (λ (b : Bool). f x || b) (any-append xs ys) ∙ or-assoc (f x) (any f xs) (any f ys)
 
   pub in-only : {x : A} (l : List A) → List·Memᴰ x (only f l) → List·Memᴰ x l × (f x ≡ true)
   in-only {x} (y ∷ ys) i = go (f y) refl i (in-only ys)
@@ -51,10 +40,6 @@ module _ {A : Type 0} (f : A → Bool) where
   where-nowhere (x ∷ xs) n = let h = or-no (f x) (any f xs) n in rw (h .0, where-nowhere xs (h .1))
 
 module _ {A B : Type 0} (f : A → List B) where
-  pub joined-append : (xs ys : List A) → joined f (xs ++ ys) ≡ joined f xs ++ joined f ys
-  joined-append [] ys = refl
-  joined-append (x ∷ xs) ys = rw (joined-append xs ys, append-assoc)
-
   pub in-joined : {y : B} (l : List A) → List·Memᴰ y (joined f l) → (x : A) × List·Memᴰ x l × List·Memᴰ y (f x)
   in-joined {y} (z ∷ zs) i = go (f z) refl i (in-joined zs)
     where

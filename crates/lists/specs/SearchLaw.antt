@@ -1,8 +1,8 @@
 -- Laws of `lowest`: the turns of a search loop in the form of its needs, what an answer says, and that a search by number is a search
 -- of the list. Assumes nothing.
 use mathlib.Core.Path.{_≡_, refl, sym, ap, _∙_}
+use mathlib.Core.Logic.{_≢_}
 use mathlib.Core.Bool.{Bool, true, false, _||_}
-use mathlib.Core.List.{List, [], _∷_}
 use Prim.Native.Nat.{ℕ, zero, suc, _+_, _-_, _≤_, _<_}
 use native.Mathlib.Omega.{arith}
 use native.Mathlib.Decide.{ℕ-discrete}
@@ -11,6 +11,17 @@ use Rattle.lists.specs.declared.Found.the-variants.{At, Nothing}
 use Rattle.lists.specs.Lists.{cases, isFound, any, next, whereFirst}
 use Rattle.lists.specs.ListsLaw.{clash}
 use Rattle.lists.specs.Search.{lowest, lowestFrom, items, itemsFrom}
+
+-- three tests, as code joins them and as `any` does
+pub or-three : (a b c : Bool) → a || b || c ≡ a || (b || (c || false))
+or-three true true true = refl
+or-three true true false = refl
+or-three true false true = refl
+or-three true false false = refl
+or-three false true true = refl
+or-three false true false = refl
+or-three false false true = refl
+or-three false false false = refl
 
 -- ---- the turns: w is the whole answer, b what the test said of i
 
@@ -154,3 +165,33 @@ module _ {A : Type 0} (f : A → Bool) (a : ℕ → A) (g : ℕ → Bool) where
   pub lowest-any : (t : ℕ) → ((j : ℕ) → j < t → g j ≡ f (a j)) → isFound (lowest g 0 t) ≡ any f (items a 0 t)
   unfolding lowest items
   lowest-any t h = from-any 0 (t - 0) (λ j l u. h j (omega arith))
+
+module _ {A : Type 0} (f : A → Bool) (a : ℕ → A) where
+  any-from-none : (i k : ℕ) → ((j : ℕ) → i ≤ j → j < i + k → f (a j) ≡ false) → any f (itemsFrom a i k) ≡ false
+  unfolding itemsFrom
+  any-from-none i zero h = refl
+  any-from-none i (suc k) h = rw (h i (omega arith) (omega arith)) (any-from-none (i + 1) k (λ j l u. h j (omega arith) (omega arith)))
+
+  -- no number passes
+  pub any-no : (t : ℕ) → ((j : ℕ) → j < t → f (a j) ≡ false) → any f (items a 0 t) ≡ false
+  unfolding items
+  any-no t h = any-from-none 0 (t - 0) (λ j l u. h j (omega arith))
+
+  or-false : (b : Bool) → b || false ≡ b
+  or-false true = refl
+  or-false false = refl
+
+  any-from-one : (i k m : ℕ) → i ≤ m → m < i + k → ((j : ℕ) → i ≤ j → j < i + k → j ≢ m → f (a j) ≡ false) → any f (itemsFrom a i k) ≡ f (a m)
+  unfolding itemsFrom
+  any-from-one i zero m l u h = absurd (omega arith)
+  any-from-one i (suc k) m l u h =
+      go (ℕ-discrete i m) (λ o. any-from-one (i + 1) k m (omega arith) (omega arith) (λ j a b. h j (omega arith) (omega arith)))
+    where
+      go : Dec (i ≡ m) → (i ≢ m → any f (itemsFrom a (i + 1) k) ≡ f (a m)) → f (a i) || any f (itemsFrom a (i + 1) k) ≡ f (a m)
+      go (yes e) r = rw (any-from-none (i + 1) k (λ j b c. h j (omega arith) (omega arith) (omega arith)), e) (or-false (f (a m)))
+      go (no o) r = rw (h i (omega arith) (omega arith) o) (r o)
+
+  -- no other number passes
+  pub any-one : (t m : ℕ) → m < t → ((j : ℕ) → j < t → j ≢ m → f (a j) ≡ false) → any f (items a 0 t) ≡ f (a m)
+  unfolding items
+  any-one t m u h = any-from-one 0 (t - 0) m (omega arith) (omega arith) (λ j b c. h j (omega arith))

@@ -1,23 +1,21 @@
 -- What is packed is read back; the parts in the form of needs. Assumes nothing.
-use mathlib.Core.Path.{_≡_, refl, sym, ap, _∙_}
-use mathlib.Core.Bool.{Bool, true, false, _&&_}
-use mathlib.Core.List.{List, [], _∷_}
-use Prim.Native.Nat.{ℕ, _+_, _*_, _/_, _%_, _≤_, _<_}
+use mathlib.Core.Path.{_≡_, sym, ap, _∙_}
+use mathlib.Core.Bool.{true, false, _&&_}
+use mathlib.Core.List.{List}
+use Prim.Native.Nat.{ℕ, _+_, _*_, _≤_, _<_}
 use native.Mathlib.Omega.{arith}
 use borrow.Author.Tests.{eq-eqb, ne-eqb}
 use lib.Dec.{eqb}
 use lib.ListN.{length, getD}
 use Rattle.lists.specs.declared.Found.{Found}
 use Rattle.lists.specs.declared.Found.the-variants.{At, Nothing}
-use Rattle.lists.specs.Lists.{cases}
 use Rattle.lists.specs.Search.{lowest}
 use Rattle.lists.specs.SearchLaw.{lowest-below}
 use Rattle.meaning.specs.declared.Tri.{Tri}
-use Rattle.meaning.specs.declared.Mids.{Mids}
 use Rattle.meaning.specs.Tables.{rowAt}
 use Rattle.tables.specs.Arrow.{arrowAt}
 use Rattle.tables.specs.Ready.{Ready, ready-sized}
-use Rattle.notes.specs.Notes.{Note, note, packed, unpacked, Tight, Short, noteAt, ownM, ownU, ownV, ownOn, onFound, across, midFor, mids, midsAt}
+use Rattle.notes.specs.Notes.{Note, note, packed, unpacked, Tight, noteAt, ownM, ownU, ownV, ownOn, across, midFor, mids, midsAt}
 
 note-path : (x : Note) (a b c d e f k : ℕ) → a ≡ x .m → b ≡ x .u → c ≡ x .v → d ≡ x .fm → e ≡ x .fu → f ≡ x .fv → k ≡ x .before → note a b c d e f k ≡ x
 note-path x a b c d e f k p q r s t u v = rw (p, q, r, s, t, u, v)

@@ -1,9 +1,8 @@
 // The notes of refine: one number of scratch a row says which of its edges are split, which of these are first met there, and how many
 // new nodes lower rows have. From these the number of the new node on any edge is read.
 ghost use mathlib.Core.Path.{_≡_};
-ghost use Prim.Native.Nat.{ℕ, _+_, _*_, _≤_, _<_};
-ghost use lib.ListN.{length, getD};
-ghost use Rattle.meaning.specs.Tables.{rowAt};
+ghost use Prim.Native.Nat.{_+_, _*_, _≤_, _<_};
+ghost use lib.ListN.{length};
 ghost use Rattle.tables.specs.Ready.{Ready};
 ghost use Rattle.notes.specs.Notes.{Tight, Short, packed, unpacked, noteAt, ownM, ownU, ownV, ownOn, across, midFor, midsAt};
 use lists::Found;

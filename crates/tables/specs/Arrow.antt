@@ -1,9 +1,10 @@
 -- Which row of a triangle table holds a directed edge. Assumes nothing.
-use mathlib.Core.Path.{_≡_, refl}
-use mathlib.Core.Bool.{Bool, true, false, _&&_, _||_}
+use mathlib.Core.Path.{_≡_}
+use mathlib.Core.Bool.{Bool, _&&_, _||_}
 use mathlib.Core.List.{List}
 use Prim.Native.Nat.{ℕ}
 use lib.Dec.{eqb}
+use Rattle.lists.specs.SearchLaw.{or-three}
 use Rattle.meaning.specs.declared.Tri.{Tri}
 use Rattle.meaning.specs.Mesh.{arrow, holdsArrow}
 use Rattle.meaning.specs.Tables.{rowAt}
@@ -12,12 +13,6 @@ use Rattle.meaning.specs.Tables.{rowAt}
 unfoldable pub arrowAt : List ℕ → ℕ → ℕ → ℕ → Bool
 arrowAt l x y i = holdsArrow (arrow x y) (rowAt l i)
 
-or-end : (a b c : Bool) → a || (b || c) ≡ a || (b || (c || false))
-or-end true b c = refl
-or-end false true c = refl
-or-end false false true = refl
-or-end false false false = refl
-
 -- the code's three tests
-pub has-arrow : (w : Tri) (x y : ℕ) → (eqb x (w .p) && eqb y (w .q)) || ((eqb x (w .q) && eqb y (w .r)) || (eqb x (w .r) && eqb y (w .p))) ≡ holdsArrow (arrow x y) w
-has-arrow w x y = or-end (eqb x (w .p) && eqb y (w .q)) (eqb x (w .q) && eqb y (w .r)) (eqb x (w .r) && eqb y (w .p))
+pub has-arrow : (w : Tri) (x y : ℕ) → (eqb x (w .p) && eqb y (w .q)) || (eqb x (w .q) && eqb y (w .r)) || (eqb x (w .r) && eqb y (w .p)) ≡ holdsArrow (arrow x y) w
+has-arrow w x y = or-three (eqb x (w .p) && eqb y (w .q)) (eqb x (w .q) && eqb y (w .r)) (eqb x (w .r) && eqb y (w .p))

@@ -4,13 +4,11 @@ use mathlib.Core.Logic.{_≢_}
 use mathlib.Core.List.{List, [], _∷_, _++_, append-assoc}
 use Prim.Native.Nat.{ℕ, zero, suc, _+_, _*_, _-_, _≤_, _<_}
 use native.Mathlib.Omega.{arith}
-use native.Mathlib.Decide.{ℕ-discrete}
 use lib.IntN.{ℤ, pos}
-use lib.ListN.{length, getD, set, take, drop, replicate, length-set, length-take, length-append}
-use lib.Seq.{getD-set-same, getD-set-other, take-suc, drop-cons}
-use Rattle.lists.specs.Lists.{joined}
+use lib.ListN.{length, getD, set, take, replicate, length-set, length-take}
+use lib.Seq.{getD-set-same, getD-set-other, take-suc}
 use Rattle.lists.specs.Search.{items, itemsFrom}
-use Rattle.lists.specs.ItemsLaw.{items-snoc, items-agree, joined-append}
+use Rattle.lists.specs.ItemsLaw.{items-snoc, joined-append}
 use Rattle.meaning.specs.declared.Place.{Place}
 use Rattle.meaning.specs.declared.Tri.{Tri}
 use Rattle.meaning.specs.Mesh.{tri, place}

@@ -2,7 +2,7 @@
 // `indexAt` are notes of the running call; from there on stands the index of the search, which only this crate reads and writes.
 ghost use mathlib.Core.Path.{_≡_};
 ghost use mathlib.Core.List.{_++_};
-ghost use Prim.Native.Nat.{ℕ, _+_, _*_, _≤_, _<_};
+ghost use Prim.Native.Nat.{_+_, _*_, _≤_, _<_};
 ghost use lib.ListN.{length, take, drop, replicate, getD, set};
 ghost use Rattle.lists.specs.Lists.{isFound};
 ghost use lib.IntN.{pos};
@@ -151,7 +151,7 @@ pub fn is_found(f: Found) -> bool
 pub fn has_edge(w: Tri, x: u32, y: u32) -> bool
     ensures { λ r. ⌜ r ≡ holdsArrow (arrow x y) w ⌝ }
 {
-    (x == w.p) & (y == w.q) | ((x == w.q) & (y == w.r) | (x == w.r) & (y == w.p))
+    (x == w.p) & (y == w.q) | (x == w.q) & (y == w.r) | (x == w.r) & (y == w.p)
 }
 
 fn edge_at(tri: &[u32], x: u32, y: u32, i: usize) -> bool

@@ -148,7 +148,7 @@ pub fn is_found(f: Found) -> bool
 }
 
 // The row has the directed edge x→y.
-fn has_edge(w: Tri, x: u32, y: u32) -> bool
+pub fn has_edge(w: Tri, x: u32, y: u32) -> bool
     ensures { λ r. ⌜ r ≡ holdsArrow (arrow x y) w ⌝ }
 {
     (x == w.p) & (y == w.q) | (x == w.q) & (y == w.r) | (x == w.r) & (y == w.p)

@@ -6,3 +6,7 @@ pub mod Search
 pub mod SearchLaw
 pub mod IterLaw
 pub mod FillLaw
+pub mod ItemsLaw
+pub mod ByNumberLaw
+pub mod PartsLaw
+pub mod AnyLaw

@@ -2,7 +2,7 @@
 ghost use mathlib.Core.Path.{_≡_};
 ghost use Rattle.meaning.specs.Split.{newest};
 ghost use Rattle.meaning.specs.Tables.{given, outcome, answer};
-ghost use Rattle.meaning.specs.Calls.{checkOut, refineOut, coarsenOut};
+ghost use Rattle.meaning.specs.Calls.{checkOut, refineOut, coarsenOut, restoreOut};
 
 // The base check's number.
 #[no_mangle]
@@ -54,5 +54,25 @@ pub extern "C" fn spoutbeetle_coarsen(
     let a = mesh::coarsen(nodes, rows, scratch, marks, n0, *n, *t);
     *n = a.n;
     *t = a.t;
+    a.number
+}
+
+// Restore's number; the passes it made are left behind `passes`.
+#[no_mangle]
+pub extern "C" fn spoutbeetle_restore(
+    nodes: &mut [i32],
+    rows: &mut [u32],
+    scratch: &mut [u32],
+    n0: usize,
+    n: &mut usize,
+    t: &mut usize,
+    passes: &mut usize,
+) -> u32
+    ensures { λ r. ⌜ outcome (answer r (now (n .exit)) (now (t .exit)) (now (passes .exit))) (now (nodes .exit)) (now (rows .exit)) (now (scratch .exit)) ≡ restoreOut (given (now (nodes .entry)) (now (rows .entry)) (now (scratch .entry)) (now (n .entry)) (now (t .entry))) n0 ⌝ }
+{
+    let a = job::restore(nodes, rows, scratch, n0, *n, *t);
+    *n = a.n;
+    *t = a.t;
+    *passes = a.passes;
     a.number
 }

@@ -1,0 +1,5 @@
+-- Document 01, 'The line program', as definitions. Read Digits, Frames, Program in this order; then the texts that are computed.
+pub mod Digits
+pub mod Frames
+pub mod Program
+pub mod Worked

@@ -3,3 +3,4 @@ pub mod Digits
 pub mod Frames
 pub mod Program
 pub mod Worked
+pub mod DigitsLaw

@@ -1,4 +1,6 @@
 // The line program of document 01: what one line does to the tables and what it writes, and the reader that cuts bytes into lines.
+pub mod digits;
+pub mod text;
 
 // What the program knows beside its tables: how many nodes and rows they hold, whether a base is accepted, and its node count.
 pub struct Desk {

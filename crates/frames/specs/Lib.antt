@@ -4,3 +4,6 @@ pub mod Frames
 pub mod Program
 pub mod Worked
 pub mod DigitsLaw
+pub mod Writing
+pub mod HexLaw
+pub mod LinesLaw

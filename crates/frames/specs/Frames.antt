@@ -66,10 +66,10 @@ unfoldable pub addNode : Held → List ℕ → Step
 addNode h s =
     cases (eqb (length s) 16 && ltb (h .desk .n) 512)
     (step
-      (held (sets (h .nodes) (2 * h .desk .n) (signed (field 8 s 0) ∷ signed (field 8 s 1) ∷ []))
-        (h .rows) (h .scratch)
-        (desk (h .desk .n + 1) (h .desk .t) (h .desk .n0) (h .desk .accepted)))
-      [])
+    (held (sets (h .nodes) (2 * h .desk .n) (signed (field 8 s 0) ∷ signed (field 8 s 1) ∷ []))
+    (h .rows) (h .scratch)
+    (desk (h .desk .n + 1) (h .desk .t) (h .desk .n0) (h .desk .accepted)))
+    [])
     (ff h)
 
 -- "`02` p q r (4 digits each) a triangle"; "past .. 1,024 triangles" is `ff`
@@ -77,11 +77,11 @@ unfoldable pub addRow : Held → List ℕ → Step
 addRow h s =
     cases (eqb (length s) 12 && ltb (h .desk .t) 1024)
     (step
-      (held (h .nodes)
-        (sets (h .rows) (3 * h .desk .t) (field 4 s 0 ∷ field 4 s 1 ∷ field 4 s 2 ∷ []))
-        (h .scratch)
-        (desk (h .desk .n) (h .desk .t + 1) (h .desk .n0) (h .desk .accepted)))
-      [])
+    (held (h .nodes)
+    (sets (h .rows) (3 * h .desk .t) (field 4 s 0 ∷ field 4 s 1 ∷ field 4 s 2 ∷ []))
+    (h .scratch)
+    (desk (h .desk .n) (h .desk .t + 1) (h .desk .n0) (h .desk .accepted)))
+    [])
     (ff h)
 
 -- "A refused 03 drops all rows and shows zero counts."
@@ -89,11 +89,11 @@ abbrev pub checked : Held → Outcome → Step
 checked h o =
     cases (eqb (o .answer .number) 0)
     (step
-      (held (o .nodes) (o .rows) (o .scratch) (desk (o .answer .n) (o .answer .t) (o .answer .n) true))
-      (answerLine 3 (o .answer)))
+    (held (o .nodes) (o .rows) (o .scratch) (desk (o .answer .n) (o .answer .t) (o .answer .n) true))
+    (answerLine 3 (o .answer)))
     (step
-      (held (replicate (length (o .nodes)) (pos 0)) (cleared (o .rows)) (o .scratch) (desk 0 0 0 false))
-      (answerLine 3 (answer (o .answer .number) 0 0 0)))
+    (held (replicate (length (o .nodes)) (pos 0)) (cleared (o .rows)) (o .scratch) (desk 0 0 0 false))
+    (answerLine 3 (answer (o .answer .number) 0 0 0)))
 
 -- "`03` ends the base and checks it"
 unfoldable pub checkBase : Held → List ℕ → Step

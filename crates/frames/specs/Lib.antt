@@ -7,3 +7,5 @@ pub mod DigitsLaw
 pub mod Writing
 pub mod HexLaw
 pub mod LinesLaw
+pub mod Left
+pub mod BaseLaw

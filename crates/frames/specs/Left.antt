@@ -1,16 +1,17 @@
 -- What a line leaves, in the tables and in the buffer that are lent; and the sizes that the code relies on. Assumes nothing.
 use mathlib.Core.Path.{_≡_, refl, sym, ap, _∙_}
 use mathlib.Core.Bool.{Bool, true, false, _&&_}
-use mathlib.Core.List.{List}
+use mathlib.Core.List.{List, []}
 use Prim.Native.Nat.{ℕ, _+_, _≤_}
 use borrow.Author.Tests.{eqb-true, leb-true}
 use lib.Dec.{eqb, leb}
 use lib.IntN.{ℤ}
 use lib.ListN.{length}
+use Rattle.lists.specs.Lists.{cases}
 use Rattle.lists.specs.ListsLaw.{and-left, and-right}
 use Rattle.frames.specs.declared.Desk.{Desk}
 use Rattle.frames.specs.declared.Done.{Done}
-use Rattle.frames.specs.Frames.{Held, held, Step}
+use Rattle.frames.specs.Frames.{Held, held, Step, step, lineStep}
 use Rattle.frames.specs.Writing.{Wrote, wrote, writes}
 
 -- the tables and the desk after a line, and the buffer with the answer from its start on
@@ -55,3 +56,10 @@ whole-is nl rl sl ol d e =
       few-nodes = leb-true (d .n) 512 (and-right x4 (leb (d .n) 512) e5);
       few-rows = leb-true (d .t) 1024 (and-right x5 (leb (d .t) 1024) e);
     }
+
+-- what `line` leaves, lent any tables and any buffer: nothing is done unless they are whole
+unfoldable pub lineLeft : Held → List ℕ → List ℕ → Left
+lineLeft h l out =
+    cases (whole (length (h .nodes)) (length (h .rows)) (length (h .scratch)) (length out) (h .desk))
+    (leaves out (lineStep h l))
+    (leaves out (step h []))

@@ -9,3 +9,5 @@ pub mod HexLaw
 pub mod LinesLaw
 pub mod Left
 pub mod BaseLaw
+pub mod JobLaw
+pub mod LineLaw

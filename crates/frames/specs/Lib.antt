@@ -11,3 +11,5 @@ pub mod Left
 pub mod BaseLaw
 pub mod JobLaw
 pub mod LineLaw
+pub mod Reader
+pub mod ReaderLaw

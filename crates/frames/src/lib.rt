@@ -3,6 +3,7 @@ mod base;
 mod calls;
 pub mod digits;
 mod job;
+pub mod reader;
 pub mod text;
 
 ghost use mathlib.Core.Path.{_≡_};
@@ -21,6 +22,13 @@ pub struct Desk {
 
 // After a line: the desk, and how many bytes were written.
 pub struct Done {
+    pub desk: Desk,
+    pub written: usize,
+}
+
+// After a byte: how many bytes of the line there are so far, the desk, and how many bytes were written.
+pub struct Took {
+    pub used: usize,
     pub desk: Desk,
     pub written: usize,
 }

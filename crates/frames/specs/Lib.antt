@@ -13,3 +13,4 @@ pub mod JobLaw
 pub mod LineLaw
 pub mod Reader
 pub mod ReaderLaw
+pub mod Within

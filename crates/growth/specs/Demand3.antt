@@ -12,17 +12,28 @@ use Rattle.lists.specs.Lists.{cases}
 use Rattle.meaning.specs.Mesh.{Mesh}
 use Rattle.meaning.specs.Lawful.{refusal}
 use Rattle.meaning.specs.Split.{Way, bisected, refined}
-use Rattle.meaning.specs.Coarsen.{coarsened, pass, restored}
+use Rattle.meaning.specs.Coarsen.{coarsened, pass, Restored, restored}
 use Rattle.meaning.specs.Tables.{Given, Outcome, Room, given, outcome, answer, meshOf, roomOf, filled, cleared}
 use Rattle.meaning.specs.Calls.{says, checkNo, refineNo, coarsenNo, refines, coarsens, restores, sizesFit, untouched, checkOut, refineOut, coarsenOut, restoreOut}
 use Rattle.laws.specs.Lawful.{lawful-refusal}
-use Rattle.laws.specs.Restore.{restored-passes}
+use Rattle.laws.specs.Restore.{Passes, none-good, one-pass, pass-fewer, restored-is, restored-passes}
 use Rattle.growth.specs.GrownFrom.{GrownFrom, from-checked}
 use Rattle.growth.specs.Coarsening.{from-coarsened}
 use Rattle.growth.specs.Refining.{from-refine}
-use Rattle.growth.specs.Restoring.{Removals, pass-removes, restored-base, restored-removals}
+use Rattle.growth.specs.Restoring.{pass-removes, restored-base}
 use Rattle.growth.specs.TableMesh.{nodes-count, rows-count, written, left-by, refused}
-use Rattle.growth.specs.OnTables.{Held, fit₀, held-begin, held-same, held-refine, held-coarsen, held-restore, held-sizes, restore-number, restore-done, held-passes, held-removals, pass-done, pass-less}
+use Rattle.growth.specs.OnTables.{Held, fit₀, held-begin, held-same, held-refine, held-coarsen, held-restore, held-sizes, restore-number, restore-done, held-passes, end-here, pass-done, pass-less}
+
+-- ---- passes
+
+-- From m so many full passes, each of which removes a node, lead to `end`.
+pub data Removals (n0 : ℕ) : Mesh → ℕ → Mesh → Type 0 where
+  no-pass : {m : Mesh} → Removals n0 m 0 m
+  a-pass : {m end : Mesh} {k : ℕ} → length (pass n0 m .nodes) < length (m .nodes) → Removals n0 (pass n0 m) k end → Removals n0 m (suc k) end
+
+removals : {n0 : ℕ} {m : Mesh} {r : Restored} → Passes n0 m r → Removals n0 m (r .passes) (r .end)
+removals (none-good e) = no-pass
+removals {n0} {m} (one-pass z zs e p) = a-pass (pass-fewer n0 m z zs e) (removals p)
 
 -- ---- meshes
 
@@ -76,17 +87,20 @@ demand3 base ok {m} r =
       back-to-base = ap (λ (k : ℕ). says k m (restored n₀ m .end) (restored n₀ m .passes)) (lawful-refusal m (G .lawful))
           ∙ (λ i. record { number = 0; after = restored-base base G i; passes = restored n₀ m .passes });
       passes-few = restored-passes n₀ m (G .lawful) (G .grown .enough);
-      passes-remove = restored-removals base G;
+      passes-remove = subst (Removals n₀ m (restored n₀ m .passes)) (restored-base base G) (removals (restored-is n₀ m));
     }
 
 -- ---- tables
 
--- A call of any kind, with whatever it is given.
+-- A refine, coarsen or restore, with whatever it is given, and its outcome.
 pub data Call (g : Given) : Outcome → Type 0 where
-  check : Call g (checkOut g)
-  refine : (w : Way) (n0 : ℕ) (marks : List ℕ) → Call g (refineOut w g n0 marks)
-  coarsen : (n0 : ℕ) (marks : List ℕ) → Call g (coarsenOut g n0 marks)
-  restore : (n0 : ℕ) → Call g (restoreOut g n0)
+  a-refine : (w : Way) (n0 : ℕ) (marks : List ℕ) → Call g (refineOut w g n0 marks)
+  a-coarsen : (n0 : ℕ) (marks : List ℕ) → Call g (coarsenOut g n0 marks)
+  a-restore : (n0 : ℕ) → Call g (restoreOut g n0)
+
+-- the tables as a call left them, with the counts held before it
+abbrev pub still : Given → Outcome → Given
+still g o = given (o .nodes) (o .rows) (o .scratch) (g .n) (g .t)
 
 -- What calls on a base's tables leave: the tables, and the counts that the user holds, which are those of the accepted call before.
 -- (A refused call on other tables does not concern these.)
@@ -102,7 +116,9 @@ pub data Left (g₀ : Given) : Given → Type 0 where
   restored-by : {g : Given} → Left g₀ g → restoreOut g (g₀ .n) .answer .number ≡ 0 → Left g₀ (left-by (restoreOut g (g₀ .n)))
   -- refused, with whatever counts, n0, marks and scratch: the counts held stay
   refused-by : {g : Given} → Left g₀ g → (scratch : List ℕ) (n t : ℕ) {o : Outcome} → Call (given (g .nodes) (g .rows) scratch n t) o →
-      o .answer .number ≢ 0 → Left g₀ (given (o .nodes) (o .rows) (o .scratch) (g .n) (g .t))
+      o .answer .number ≢ 0 → Left g₀ (still g o)
+  -- a base check, refused or not, with whatever counts and scratch
+  checked-by : {g : Given} → Left g₀ g → (scratch : List ℕ) (n t : ℕ) → Left g₀ (still g (checkOut (given (g .nodes) (g .rows) scratch n t)))
 
 -- "A full pass is coarsen with all nodes marked."
 abbrev pub fullPass : Given → ℕ → Outcome
@@ -130,17 +146,20 @@ pub record Restores (g₀ g : Given) : Type 0 where
   -- each of which removed a node
   pub passes-remove : Removals (g₀ .n) (meshOf g) (restored (g₀ .n) (meshOf g) .passes) (meshOf g₀)
 
--- A refused call leaves the tables as they were.
+-- A refused call leaves the tables as they were, and so does a check.
 call-refused : {g : Given} {o : Outcome} → Call g o → o .answer .number ≢ 0 → (o .nodes ≡ g .nodes) × (o .rows ≡ g .rows)
-unfolding checkOut refineOut coarsenOut restoreOut refines coarsens restores
-call-refused {g} check n = go (sizesFit g 0)
+unfolding refineOut coarsenOut restoreOut refines coarsens restores
+call-refused {g} (a-refine w n0 marks) n = refused g n0 (refineNo w (roomOf g) (meshOf g) marks) (meshOf g) (refined w (meshOf g) marks) 0 n
+call-refused {g} (a-coarsen n0 marks) n = refused g n0 (coarsenNo (meshOf g) marks) (meshOf g) (coarsened n0 (meshOf g) marks) 0 n
+call-refused {g} (a-restore n0) n = refused g n0 (refusal (meshOf g)) (meshOf g) (restored n0 (meshOf g) .end) (restored n0 (meshOf g) .passes) n
+
+check-leaves : (g : Given) → (checkOut g .nodes ≡ g .nodes) × (checkOut g .rows ≡ g .rows)
+unfolding checkOut
+check-leaves g = go (sizesFit g 0)
   where
     go : (b : Bool) → (cases b (untouched g (checkNo (meshOf g))) (untouched g 1) .nodes ≡ g .nodes) × (cases b (untouched g (checkNo (meshOf g))) (untouched g 1) .rows ≡ g .rows)
     go true = (refl, refl)
     go false = (refl, refl)
-call-refused {g} (refine w n0 marks) n = refused g n0 (refineNo w (roomOf g) (meshOf g) marks) (meshOf g) (refined w (meshOf g) marks) 0 n
-call-refused {g} (coarsen n0 marks) n = refused g n0 (coarsenNo (meshOf g) marks) (meshOf g) (coarsened n0 (meshOf g) marks) 0 n
-call-refused {g} (restore n0) n = refused g n0 (refusal (meshOf g)) (meshOf g) (restored n0 (meshOf g) .end) (restored n0 (meshOf g) .passes) n
 
 -- Tables that calls left hold a mesh grown from the base.
 left-held : (g₀ : Given) → checkOut g₀ .answer .number ≡ 0 → {g : Given} → Left g₀ g → Held g₀ g
@@ -150,6 +169,7 @@ left-held g₀ ok (refined-by {g = g} r w cuts marks e) = held-refine g₀ ok g 
 left-held g₀ ok (coarsened-by {g = g} r marks e) = held-coarsen g₀ ok g (left-held g₀ ok r) marks e
 left-held g₀ ok (restored-by {g = g} r e) = held-restore g₀ ok g (left-held g₀ ok r) e
 left-held g₀ ok (refused-by {g = g} r s n t {o = o} c e) = let (a, b) = call-refused c e in held-same g₀ ok g (left-held g₀ ok r) (o .nodes) (o .rows) (o .scratch) a b
+left-held g₀ ok (checked-by {g = g} r s n t) = let (a, b) = check-leaves (given (g .nodes) (g .rows) s n t) in held-same g₀ ok g (left-held g₀ ok r) _ _ _ a b
 
 -- DEMAND 3, of tables.
 pub demand3-tables : (g₀ : Given) → checkOut g₀ .answer .number ≡ 0 → {g : Given} → Left g₀ g → Restores g₀ g
@@ -162,5 +182,5 @@ demand3-tables g₀ ok {g} r =
       number-is = restore-number g₀ ok g H;
       back-to-base = λ e. rw (restore-done g₀ ok g H e, nodes-count g₀, rows-count g₀, w .0, w .1, H .nodes-length, H .rows-kept);
       passes-few = held-passes g₀ ok g H;
-      passes-remove = held-removals g₀ ok g H;
+      passes-remove = subst (Removals (g₀ .n) (meshOf g) (restored (g₀ .n) (meshOf g) .passes)) (end-here g₀ ok g H) (removals (restored-is (g₀ .n) (meshOf g)));
     }

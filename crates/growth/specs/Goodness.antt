@@ -54,6 +54,26 @@ only-passing : {A : Type 0} (f : A → Bool) (d : A) (l : List A) (n : ℕ) {is 
 only-passing f d l n (none-more _ off) = only-none f d l n off
 only-passing f d l n (next _ j h h′ t off more) = only-next f d l n j h h′ t off ∙ ap (λ ys. getD l j d ∷ ys) (only-passing f d l (suc j) more)
 
+-- Exactly two, and exactly four members pass.
+module _ {A : Type 0} (f : A → Bool) (d : A) (l : List A) where
+  abbrev Passes : ℕ → Type 0
+  Passes i = (i < length l) × (f (getD l i d) ≡ true)
+
+  two-pass : (i j : ℕ) → i < j → Passes i → Passes j → ((k : ℕ) → k < length l → k ≢ i → k ≢ j → f (getD l k d) ≡ false) → Passing f d l 0 (i ∷ j ∷ [])
+  two-pass i j o (li, ti) (lj, tj) off =
+      next 0 i (omega arith) li ti (λ k _ h. off k (omega arith) (λ e. omega arith) (λ e. omega arith))
+      (next (suc i) j o lj tj (λ k g h. off k (omega arith) (λ e. omega arith) (λ e. omega arith))
+      (none-more (suc j) (λ k g h. off k h (λ e. omega arith) (λ e. omega arith))))
+
+  four-pass : (i j m n : ℕ) → i < j → j < m → m < n → Passes i → Passes j → Passes m → Passes n →
+      ((k : ℕ) → k < length l → k ≢ i → k ≢ j → k ≢ m → k ≢ n → f (getD l k d) ≡ false) → Passing f d l 0 (i ∷ j ∷ m ∷ n ∷ [])
+  four-pass i j m n o p q (li, ti) (lj, tj) (lm, tm) (ln, tn) off =
+      next 0 i (omega arith) li ti (λ k _ h. off k (omega arith) (λ e. omega arith) (λ e. omega arith) (λ e. omega arith) (λ e. omega arith))
+      (next (suc i) j o lj tj (λ k g h. off k (omega arith) (λ e. omega arith) (λ e. omega arith) (λ e. omega arith) (λ e. omega arith))
+      (next (suc j) m p lm tm (λ k g h. off k (omega arith) (λ e. omega arith) (λ e. omega arith) (λ e. omega arith) (λ e. omega arith))
+      (next (suc m) n q ln tn (λ k g h. off k (omega arith) (λ e. omega arith) (λ e. omega arith) (λ e. omega arith) (λ e. omega arith))
+      (none-more (suc n) (λ k g h. off k h (λ e. omega arith) (λ e. omega arith) (λ e. omega arith) (λ e. omega arith))))))
+
 -- The least number with a property that a number has.
 least : (P : ℕ → Type 0) → ((j : ℕ) → Dec (P j)) → (n k : ℕ) → ((i : ℕ) → i < k → ¬ P i) → P (n + k) → (x : ℕ) × (x ≤ n + k) × P x × ((i : ℕ) → P i → x ≤ i)
 least P d zero k none h = (k, omega arith, rw zero-add at h, λ i p. above i p (decLe k i))
@@ -188,26 +208,15 @@ module _ (base m : Mesh) (G : GrownFrom base m) where
 
     from-around : (j : ℕ) → ((k : ℕ) → Holds z (rows m k) → j ≤ k) → Around (G .grown) z j → Told z
     from-around j low (two-rows a b c P first all) =
-        told a b c P (subst⁻¹ (λ us. Matched us (brothers (row-at x) (row-at y) ∷ [])) (round order) (matched-two (joint P))) (omega arith) (cons (ends P) nil)
+        told a b c P
+        (subst⁻¹ (λ us. Matched us (brothers (row-at (P .left)) (row-at (P .right)) ∷ []))
+        (round (two-pass (holdsNode z) (tri 0 0 0) (m .tris) (P .left) (P .right) (P .order) (P .left-below, left-holds P) (P .right-below, right-holds P) gap)) (matched-two (joint P)))
+        (omega arith) (cons (ends P) nil)
       where
-        x : ℕ
-        x = P .left
-
-        y : ℕ
-        y = P .right
-
-        gap : (k : ℕ) → k < t → k ≢ x → k ≢ y → holdsNode z (row-at k) ≡ false
+        gap : (k : ℕ) → k < t → k ≢ P .left → k ≢ P .right → holdsNode z (row-at k) ≡ false
         gap k l u v = off k (λ h. elim (all k l h) [ inl e ↦ u e | inr e ↦ v e ])
-
-        order : Passing (holdsNode z) (tri 0 0 0) (m .tris) 0 (x ∷ y ∷ [])
-        order =
-            let o = P .order in
-            let lx = P .left-below in
-            let ly = P .right-below in
-            next 0 x (omega arith) lx (left-holds P) (λ k _ h. gap k (omega arith) (λ e. omega arith) (λ e. omega arith))
-            (next (suc x) y (omega arith) ly (right-holds P) (λ k g h. gap k (omega arith) (λ e. omega arith) (λ e. omega arith))
-            (none-more (suc y) (λ k g h. gap k h (λ e. omega arith) (λ e. omega arith))))
-    from-around j low (four-rows a b c d P Q first apart all) = told a b c P (matched (decLt y x′) (decLt y y′)) (omega arith) (cons (ends P) (cons (ends Q ∙ edge-comm c b) nil))
+    from-around j low (four-rows a b c d P Q first apart all) =
+        told a b c P (matched (decLt y x′) (decLt y y′)) (omega arith) (cons (ends P) (cons (ends Q ∙ edge-comm c b) nil))
       where
         x : ℕ
         x = P .left
@@ -221,26 +230,17 @@ module _ (base m : Mesh) (G : GrownFrom base m) where
         y′ : ℕ
         y′ = Q .right
 
-        lx : x < t
-        lx = P .left-below
+        px : (x < t) × (holdsNode z (row-at x) ≡ true)
+        px = (P .left-below, left-holds P)
 
-        ly : y < t
-        ly = P .right-below
+        py : (y < t) × (holdsNode z (row-at y) ≡ true)
+        py = (P .right-below, right-holds P)
 
-        lx′ : x′ < t
-        lx′ = Q .left-below
+        px′ : (x′ < t) × (holdsNode z (row-at x′) ≡ true)
+        px′ = (Q .left-below, left-holds Q)
 
-        ly′ : y′ < t
-        ly′ = Q .right-below
-
-        o : x < y
-        o = P .order
-
-        o′ : x′ < y′
-        o′ = Q .order
-
-        x≢x′ : x ≢ x′
-        x≢x′ e = apart x (inl refl) (inl e)
+        py′ : (y′ < t) × (holdsNode z (row-at y′) ≡ true)
+        py′ = (Q .right-below, right-holds Q)
 
         y≢x′ : y ≢ x′
         y≢x′ e = apart y (inr refl) (inl e)
@@ -248,8 +248,11 @@ module _ (base m : Mesh) (G : GrownFrom base m) where
         y≢y′ : y ≢ y′
         y≢y′ e = apart y (inr refl) (inr e)
 
-        least-x : x < x′
-        least-x = let l = low x′ (node-holds z (row-at x′) (left-holds Q)) in let n = x≢x′ in omega arith
+        x-first : x < x′
+        x-first =
+            let l = low x′ (node-holds z (row-at x′) (left-holds Q)) in
+            let n : x ≢ x′ = λ e. apart x (inl refl) (inl e) in
+            omega arith
 
         gap : (k : ℕ) → k < t → k ≢ x → k ≢ y → k ≢ x′ → k ≢ y′ → holdsNode z (row-at k) ≡ false
         gap k l u v u′ v′ = off k (λ h. elim (all k l h) [ inl s ↦ elim s [ inl e ↦ u e | inr e ↦ v e ] | inr s ↦ elim s [ inl e ↦ u′ e | inr e ↦ v′ e ] ])
@@ -259,38 +262,19 @@ module _ (base m : Mesh) (G : GrownFrom base m) where
         build order i e =
             subst⁻¹ (λ us. Matched us (brothers (row-at x) (row-at y) ∷ brothers (row-at x′) (row-at y′) ∷ [])) (round order) (matched-four i (joint P) e (joint Q))
 
+        -- the right row of the lower pair stands before, between or after the other two
         matched : Dec (y < x′) → Dec (y < y′) → Matched (rowsOf m z) (brothers (row-at x) (row-at y) ∷ brothers (row-at x′) (row-at y′) ∷ [])
         matched (yes h) _ =
-            build
-            (next 0 x (omega arith) lx (left-holds P) (λ k _ g. gap k (omega arith) (λ e. omega arith) (λ e. omega arith) (λ e. omega arith) (λ e. omega arith))
-            (next (suc x) y (omega arith) ly (right-holds P) (λ k f g. gap k (omega arith) (λ e. omega arith) (λ e. omega arith) (λ e. omega arith) (λ e. omega arith))
-            (next (suc y) x′ (omega arith) lx′ (left-holds Q) (λ k f g. gap k (omega arith) (λ e. omega arith) (λ e. omega arith) (λ e. omega arith) (λ e. omega arith))
-            (next (suc x′) y′ (omega arith) ly′ (right-holds Q) (λ k f g. gap k (omega arith) (λ e. omega arith) (λ e. omega arith) (λ e. omega arith) (λ e. omega arith))
-            (none-more (suc y′) (λ k f g. gap k g (λ e. omega arith) (λ e. omega arith) (λ e. omega arith) (λ e. omega arith)))))))
-            (List·Memᴰ·head refl)
-            (rw (sameTri-refl (row-at y), differ y x′ ly lx′ y≢x′, differ y y′ ly ly′ y≢y′))
+            build (four-pass (holdsNode z) (tri 0 0 0) (m .tris) x y x′ y′ (P .order) h (Q .order) px py px′ py′ gap) (List·Memᴰ·head refl)
+            (rw (sameTri-refl (row-at y), differ y x′ (py .0) (px′ .0) y≢x′, differ y y′ (py .0) (py′ .0) y≢y′))
         matched (no n) (yes h) =
             let n′ = y≢x′ in
-            let low = least-x in
-            build
-            (next 0 x (omega arith) lx (left-holds P) (λ k _ g. gap k (omega arith) (λ e. omega arith) (λ e. omega arith) (λ e. omega arith) (λ e. omega arith))
-            (next (suc x) x′ (omega arith) lx′ (left-holds Q) (λ k f g. gap k (omega arith) (λ e. omega arith) (λ e. omega arith) (λ e. omega arith) (λ e. omega arith))
-            (next (suc x′) y (omega arith) ly (right-holds P) (λ k f g. gap k (omega arith) (λ e. omega arith) (λ e. omega arith) (λ e. omega arith) (λ e. omega arith))
-            (next (suc y) y′ (omega arith) ly′ (right-holds Q) (λ k f g. gap k (omega arith) (λ e. omega arith) (λ e. omega arith) (λ e. omega arith) (λ e. omega arith))
-            (none-more (suc y′) (λ k f g. gap k g (λ e. omega arith) (λ e. omega arith) (λ e. omega arith) (λ e. omega arith)))))))
-            (List·Memᴰ·tail (List·Memᴰ·head refl))
-            (rw (sameTri-refl (row-at y), differ y x′ ly lx′ y≢x′, differ y y′ ly ly′ y≢y′))
+            build (four-pass (holdsNode z) (tri 0 0 0) (m .tris) x x′ y y′ x-first (omega arith) h px px′ py py′ (λ k l u u′ v v′. gap k l u v u′ v′)) (List·Memᴰ·tail (List·Memᴰ·head refl))
+            (rw (sameTri-refl (row-at y), differ y x′ (py .0) (px′ .0) y≢x′, differ y y′ (py .0) (py′ .0) y≢y′))
         matched (no n) (no h) =
             let n′ = y≢y′ in
-            let low = least-x in
-            build
-            (next 0 x (omega arith) lx (left-holds P) (λ k _ g. gap k (omega arith) (λ e. omega arith) (λ e. omega arith) (λ e. omega arith) (λ e. omega arith))
-            (next (suc x) x′ (omega arith) lx′ (left-holds Q) (λ k f g. gap k (omega arith) (λ e. omega arith) (λ e. omega arith) (λ e. omega arith) (λ e. omega arith))
-            (next (suc x′) y′ (omega arith) ly′ (right-holds Q) (λ k f g. gap k (omega arith) (λ e. omega arith) (λ e. omega arith) (λ e. omega arith) (λ e. omega arith))
-            (next (suc y′) y (omega arith) ly (right-holds P) (λ k f g. gap k (omega arith) (λ e. omega arith) (λ e. omega arith) (λ e. omega arith) (λ e. omega arith))
-            (none-more (suc y) (λ k f g. gap k g (λ e. omega arith) (λ e. omega arith) (λ e. omega arith) (λ e. omega arith)))))))
-            (List·Memᴰ·tail (List·Memᴰ·tail (List·Memᴰ·head refl)))
-            (rw (sameTri-refl (row-at y), differ y x′ ly lx′ y≢x′, differ y y′ ly ly′ y≢y′))
+            build (four-pass (holdsNode z) (tri 0 0 0) (m .tris) x x′ y′ y x-first (Q .order) (omega arith) px px′ py′ py (λ k l u u′ v′ v. gap k l u v u′ v′)) (List·Memᴰ·tail (List·Memᴰ·tail (List·Memᴰ·head refl)))
+            (rw (sameTri-refl (row-at y), differ y x′ (py .0) (px′ .0) y≢x′, differ y y′ (py .0) (py′ .0) y≢y′))
 
     -- A NODE NEWEST EVERYWHERE IS A STAR.
     pub newest-told : Told z

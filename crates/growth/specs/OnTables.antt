@@ -25,7 +25,7 @@ use Rattle.laws.specs.Restore.{restored-passes}
 use Rattle.growth.specs.GrownFrom.{GrownFrom, from-checked}
 use Rattle.growth.specs.Coarsening.{from-coarsened}
 use Rattle.growth.specs.Refining.{from-refine}
-use Rattle.growth.specs.Restoring.{Removals, pass-removes, restored-base, restored-removals}
+use Rattle.growth.specs.Restoring.{pass-removes, restored-base}
 use Rattle.growth.specs.TableMesh.{Fits, nodes-count, rows-count, left-by, done-mesh, done-nodes, done-rows, accepted}
 
 -- What the tables have, whatever calls left them.
@@ -177,7 +177,7 @@ module _ (g₀ : Given) (ok : checkOut g₀ .answer .number ≡ 0) where
       let (a, b) = coarsen-fits g h marks in
       rw (s, z) (held-done g h (coarsened (g₀ .n) m marks) 0 (coarsen-keeps m (h .grown) marks) a b)
 
-  end-here : (g : Given) → Held g₀ g → restored (g₀ .n) (meshOf g) .end ≡ base
+  pub end-here : (g : Given) → Held g₀ g → restored (g₀ .n) (meshOf g) .end ≡ base
   end-here g h = subst (λ (j : ℕ). restored j (meshOf g) .end ≡ base) (nodes-count g₀) (restored-base base (h .grown))
 
   pub held-restore : (g : Given) → Held g₀ g → restoreOut g (g₀ .n) .answer .number ≡ 0 → Held g₀ (left-by (restoreOut g (g₀ .n)))
@@ -232,9 +232,6 @@ module _ (g₀ : Given) (ok : checkOut g₀ .answer .number ≡ 0) where
     held-passes =
         subst (λ (j : ℕ). restored j (meshOf g) .passes + j ≤ g .n) (nodes-count g₀)
         (omega (arith, restored-passes (length (base .nodes)) (meshOf g) (H .grown .lawful) (H .grown .grown .enough), nodes-count g))
-
-    pub held-removals : Removals (g₀ .n) (meshOf g) (restored (g₀ .n) (meshOf g) .passes) (meshOf g₀)
-    held-removals = subst (λ (j : ℕ). Removals j (meshOf g) (restored j (meshOf g) .passes) base) (nodes-count g₀) (restored-removals base (H .grown))
 
     -- a full pass
     pub pass-done : sizesFit g (g₀ .n) ≡ true → coarsenOut g (g₀ .n) (replicate (g .n) 1) ≡ done g (pass (length (meshOf g₀ .nodes)) (meshOf g)) 0

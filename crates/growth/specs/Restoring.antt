@@ -2,7 +2,7 @@
 -- Assumes nothing.
 use mathlib.Core.List.{List, [], _∷_, List·Memᴰ, List·Memᴰ·not-nil}
 use mathlib.Core.Path.{_≡_, refl, subst}
-use Prim.Native.Nat.{ℕ, suc, _<_}
+use Prim.Native.Nat.{ℕ, _<_}
 use native.Mathlib.Decide.{decLt}
 use native.Mathlib.Omega.{arith}
 use lib.ListN.{length}
@@ -12,15 +12,6 @@ use Rattle.laws.specs.Restore.{Passes, none-good, one-pass, pass-fewer, restore
 use Rattle.growth.specs.GrownFrom.{GrownFrom, from-end}
 use Rattle.growth.specs.Goodness.{good-there}
 use Rattle.growth.specs.Coarsening.{from-coarsened}
-
--- From m so many full passes, each of which removes a node, lead to `end`.
-pub data Removals (n0 : ℕ) : Mesh → ℕ → Mesh → Type 0 where
-  no-pass : {m : Mesh} → Removals n0 m 0 m
-  a-pass : {m end : Mesh} {k : ℕ} → length (pass n0 m .nodes) < length (m .nodes) → Removals n0 (pass n0 m) k end → Removals n0 m (suc k) end
-
-removals : {n0 : ℕ} {m : Mesh} {r : Restored} → Passes n0 m r → Removals n0 m (r .passes) (r .end)
-removals (none-good e) = no-pass
-removals {n0} {m} (one-pass z zs e p) = a-pass (pass-fewer n0 m z zs e) (removals p)
 
 module _ (base : Mesh) where
   abbrev n₀ : ℕ
@@ -51,10 +42,6 @@ module _ (base : Mesh) where
         go (yes l) = let (z, i) = good-there base m G l in absurd (List·Memᴰ·not-nil (subst (List·Memᴰ z) e i))
         go (no l) = from-end base m G (omega (arith, G .grown .enough))
 
-  -- RESTORE ENDS WITH THE BASE,
+  -- RESTORE ENDS WITH THE BASE.
   pub restored-base : {m : Mesh} → GrownFrom base m → restored (length (base .nodes)) m .end ≡ base
   restored-base {m} G = none-left (from-passes (restored-is n₀ m) G) (restored-ends n₀ m)
-
-  -- by passes each of which removes a node.
-  pub restored-removals : {m : Mesh} → GrownFrom base m → Removals (length (base .nodes)) m (restored (length (base .nodes)) m .passes) base
-  restored-removals {m} G = subst (Removals n₀ m (restored n₀ m .passes)) (restored-base G) (removals (restored-is n₀ m))

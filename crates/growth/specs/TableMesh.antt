@@ -104,6 +104,7 @@ filled-length z len xs h = omega (arith, length-append xs (replicate (len - leng
 
 -- ---- what an outcome leaves
 
+-- its tables, with its counts
 abbrev pub left-by : Outcome → Given
 left-by o = given (o .nodes) (o .rows) (o .scratch) (o .answer .n) (o .answer .t)
 

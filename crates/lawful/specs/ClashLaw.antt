@@ -1,10 +1,10 @@
 -- 10 of a mesh that draws none of 3 to 7: of all rows, only the one that holds r→q can clash with a row whose refinement edge is q–r.
 -- Assumes nothing.
-use mathlib.Core.Path.{_≡_, refl, sym, ap, _∙_}
-use mathlib.Core.Logic.{_≢_, _⊎_, inl, inr, ⊎-elim}
+use mathlib.Core.Path.{_≡_, refl, sym, _∙_}
+use mathlib.Core.Logic.{_⊎_, inl, inr, ⊎-elim}
 use mathlib.Core.Bool.{Bool, true, false, not, _&&_, _||_}
-use mathlib.Core.List.{List, [], _∷_}
-use Prim.Native.Nat.{ℕ, zero, suc, _+_, _-_, _≤_, _<_, min, max}
+use mathlib.Core.List.{List}
+use Prim.Native.Nat.{ℕ, _<_, min, max}
 use native.Mathlib.Omega.{arith}
 use native.Mathlib.Decide.{ℕ-discrete, decLt}
 use borrow.Author.Tests.{eqb-true, eq-eqb}
@@ -12,18 +12,17 @@ use lib.Dec.{eqb}
 use lib.IntN.{ℤ}
 use Rattle.lists.specs.declared.Found.{Found}
 use Rattle.lists.specs.declared.Found.the-variants.{At, Nothing}
-use Rattle.lists.specs.Lists.{any, isFound}
+use Rattle.lists.specs.Lists.{any}
 use Rattle.lists.specs.ListsLaw.{clash, and-both, and-left, and-right, or-left, or-right}
-use Rattle.lists.specs.Search.{lowest, items, itemsFrom}
+use Rattle.lists.specs.Search.{lowest, items}
 use Rattle.lists.specs.SearchLaw.{lowest-where, lowest-nothing, lowest-some, lowest-below, lowest-true, any-no, any-one}
 use Rattle.meaning.specs.declared.Tri.{Tri}
-use Rattle.meaning.specs.declared.Fault.{Fault}
-use Rattle.meaning.specs.Mesh.{arrow, edge, base, sameEdge, sameArrow, holdsArrow, holdsEdge}
-use Rattle.meaning.specs.Lawful.{Named, clashes, fault, orLater, faultOf, firstClash}
+use Rattle.meaning.specs.Mesh.{arrow, edge, base, sameEdge, holdsArrow, holdsEdge}
+use Rattle.meaning.specs.Lawful.{Named, clashes, faultOf, firstClash}
 use Rattle.meaning.specs.Tables.{rowAt, given, meshOf}
 use Rattle.tables.specs.Arrow.{arrowAt}
-use Rattle.lawful.specs.Tests.{outsideAt, misnamedAt, arrowBelow, repeatAt, clashWith, clashFound, clashAt, laterBy, faultBy}
-use Rattle.lawful.specs.MeshLaw.{fault-is, named-row}
+use Rattle.lawful.specs.Tests.{arrowBelow, repeatAt, clashWith, clashFound, clashAt}
+use Rattle.lawful.specs.MeshLaw.{named-row, right}
 
 -- ---- tests
 
@@ -203,24 +202,9 @@ module _ (l : List ℕ) (n t : ℕ) (named : (i : ℕ) → i < t → Named n (ro
 
 -- ---- number 0
 
-or-zero : (k : ℕ) (f : Found) (rest : Fault) → 0 < k → orLater k f rest .number ≡ 0 → (f ≡ Nothing) × (rest .number ≡ 0)
-or-zero k (At i) rest h e = absurd (omega arith)
-or-zero k Nothing rest h e = (refl, e)
-
 module _ (nodes : List ℤ) (l s : List ℕ) (n t : ℕ) (z : faultOf (meshOf (given nodes l s n t)) .number ≡ 0) where
-  by-number : faultBy nodes l n t .number ≡ 0
-  by-number = rw (fault-is nodes l s n t) z
-
-  nones : (lowest (misnamedAt l n) 0 t ≡ Nothing) × (lowest (repeatAt l) 0 t ≡ Nothing)
-  unfolding faultBy laterBy
-  nones =
-      let a = or-zero 3 (lowest (outsideAt nodes) 0 n) _ (omega arith) by-number in
-      let b = or-zero 4 (lowest (misnamedAt l n) 0 t) _ (omega arith) (a .1) in
-      let c = or-zero 5 (lowest (repeatAt l) 0 t) _ (omega arith) (b .1) in
-      (b .0, c .0)
-
   pub clash-is : lowest (clashAt l t) 0 t ≡ firstClash (meshOf (given nodes l s n t))
   unfolding firstClash meshOf
   clash-is =
-      lowest-where (clashes (items (rowAt l) 0 t)) (rowAt l) (clashAt l t) t
-      (clash-row l n t (named-row nodes l s n t (nones .0)) (nones .1))
+      let r = right nodes l s n t z in
+      lowest-where (clashes (items (rowAt l) 0 t)) (rowAt l) (clashAt l t) t (clash-row l n t (named-row nodes l s n t (r .named)) (r .once))

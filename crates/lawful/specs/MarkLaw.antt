@@ -1,8 +1,7 @@
 -- Marks: after all rows have marked their corners, a node has no mark exactly where no row holds it. Assumes nothing.
 use mathlib.Core.Path.{_≡_, refl, sym, ap, _∙_}
-use mathlib.Core.Logic.{_≢_}
 use mathlib.Core.Bool.{Bool, true, false, not, _||_}
-use mathlib.Core.List.{List, [], _∷_, _++_}
+use mathlib.Core.List.{List, _++_}
 use Prim.Native.Nat.{ℕ, zero, suc, _+_, _-_, _≤_, _<_}
 use native.Mathlib.Omega.{arith}
 use native.Mathlib.Decide.{ℕ-discrete}
@@ -16,7 +15,6 @@ use Rattle.lists.specs.Lists.{any, cases}
 use Rattle.lists.specs.Search.{lowest, items, itemsFrom, iter, iterFrom}
 use Rattle.lists.specs.SearchLaw.{lowest-agree}
 use Rattle.lists.specs.IterLaw.{iter-keeps}
-use Rattle.meaning.specs.declared.Tri.{Tri}
 use Rattle.meaning.specs.Mesh.{holdsNode}
 use Rattle.meaning.specs.Lawful.{unused}
 use Rattle.meaning.specs.Tables.{rowAt}

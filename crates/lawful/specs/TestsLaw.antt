@@ -1,13 +1,13 @@
 -- What the tests tell, in the form of needs. Assumes nothing.
 use mathlib.Core.Path.{_≡_, refl, sym, ap, _∙_}
-use mathlib.Core.Bool.{Bool, true, false, not, _||_}
-use mathlib.Core.List.{List, _++_}
+use mathlib.Core.Bool.{Bool, false}
+use mathlib.Core.List.{List}
 use Prim.Native.Nat.{ℕ, _+_, _*_, _≤_, _<_}
 use native.Mathlib.Omega.{arith}
 use borrow.Author.Tests.{leb-false, leb-true, eqb-false, not-false}
 use lib.Dec.{leb, eqb}
 use lib.IntN.{ℤ, natAbs}
-use lib.ListN.{length, take, drop, set, replicate, length-set}
+use lib.ListN.{length, take, set, length-set}
 use Rattle.lists.specs.declared.Found.{Found}
 use Rattle.lists.specs.declared.Found.the-variants.{At, Nothing}
 use Rattle.lists.specs.ListsLaw.{or-no}
@@ -15,11 +15,11 @@ use Rattle.lists.specs.Search.{lowest}
 use Rattle.lists.specs.SearchLaw.{lowest-nothing, lowest-below}
 use Rattle.meaning.specs.declared.Place.{Place}
 use Rattle.meaning.specs.declared.Tri.{Tri}
-use Rattle.meaning.specs.Lawful.{InRange, Named, far, outside, misnamed}
+use Rattle.meaning.specs.Lawful.{InRange, Named, far, misnamed}
 use Rattle.meaning.specs.Tables.{placeAt, rowAt}
 use Rattle.tables.specs.Arrow.{arrowAt}
 use Rattle.tables.specs.Sized.{Corners}
-use Rattle.lawful.specs.Tests.{outsideAt, misnamedAt, markStep, clashWith, clashFound, clashAt}
+use Rattle.lawful.specs.Tests.{outsideAt, misnamedAt, markStep, clashWith, clashAt}
 
 -- ---- 4 said no: three nodes below n, all different
 

@@ -1,7 +1,7 @@
 // The judge of a mesh: document 01's numbers 3 to 7 and 10, each with the lowest node or row at fault.
 ghost use mathlib.Core.Path.{_≡_};
 ghost use mathlib.Core.Bool.{false};
-ghost use Prim.Native.Nat.{ℕ, _+_, _*_, _/_, _≤_, _<_};
+ghost use Prim.Native.Nat.{_+_, _*_, _/_, _≤_, _<_};
 ghost use lib.ListN.{length, take, replicate, set};
 ghost use lib.Dec.{leb};
 ghost use Rattle.lists.specs.declared.Found.the-variants.{Nothing};

@@ -7,3 +7,7 @@ pub mod SearchLaw
 pub mod IterLaw
 pub mod FillLaw
 pub mod AllLaw
+pub mod ItemsLaw
+pub mod ByNumberLaw
+pub mod PartsLaw
+pub mod AnyLaw

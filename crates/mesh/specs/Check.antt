@@ -2,8 +2,7 @@
 use mathlib.Core.Path.{_≡_, refl, sym, ap, _∙_}
 use mathlib.Core.Bool.{Bool, true, false, not}
 use mathlib.Core.List.{List}
-use Prim.Native.Nat.{ℕ, zero, suc, _+_, _*_, _/_, _≤_, _<_}
-use native.Mathlib.Omega.{arith}
+use Prim.Native.Nat.{ℕ, zero, suc, _*_, _/_, _≤_}
 use borrow.Author.Tests.{not-true, not-false}
 use lib.IntN.{ℤ}
 use lib.ListN.{length, replicate, length-replicate}
@@ -11,9 +10,8 @@ use Rattle.lists.specs.declared.Found.{Found}
 use Rattle.lists.specs.Lists.{cases, isFound}
 use Rattle.lists.specs.Search.{lowest}
 use Rattle.meaning.specs.declared.Fault.{Fault}
-use Rattle.meaning.specs.Mesh.{Mesh}
 use Rattle.meaning.specs.Lawful.{faultOf, refusal, compatible, firstClash}
-use Rattle.meaning.specs.Tables.{Given, given, Outcome, outcome, answer, meshOf}
+use Rattle.meaning.specs.Tables.{Given, given, outcome, answer, meshOf}
 use Rattle.meaning.specs.Calls.{orElse, unless, checkNo, sizesFit, untouched, checkOut}
 use Rattle.tables.specs.Sized.{Sized}
 use Rattle.lawful.specs.Tests.{clashAt}

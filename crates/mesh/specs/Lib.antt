@@ -1,2 +1,4 @@
 pub mod Sizes
 pub mod Check
+pub mod Refine
+pub mod RefineLaw

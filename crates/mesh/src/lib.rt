@@ -1,12 +1,14 @@
 // The calls on a mesh in tables that the caller lends.
 ghost use mathlib.Core.Path.{_≡_};
-ghost use Prim.Native.Nat.{ℕ};
 ghost use lib.ListN.{length, replicate};
 ghost use Rattle.meaning.specs.Tables.{given, outcome};
-ghost use Rattle.meaning.specs.Calls.{checkOut};
+ghost use Rattle.meaning.specs.Split.{newest};
+ghost use Rattle.meaning.specs.Calls.{checkOut, refineOut};
 ghost use Rattle.mesh.specs.Sizes.{fitting};
 ghost use Rattle.mesh.specs.Check.{checkNumber};
 use meaning::Answer;
+
+mod refining; // refining.rt: the steps of refine
 
 // Not 1, for tables and scratch of these lengths.
 pub fn sizes_fit(nl: usize, tl: usize, sl: usize, n0: usize, n: usize, t: usize) -> bool
@@ -53,4 +55,22 @@ pub fn check(nodes: &mut [i32], tri: &mut [u32], scratch: &mut [u32], n: usize, 
         t,
         passes: 0,
     }
+}
+
+// Refine: the marked triangles are split, and as many more as keep the mesh whole. A refusal changes no node, row or mark.
+pub fn refine(
+    nodes: &mut [i32],
+    tri: &mut [u32],
+    scratch: &mut [u32],
+    marks: &[u8],
+    n0: usize,
+    n: usize,
+    t: usize,
+) -> Answer
+    ensures { λ r. ⌜ outcome r (now (nodes .exit)) (now (tri .exit)) (now (scratch .exit)) ≡ refineOut newest (given (now (nodes .entry)) (now (tri .entry)) (now (scratch .entry)) n t) n0 (now (marks .entry)) ⌝ }
+{
+    tables::clear(scratch);
+    let a = refining::work(nodes, tri, scratch, marks, n0, n, t);
+    tables::clear(scratch);
+    a
 }

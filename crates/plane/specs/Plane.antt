@@ -1,8 +1,8 @@
 -- What the code knows of spans between places, and the test of 6 on three places. Assumes nothing.
 use mathlib.Core.Path.{_≡_}
 use mathlib.Core.Bool.{Bool, not}
-use Prim.Native.Nat.{ℕ, _≤_}
-use lib.IntN.{ℤ, pos, natAbs, _-ℤ_}
+use Prim.Native.Nat.{_≤_}
+use lib.IntN.{pos, natAbs, _-ℤ_}
 use lib.Signed.{ltZ}
 use Rattle.meaning.specs.declared.Place.{Place}
 use Rattle.meaning.specs.Mesh.{turn}

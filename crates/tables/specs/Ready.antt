@@ -1,11 +1,12 @@
 -- What the neighbour search asks of scratch: the index of the first t rows stands from `indexAt` on. Only this crate opens `Ready`;
 -- others know these laws, and what `add_row` ensures. The index is empty for now, so that `Ready` holds sizes alone. Assumes nothing.
-use mathlib.Core.Path.{_≡_, refl, sym, ap, _∙_}
+use mathlib.Core.Path.{_≡_, ap, _∙_}
 use mathlib.Core.List.{List, _++_}
 use Prim.Native.Nat.{ℕ, _+_, _-_, _*_, _≤_, _<_}
 use native.Mathlib.Omega.{arith}
 use lib.ListN.{length, set, drop, replicate, length-set, length-append, length-drop, length-replicate}
 use lib.Seq.{drop-set-lt, drop-append-add, drop-drop}
+use Rattle.meaning.specs.Tables.{rowAt}
 use Rattle.tables.specs.Sized.{Sized, indexAt}
 
 pub record Indexed (s : List ℕ) (nc : ℕ) (tri : List ℕ) (t : ℕ) : Type 0 where
@@ -30,6 +31,12 @@ pub ready-kept : (s s′ tri : List ℕ) (nc t : ℕ) → length s′ ≡ length
     Ready s nc tri t → Ready s′ nc tri t
 unfolding Ready
 ready-kept s s′ tri nc t l d r = record { sizes = rw l (r .sizes); rows = r .rows }
+
+-- fewer rows: the search reads only these, so that the others may have changed
+pub ready-fewer : (s tri tri′ : List ℕ) (nc t i : ℕ) → i ≤ t → length tri′ ≡ length tri → ((j : ℕ) → j < i → rowAt tri′ j ≡ rowAt tri j) →
+    Ready s nc tri t → Ready s nc tri′ i
+unfolding Ready
+ready-fewer s tri tri′ nc t i h e a r = record { sizes = rw e (r .sizes); rows = let b = r .rows in omega arith }
 
 -- ---- from the laws above
 

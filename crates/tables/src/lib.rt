@@ -2,13 +2,15 @@
 // `indexAt` are notes of the running call; from there on stands the index of the search, which only this crate reads and writes.
 ghost use mathlib.Core.Path.{_≡_};
 ghost use mathlib.Core.List.{_++_};
-ghost use Prim.Native.Nat.{ℕ, _+_, _*_, _≤_, _<_};
+ghost use Prim.Native.Nat.{_+_, _*_, _≤_, _<_};
 ghost use lib.ListN.{length, take, drop, replicate, getD, set};
 ghost use Rattle.lists.specs.Lists.{isFound};
-ghost use Rattle.lists.specs.Search.{lowest};
+ghost use lib.IntN.{pos};
+ghost use Rattle.lists.specs.Search.{lowest, items};
 ghost use Rattle.meaning.specs.Mesh.{arrow, holdsArrow};
-ghost use Rattle.meaning.specs.Tables.{rowAt, placeAt};
+ghost use Rattle.meaning.specs.Tables.{rowAt, placeAt, flatRows, flatNodes, filled};
 ghost use Rattle.tables.specs.Arrow.{arrowAt};
+ghost use Rattle.tables.specs.Put.{setRow, setPlace};
 ghost use Rattle.tables.specs.Sized.{indexAt, Corners};
 ghost use Rattle.tables.specs.Ready.{Ready};
 use lists::Found;
@@ -46,6 +48,53 @@ pub fn corner(nodes: &[i32], k: u32) -> Place
     ensures { λ a. ⌜ a ≡ placeAt (now (nodes .entry)) k ⌝ }
 {
     place_at(nodes, k as usize)
+}
+
+pub fn put_row(tri: &mut [u32], i: usize, w: Tri)
+    requires { ⌜ 3 * i + 3 ≤ length (now tri) ⌝ }
+    ensures { λ _. ⌜ now (tri .exit) ≡ setRow (now (tri .entry)) i w ⌝ }
+{
+    tri[3 * i] = w.p;
+    tri[3 * i + 1] = w.q;
+    tri[3 * i + 2] = w.r;
+}
+
+pub fn put_place(nodes: &mut [i32], k: usize, a: Place)
+    requires { ⌜ 2 * k + 2 ≤ length (now nodes) ⌝ }
+    ensures { λ _. ⌜ now (nodes .exit) ≡ setPlace (now (nodes .entry)) k a ⌝ }
+{
+    let x = a.x;
+    let y = a.y;
+    nodes[2 * k] = x;
+    nodes[2 * k + 1] = y;
+}
+
+// ---- zeros past the counts
+
+// The first t rows stay; the rest of the table is zero.
+pub fn clear_rows_from(tri: &mut [u32], t: usize)
+    requires { ⌜ 3 * t ≤ length (now tri) ⌝ }
+    ensures { λ _. ⌜ now (tri .exit) ≡ filled 0 (length (now (tri .entry))) (flatRows (items (rowAt (now (tri .entry))) 0 t)) ⌝ }
+{
+    clear(&mut tri[3 * t..]);
+}
+
+fn clear_signed(s: &mut [i32])
+    ensures { λ _. ⌜ now (s .exit) ≡ replicate (length (now (s .entry))) (pos 0) ⌝ }
+{
+    let mut i = 0;
+    while i < s.len() {
+        s[i] = 0;
+        i += 1;
+    }
+}
+
+// The first n places stay; the rest of the table is zero.
+pub fn clear_places_from(nodes: &mut [i32], n: usize)
+    requires { ⌜ 2 * n ≤ length (now nodes) ⌝ }
+    ensures { λ _. ⌜ now (nodes .exit) ≡ filled (pos 0) (length (now (nodes .entry))) (flatNodes (items (placeAt (now (nodes .entry))) 0 n)) ⌝ }
+{
+    clear_signed(&mut nodes[2 * n..]);
 }
 
 // ---- notes

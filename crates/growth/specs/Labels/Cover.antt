@@ -18,7 +18,7 @@ pub record Label : Type 0 where
 abbrev pub at : ℕ → Path → Label
 at i w = record { from = i; path = w }
 
--- The corners of a label, and its generation.
+-- The corners of a label.
 abbrev pub corners-of : List (Corners ℕ) → Label → Corners Name
 corners-of B l = corners B l.from l.path
 

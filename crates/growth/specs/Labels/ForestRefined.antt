@@ -87,7 +87,7 @@ module _ {B : List (Corners ℕ)} {S : Name → Name → Type 0} {t : ℕ} {lab 
   S-same (straight e f) h = rw (e, f) h
   S-same (crossed e f) h = rw (e, f) (K .either-way _ _ h)
 
-  -- The ends of an edge of S are nodes, and its midpoint is none.
+  -- An end of an edge of S is a node.
   S-present : (x y : Name) → S x y → Present B t lab x
   S-present x y h = let (j, l, e) = K .of-rows x y h in record { index = j; below = l; holds = edge-holds e }
 
@@ -96,11 +96,11 @@ module _ {B : List (Corners ℕ)} {S : Name → Name → Type 0} {t : ℕ} {lab 
   unfolding New
   new-absent z (a, b, h, e) P = let (j, l, E) = K .of-rows a b h in F .no-hang j l a b E (rw e at P)
 
-  -- The midpoint of a pair with a new end is no node before, and is no new node.
+  -- The midpoint of a pair with a new end is no node before,
   new-end : (x y : Name) → New x → ¬ Present B t lab (mid x y)
   new-end x y n P = new-absent x n (ends-present (F .covers) x y P)
 
-  -- Nor a new node.
+  -- and no new node.
   new-end-new : (x y : Name) → New x → ¬ New (mid x y)
   unfolding New
   new-end-new x y n (c, d, h, e) = go (mid-injective x y c d e)

@@ -6,12 +6,12 @@ use mathlib.Core.Bool.{Bool, true, false}
 use Prim.Native.Nat.{ℕ, zero, suc, _+_, _≤_, _<_}
 use native.Mathlib.Decide.{decLt}
 use native.Mathlib.Omega.{arith}
-use lib.IntN.{+ℤ-comm}
 use lib.ListN.{length, getD, length-map, List·getD-map}
 use Rattle.lists.specs.Lists.{All, nil, cons}
 use Rattle.lists.specs.ListsLaw.{All-getD}
 use Rattle.meaning.specs.declared.Place.{Place}
 use Rattle.meaning.specs.Good.{Middle}
+use Rattle.laws.specs.Area.{middle-swap}
 use Rattle.growth.specs.Labels.Names.{Name, mid, mid-sym, mid-same, mid-injective, Same, straight, crossed, Halfway, same-map}
 use Rattle.growth.specs.Labels.Paths.{Side, L, R}
 use Rattle.growth.specs.Labels.Corners.{Corners, corners, Holds, is-p, is-q, is-r, Edge, edge-holds, edge-pq, edge-qr, edge-rp}
@@ -34,7 +34,7 @@ module _ {E : ℕ → ℕ → Type 0} (E? : (a b : ℕ) → Dec (E a b)) (num : 
   abbrev pub appends : Corners ℕ → List (Corners ℕ)
   appends r = more-rows num (ask (E? (r .q) (r .r))) (ask (E? (r .p) (r .q))) (ask (E? (r .r) (r .p))) r
 
--- The mesh after splitting the edges of E: new nodes n .. n′-1, each the number of one edge; the rows by the table.
+-- The mesh after splitting the edges of E: new nodes n .. n′-1, each the number of one edge; the rows by pattern.
 pub record Halving (n : ℕ) {t : ℕ} {rows : ℕ → Corners ℕ} {E : ℕ → ℕ → Type 0} (K : ClosedRows t rows E) (num : ℕ → ℕ → ℕ) (n′ t′ : ℕ) (rows′ : ℕ → Corners ℕ) : Type 0 where
   pub grows : n ≤ n′
   pub num-new : (a b : ℕ) → E a b → n ≤ num a b
@@ -48,10 +48,6 @@ pub record Halving (n : ℕ) {t : ℕ} {rows : ℕ → Corners ℕ} {E : ℕ →
   pub stay : (k : ℕ) → k < t → rows′ k ≡ stays (K .decided) num (rows k)
   pub append : (j i : ℕ) → j < t → i < length (appends (K .decided) num (rows j))
       → rows′ (t + (total (λ j. length (appends (K .decided) num (rows j))) j + i)) ≡ getD (appends (K .decided) num (rows j)) i (rows j)
-
--- M is the midpoint of B and A if it is that of A and B.
-middle-turn : {M A B : Place} → Middle M A B → Middle M B A
-middle-turn {M} {A} {B} h = record { x-middle = h .x-middle ∙ +ℤ-comm (A .x) (B .x); y-middle = h .y-middle ∙ +ℤ-comm (A .y) (B .y) }
 
 -- Past a list's end alone the default matters.
 pub getD-default : {A : Type 0} (l : List A) (i : ℕ) (c d : A) → i < length l → getD l i c ≡ getD l i d
@@ -74,15 +70,13 @@ module _ {B : List (Corners ℕ)} {n₀ n t : ℕ} {rows : ℕ → Corners ℕ} 
   abbrev S : Closed B t (G .lab) (ByName (G .by-names) K)
   S = closed-by-name (G .by-names) K
 
-  -- Whether q–r is.
+  -- Whether q–r, p–q and r–p of row j are split.
   abbrev dm : (j : ℕ) → Dec (E (rows j .q) (rows j .r))
   dm j = K .decided (rows j .q) (rows j .r)
 
-  -- Whether p–q is.
   abbrev du : (j : ℕ) → Dec (E (rows j .p) (rows j .q))
   du j = K .decided (rows j .p) (rows j .q)
 
-  -- Whether r–p is.
   abbrev dv : (j : ℕ) → Dec (E (rows j .r) (rows j .p))
   dv j = K .decided (rows j .r) (rows j .p)
 
@@ -115,7 +109,7 @@ module _ {B : List (Corners ℕ)} {n₀ n t : ℕ} {rows : ℕ → Corners ℕ} 
       let e = H .ends k (H .num-new a b h) (H .num-below a b h) in
       added-name k (H .num-new a b h) ∙ mid-same (same-map name (H .num-injective _ _ a b (e .0) h (e .1)))
 
-  -- The label family afterwards is a forest.
+  -- The labels afterwards.
   pub labels-after : ℕ → Label
   labels-after = label-after S
 
@@ -129,7 +123,7 @@ module _ {B : List (Corners ℕ)} {n₀ n t : ℕ} {rows : ℕ → Corners ℕ} 
   count-same : t′ ≡ rows-after S
   count-same = H .count ∙ ap (t +_) (total-same _ _ t size-same)
 
-  -- And they are a forest.
+  -- The labels afterwards are a forest.
   forest-after : Forest B t′ labels-after
   unfolding labels-after
   forest-after = subst (λ (x : ℕ). Forest B x labels-after) (sym count-same)
@@ -208,7 +202,7 @@ module _ {B : List (Corners ℕ)} {n₀ n t : ℕ} {rows : ℕ → Corners ℕ} 
   E-absent : (a b : ℕ) → E a b → ¬ Present B t lab (mid (name a) (name b))
   E-absent a b h = let (j, l, e) = K .of-rows a b h in G .forest .no-hang j l (name a) (name b) (edge-name N j l e)
 
-  -- All node is a corner by name.
+  -- Every node is a corner by name.
   node-present : (k : ℕ) → k < n → Present B t lab (name k)
   node-present k l = let (j, lj, h) = G .used k l in record { index = j; below = lj; holds = holds-name N j lj h }
 
@@ -292,7 +286,7 @@ module _ {B : List (Corners ℕ)} {n₀ n t : ℕ} {rows : ℕ → Corners ℕ} 
         new-at x y lx ly h f (crossed u v) =
             let ea = differ-after y a (omega (arith, H .grows)) la (old-name y ly ∙ v) in
             let eb = differ-after x b (omega (arith, H .grows)) lb (old-name x lx ∙ u) in
-            rw (← ea, ← eb, ← f, kept-place x lx, kept-place y ly) (middle-turn (put x y h))
+            rw (← ea, ← eb, ← f, kept-place x lx, kept-place y ly) (middle-swap (put x y h))
 
         go : Dec (k < n) → Middle (place′ k) (place′ a) (place′ b)
         go (yes h) =

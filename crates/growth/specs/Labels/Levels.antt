@@ -63,7 +63,7 @@ module _ (B : List (Corners ℕ)) where
   pub lev : Name → Name → ℕ
   lev x y = level (refEdge? x y) (birth x) (birth y)
 
-  -- The defining equations.
+  -- A base refinement edge has level 0.
   pub lev-ref : (x y : Name) → RefEdge x y → lev x y ≡ 0
   unfolding lev level
   lev-ref x y h = go (refEdge? x y)
@@ -86,7 +86,7 @@ module _ (B : List (Corners ℕ)) where
   unfolding birth
   birth-base k = refl
 
-  -- Levels do not depend on the order of the pair.
+  -- Turned round it is one too.
   refEdge-sym : (x y : Name) → RefEdge x y → RefEdge y x
   refEdge-sym x y h = (h .0, h .1, same-turn (h .2))
 

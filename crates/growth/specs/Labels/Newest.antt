@@ -15,7 +15,7 @@ use Rattle.growth.specs.Labels.Cover.{Label, at, corners-of, gen, Covers
 abbrev pub NewestEverywhere : List (Corners ℕ) → ℕ → (ℕ → Label) → Name → Type 0
 NewestEverywhere B t lab z = (j : ℕ) → j < t → Holds z (corners-of B (lab j)) → z ≡ corners-of B (lab j) .p
 
--- A corner was born no later than its triangle, and the newest corner with it.
+-- A corner was born no later than its triangle.
 pub birth-le-gen : {B : List (Corners ℕ)} {g : ℕ} {t : Corners Name} {z : Name} → Static B g t → Holds z t → birth B z ≤ g
 birth-le-gen h (is-p e) = rw e (omega arith)
 birth-le-gen h (is-q e) = rw e (omega arith)

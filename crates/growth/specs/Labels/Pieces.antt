@@ -65,7 +65,7 @@ grown≢ : (u w : Path) → length u < length w → u ≢ w
 grown≢ u w h e = let s = ap length e in omega arith
 
 module _ (cut : Path → Type 0) (w : Path) where
-  -- The leftmost piece is a piece, and keeps the anchor.
+  -- The leftmost piece is a piece.
   leftmost-piece : (m : Dec (cut w)) (u : Dec (cut (L ∷ w))) → Piece cut w (leftmost (ask m) (ask u) w)
   leftmost-piece (no n) u = whole n refl
   leftmost-piece (yes c) (no n) = one L c n refl
@@ -77,7 +77,7 @@ module _ (cut : Path → Type 0) (w : Path) where
   leftmost-anchor (yes c) (no n) = refl
   leftmost-anchor (yes c) (yes d) = refl
 
-  -- The others are pieces, with anchors longer than w, and after the first with anchors longer than R ∷ w.
+  -- The others are pieces.
   other-pieces : (m : Dec (cut w)) (u : Dec (cut (L ∷ w))) (v : Dec (cut (R ∷ w))) → All (Piece cut w) (others (ask m) (ask u) (ask v) w)
   other-pieces (no _) u v = nil
   other-pieces (yes c) (no d) (no e) = cons (one R c e refl) nil
@@ -142,19 +142,19 @@ module _ (cut : Path → Type 0) (w : Path) where
   right-right-later (yes c) (yes d) (yes e) zero h f = absurd (L≢R f)
 
 module _ {B : List (Corners ℕ)} {S : Name → Name → Type 0} {t : ℕ} {lab : ℕ → Label} (K : Closed B t lab S) where
-  -- Whether row j, its left half and its right half are halved.
+  -- Whether row j is halved,
   abbrev pub m? : (j : ℕ) → Dec (Cut B S (lab j .from) (lab j .path))
   m? j = K .decided _ _
 
-  -- Its left half,
+  -- its left half,
   abbrev pub u? : (j : ℕ) → Dec (Cut B S (lab j .from) (L ∷ lab j .path))
   u? j = K .decided _ _
 
-  -- its right half.
+  -- and its right half.
   abbrev pub v? : (j : ℕ) → Dec (Cut B S (lab j .from) (R ∷ lab j .path))
   v? j = K .decided _ _
 
-  -- What row j leaves in its place, and what it appends.
+  -- What row j leaves in its place.
   abbrev pub mine : ℕ → Path
   mine j = leftmost (ask (m? j)) (ask (u? j)) (lab j .path)
 
@@ -166,7 +166,7 @@ module _ {B : List (Corners ℕ)} {S : Name → Name → Type 0} {t : ℕ} {lab 
   abbrev pub size : ℕ → ℕ
   size j = length (rest j)
 
-  -- The rows afterwards: how many, the father of each, and its label.
+  -- How many rows there are afterwards.
   abbrev pub rows-after : ℕ
   rows-after = t + total size t
 
@@ -249,7 +249,7 @@ module _ {B : List (Corners ℕ)} {S : Name → Name → Type 0} {t : ℕ} {lab 
         go (no _) (yes h) = absurd (apart-at (rest j) [] ap′ b a h la (sym e))
         go (no h) (no k) = omega arith
 
-    -- Of the appended rows only the first has the right half's anchor, and the right half's right half is not the first.
+    -- Of the appended rows only the first has the right half's anchor.
     right-first : (n : ℕ) → n < size j → anchor (getD (rest j) n []) ≡ R ∷ lab j .path → n ≡ 0
     right-first zero l e = refl
     right-first (suc n) l e =

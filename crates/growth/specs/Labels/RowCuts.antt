@@ -51,11 +51,11 @@ module _ {B : List (Corners ℕ)} {t : ℕ} {lab : ℕ → Label} {n : ℕ} {nam
     pub two-name : y ≡ name two
     pub inside : E one two
 
-  -- An edge of nodes is in the set by name exactly if it is in the set.
+  -- An edge in the set is in it by name,
   pub by-name : (a b : ℕ) → a < n → b < n → E a b → ByName (name a) (name b)
   by-name a b la lb h = record { one = a; two = b; one-below = la; two-below = lb; one-name = refl; two-name = refl; inside = h }
 
-  -- Back: an edge in the set by name is in the set.
+  -- and back.
   pub by-number : (a b : ℕ) → a < n → b < n → ByName (name a) (name b) → E a b
   by-number a b la lb h =
       let e = N .differ a (h .one) la (h .one-below) (h .one-name) in
@@ -125,7 +125,7 @@ module _ {B : List (Corners ℕ)} {t : ℕ} {lab : ℕ → Label} {n : ℕ} {nam
     named-split R r T e m = λ i. record { p = m i; q = e i .r; r = e i .p }
 
     module _ (j : ℕ) (l : j < t) where
-      -- The row itself, and its two halves.
+      -- The row itself.
       still : named name′ (rows j) ≡ corners-of B (lab j)
       still = (λ i. record { p = old _ (p-below N j l) i; q = old _ (q-below N j l) i; r = old _ (r-below N j l) i }) ∙ N .names j l
 
@@ -133,7 +133,7 @@ module _ {B : List (Corners ℕ)} {t : ℕ} {lab : ℕ → Label} {n : ℕ} {nam
       halved : (x : Side) → E (rows j .q) (rows j .r) → named name′ (split num x (rows j)) ≡ half x (corners-of B (lab j))
       halved x m = named-split x (rows j) (corners-of B (lab j)) still (new _ _ m ∙ ap (λ (r : Corners Name). mid (r .q) (r .r)) (N .names j l))
 
-      -- The halves of the left and of the right half.
+      -- A half of its left half.
       left-halved : (x : Side) → E (rows j .q) (rows j .r) → E (rows j .p) (rows j .q) → named name′ (split num x (split num L (rows j))) ≡ half x (half L (corners-of B (lab j)))
       left-halved x m u = named-split x _ _ (halved L m) (new _ _ u ∙ ap (λ (r : Corners Name). mid (r .p) (r .q)) (N .names j l))
 
@@ -141,7 +141,7 @@ module _ {B : List (Corners ℕ)} {t : ℕ} {lab : ℕ → Label} {n : ℕ} {nam
       right-halved : (x : Side) → E (rows j .q) (rows j .r) → E (rows j .r) (rows j .p) → named name′ (split num x (split num R (rows j))) ≡ half x (half R (corners-of B (lab j)))
       right-halved x m v = named-split x _ _ (halved R m) (new _ _ v ∙ ap (λ (r : Corners Name). mid (r .r) (r .p)) (N .names j l))
 
-      -- By pattern, the row that stays and those that are appended.
+      -- By pattern, the row that stays.
       first-named : (m : Dec (E (rows j .q) (rows j .r))) (u : Dec (E (rows j .p) (rows j .q)))
           → named name′ (first-row num (ask m) (ask u) (rows j)) ≡ corners B (lab j .from) (leftmost (ask m) (ask u) (lab j .path))
       first-named (no _) u = still

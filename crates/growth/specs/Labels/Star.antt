@@ -43,7 +43,7 @@ pub record Pair (B : List (Corners ℕ)) (t : ℕ) (lab : ℕ → Label) (z : Na
   pub right-label : lab right ≡ at from (R ∷ up)
   pub halves : z ≡ mid (corners B from up .q) (corners B from up .r)
 
--- The father of a pair, and its two rows.
+-- The father of a pair.
 abbrev pub father : {B : List (Corners ℕ)} {t : ℕ} {lab : ℕ → Label} {z : Name} → Pair B t lab z → Corners Name
 father {B} P = corners B (P .from) (P .up)
 

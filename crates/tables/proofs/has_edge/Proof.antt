@@ -1,5 +1,4 @@
 use Rattle.tables.specs.Arrow.{has-arrow}
-use borrow.Author.Needs.{needs}
 use Rattle.tables.proofs.has_edge.Statement.{statement}
 use Rattle.tables.proofs.has_edge.Tie as tie
 

@@ -1,0 +1,5 @@
+pub mod Drawn
+pub mod DrawLaw
+pub mod EdgeLaw
+pub mod ChainLaw
+pub mod CloseLaw

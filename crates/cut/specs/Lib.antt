@@ -1,0 +1,4 @@
+pub mod Cutting
+pub mod PutRowsLaw
+pub mod CutLaw
+pub mod MeshLaw

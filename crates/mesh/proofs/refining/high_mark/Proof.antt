@@ -1,0 +1,12 @@
+use Rattle.mesh.specs.Refine.{markHigh}
+use borrow.Author.Needs.{needs}
+use Rattle.mesh.proofs.refining.high_mark.Statement.{statement}
+use Rattle.mesh.proofs.refining.high_mark.Tie as tie
+
+returns : tie.Need-returns
+unfolding markHigh
+returns c = search needs
+
+pub high-mark-spec : {M : Type 1} → statement M
+high-mark-spec = tie.close (tie.spec
+    (λ c. search needs) returns)

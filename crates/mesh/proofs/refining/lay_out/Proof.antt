@@ -1,0 +1,26 @@
+use Rattle.mesh.specs.RefineLaw.{closed-ready, closed-fit}
+use Rattle.mesh.specs.RefineLaw.{notes-fit, marks-long, weighty, late-number, late-plan}
+use borrow.Author.Needs.{needs}
+use Rattle.mesh.proofs.refining.lay_out.Statement.{statement}
+use Rattle.mesh.proofs.refining.lay_out.Tie as tie
+
+close-requires : tie.Need-close-requires
+close-requires c κs = (search needs, (search (needs, notes-fit), (search (needs, marks-long), search needs)))
+
+number-requires : tie.Need-number-requires
+number-requires c κs = (search needs, (search (needs, closed-fit), search (needs, closed-ready)))
+
+weigh-requires : tie.Need-weigh-requires
+weigh-requires c κs =
+    let number = c .before .before .before in
+    let close = number .before .before .before .before in
+    weighty _ _ _ _ _ _ (close .before .before .before .before .before .pre) _ _ _ (close .close .ensures) (number .number .ensures)
+
+returns : tie.Need-returns
+returns c = (search (needs, late-number), search (needs, late-plan))
+
+pub lay-out-spec : {M : Type 1} → statement M
+lay-out-spec =
+    tie.close
+    (tie.spec
+    close-requires number-requires (λ c. search needs) weigh-requires (λ c. search needs) returns)

@@ -1,0 +1,5 @@
+pub mod Nodes
+pub mod Exact
+pub mod NodesLaw
+pub mod PlacedLaw
+pub mod OddLaw

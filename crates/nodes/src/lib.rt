@@ -1,0 +1,153 @@
+// The new nodes: whether a split edge has an exact midpoint, and the places of the midpoints in their table.
+ghost use mathlib.Core.Path.{_≡_};
+ghost use Prim.Native.Nat.{ℕ, _+_, _*_, _≤_, _<_};
+ghost use lib.ListN.{length};
+ghost use lib.IntN.{_+ℤ_};
+ghost use Rattle.lists.specs.Search.{lowest, iter};
+ghost use Rattle.meaning.specs.Lawful.{InRange};
+ghost use Rattle.meaning.specs.Split.{even, half};
+ghost use Rattle.meaning.specs.Tables.{rowAt};
+ghost use Rattle.notes.specs.Notes.{Short, noteAt};
+ghost use Rattle.notes.specs.Met.{after};
+ghost use Rattle.nodes.specs.Nodes.{Near, Stands, Standing, evenBetween, middleOf, oddSplit, oddAt, placeEdge, placeThree, placeRow};
+use lists::Found;
+use meaning::Place;
+use meaning::Tri;
+use notes::Note;
+
+// ---- midpoints
+
+// The sum is even. The remainder of an odd sum is 1 or -1.
+fn even_sum(a: i32, b: i32) -> bool
+    requires { ⌜ Near a × Near b ⌝ }
+    ensures { λ r. ⌜ r ≡ even (a +ℤ b) ⌝ }
+{
+    if (a + b) % 2 == 0 {
+        return true;
+    }
+    false
+}
+
+fn half_sum(a: i32, b: i32) -> i32
+    requires { ⌜ Near a × Near b ⌝ }
+    ensures { λ r. ⌜ r ≡ half (a +ℤ b) ⌝ }
+{
+    (a + b) / 2
+}
+
+// There is an exact midpoint.
+pub fn even_between(a: Place, b: Place) -> bool
+    requires { ⌜ InRange a × InRange b ⌝ }
+    ensures { λ r. ⌜ r ≡ evenBetween a b ⌝ }
+{
+    even_sum(a.x, b.x) & even_sum(a.y, b.y)
+}
+
+// It is exact where there is one.
+pub fn middle(a: Place, b: Place) -> Place
+    requires { ⌜ InRange a × InRange b ⌝ }
+    ensures { λ r. ⌜ r ≡ middleOf a b ⌝ }
+{
+    let x = half_sum(a.x, b.x);
+    let y = half_sum(a.y, b.y);
+    Place { x: x, y: y }
+}
+
+// ---- 8: an edge to be split has an odd sum of x or of y
+
+// The edge x-y is split and has no exact midpoint.
+fn odd_split(nodes: &[i32], on: u32, x: u32, y: u32) -> bool
+    requires { ⌜ Stands (now nodes) x × Stands (now nodes) y ⌝ }
+    ensures { λ r. ⌜ r ≡ oddSplit (now (nodes .entry)) on x y ⌝ }
+{
+    let a = tables::corner(nodes, x);
+    let b = tables::corner(nodes, y);
+    (on != 0) & !even_between(a, b)
+}
+
+fn odd_at(nodes: &[i32], tri: &[u32], s: &[u32], i: usize) -> bool
+    requires { ⌜ 3 * i + 3 ≤ length (now tri) ⌝ }
+    requires { ⌜ i < length (now s) ⌝ }
+    requires { ⌜ Standing (now nodes) (rowAt (now tri) i) ⌝ }
+    ensures { λ r. ⌜ r ≡ oddAt (now (nodes .entry)) (now (tri .entry)) (now (s .entry)) i ⌝ }
+{
+    let w = tables::row_at(tri, i);
+    let c = notes::note_at(s, i);
+    odd_split(nodes, c.m, w.q, w.r)
+        | odd_split(nodes, c.u, w.p, w.q)
+        | odd_split(nodes, c.v, w.r, w.p)
+}
+
+// The lowest row with a split edge that has no exact midpoint.
+pub fn find_odd(nodes: &[i32], tri: &[u32], s: &[u32], t: usize) -> Found
+    requires { ⌜ 3 * t ≤ length (now tri) ⌝ }
+    requires { ⌜ t ≤ length (now s) ⌝ }
+    requires { ⌜ ((i : ℕ) → i < t → Standing (now nodes) (rowAt (now tri) i)) ⌝ }
+    ensures { λ r. ⌜ r ≡ lowest (oddAt (now (nodes .entry)) (now (tri .entry)) (now (s .entry))) 0 t ⌝ }
+{
+    let mut i = 0;
+    while i < t {
+        if odd_at(nodes, tri, s, i) {
+            return Found::At(i);
+        }
+        i += 1;
+    }
+    Found::Nothing
+}
+
+// ---- the places
+
+// If the edge x-y is first met here, its midpoint becomes node `at`.
+fn place_edge(nodes: &mut [i32], first: u32, at: u32, x: u32, y: u32)
+    requires { ⌜ Stands (now nodes) x × Stands (now nodes) y ⌝ }
+    requires { ⌜ 2 * (at + first) ≤ length (now nodes) ⌝ }
+    ensures { λ _. ⌜ now (nodes .exit) ≡ placeEdge first at x y (now (nodes .entry)) ⌝ }
+{
+    if first != 1 {
+        return;
+    }
+    let a = tables::corner(nodes, x);
+    let b = tables::corner(nodes, y);
+    tables::put_place(nodes, at as usize, middle(a, b));
+}
+
+fn place_three(nodes: &mut [i32], w: Tri, c: Note, n: u32)
+    requires { ⌜ n ≤ 65_536 ⌝ }
+    requires { ⌜ Short c ⌝ }
+    requires { ⌜ Standing (now nodes) w ⌝ }
+    requires { ⌜ 2 * after n c ≤ length (now nodes) ⌝ }
+    ensures { λ _. ⌜ now (nodes .exit) ≡ placeThree n w c (now (nodes .entry)) ⌝ }
+{
+    place_edge(nodes, c.fm, notes::own_m(n, c), w.q, w.r);
+    place_edge(nodes, c.fu, notes::own_u(n, c), w.p, w.q);
+    place_edge(nodes, c.fv, notes::own_v(n, c), w.r, w.p);
+}
+
+fn place_row(nodes: &mut [i32], tri: &[u32], s: &[u32], n: u32, i: usize)
+    requires { ⌜ n ≤ 65_536 ⌝ }
+    requires { ⌜ 3 * i + 3 ≤ length (now tri) ⌝ }
+    requires { ⌜ i < length (now s) ⌝ }
+    requires { ⌜ Standing (now nodes) (rowAt (now tri) i) ⌝ }
+    requires { ⌜ 2 * after n (noteAt (now s) i) ≤ length (now nodes) ⌝ }
+    ensures { λ _. ⌜ now (nodes .exit) ≡ placeRow n (now (tri .entry)) (now (s .entry)) i (now (nodes .entry)) ⌝ }
+{
+    let w = tables::row_at(tri, i);
+    let c = notes::note_at(s, i);
+    place_three(nodes, w, c, n);
+}
+
+// Every new node gets its place.
+pub fn place_nodes(nodes: &mut [i32], tri: &[u32], s: &[u32], n: u32, t: usize)
+    requires { ⌜ n ≤ 65_536 ⌝ }
+    requires { ⌜ 3 * t ≤ length (now tri) ⌝ }
+    requires { ⌜ t ≤ length (now s) ⌝ }
+    requires { ⌜ ((i : ℕ) → i < t → Standing (now nodes) (rowAt (now tri) i)) ⌝ }
+    requires { ⌜ ((i : ℕ) → i < t → 2 * after n (noteAt (now s) i) ≤ length (now nodes)) ⌝ }
+    ensures { λ _. ⌜ now (nodes .exit) ≡ iter (placeRow n (now (tri .entry)) (now (s .entry))) 0 t (now (nodes .entry)) ⌝ }
+{
+    let mut i = 0;
+    while i < t {
+        place_row(nodes, tri, s, n, i);
+        i += 1;
+    }
+}

@@ -1,0 +1,112 @@
+-- What is packed is read back; the parts in the form of needs. Assumes nothing.
+use mathlib.Core.Path.{_≡_, sym, ap, _∙_}
+use mathlib.Core.Bool.{true, false, _&&_}
+use mathlib.Core.List.{List}
+use Prim.Native.Nat.{ℕ, _+_, _*_, _≤_, _<_}
+use native.Mathlib.Omega.{arith}
+use borrow.Author.Tests.{eq-eqb, ne-eqb}
+use lib.Dec.{eqb}
+use lib.ListN.{length, getD}
+use Rattle.lists.specs.declared.Found.{Found}
+use Rattle.lists.specs.declared.Found.the-variants.{At, Nothing}
+use Rattle.lists.specs.Search.{lowest}
+use Rattle.lists.specs.SearchLaw.{lowest-below}
+use Rattle.meaning.specs.declared.Tri.{Tri}
+use Rattle.meaning.specs.Tables.{rowAt}
+use Rattle.tables.specs.Arrow.{arrowAt}
+use Rattle.tables.specs.Ready.{Ready, ready-sized}
+use Rattle.notes.specs.Notes.{Note, note, packed, unpacked, Tight, noteAt, ownM, ownU, ownV, ownOn, across, midFor, mids, midsAt}
+
+note-path : (x : Note) (a b c d e f k : ℕ) → a ≡ x .m → b ≡ x .u → c ≡ x .v → d ≡ x .fm → e ≡ x .fu → f ≡ x .fv → k ≡ x .before → note a b c d e f k ≡ x
+note-path x a b c d e f k p q r s t u v = rw (p, q, r, s, t, u, v)
+
+pub unpacked-packed : (x : Note) → Tight x → unpacked (packed x) ≡ x
+unfolding unpacked packed
+unpacked-packed x h =
+    note-path x _ _ _ _ _ _ _ (omega arith) (omega arith) (omega arith) (omega arith) (omega arith) (omega arith) (omega arith)
+
+-- ---- the parts of the code, in the form of their needs
+
+pub note-is : (s : List ℕ) (i v : ℕ) (r : Note) → v ≡ getD s i 0 → r ≡ unpacked v → r ≡ noteAt s i
+unfolding noteAt
+note-is s i v r e f = f ∙ ap unpacked e
+
+module _ (n : ℕ) (w : Tri) (c : Note) (x y r : ℕ) where
+  pub on-m : eqb (w .q) x && eqb (w .r) y ≡ true → r ≡ ownM n c → r ≡ ownOn n w c x y
+  unfolding ownOn
+  on-m a e = rw a e
+
+  pub on-u : eqb (w .q) x && eqb (w .r) y ≡ false → eqb (w .p) x && eqb (w .q) y ≡ true → r ≡ ownU n c → r ≡ ownOn n w c x y
+  unfolding ownOn
+  on-u a b e = rw (a, b) e
+
+  pub on-v : eqb (w .q) x && eqb (w .r) y ≡ false → eqb (w .p) x && eqb (w .q) y ≡ false → r ≡ ownV n c → r ≡ ownOn n w c x y
+  unfolding ownOn
+  on-v a b e = rw (a, b) e
+
+pub ruleset owned = (on-m, on-u, on-v)
+
+-- a row that was found below row i is in the table, and its note in scratch
+module _ (s l : List ℕ) (nc i j : ℕ) (f : Found) (x y : ℕ) (a : Ready s nc l i) (b : 3 * i + 3 ≤ length l)
+    (e : f ≡ lowest (arrowAt l x y) 0 i) (g : f ≡ At j) where
+  pub found-row : 3 * j + 3 ≤ length l
+  found-row = let h = lowest-below (arrowAt l x y) i j (sym e ∙ g) in omega arith
+
+  pub found-note : j < length s
+  found-note = let h = lowest-below (arrowAt l x y) i j (sym e ∙ g) in let z = ready-sized s l nc i a in omega arith
+
+pub row-note : (s l : List ℕ) (nc i : ℕ) → Ready s nc l i → 3 * i + 3 ≤ length l → i < length s
+row-note s l nc i a b = let z = ready-sized s l nc i a in omega arith
+
+module _ (n : ℕ) (l s : List ℕ) (i x y : ℕ) (f : Found) (e : f ≡ lowest (arrowAt l y x) 0 i) where
+  pub across-found : (j r : ℕ) (w : Tri) (c : Note) → f ≡ At j → w ≡ rowAt l j → c ≡ noteAt s j → r ≡ ownOn n w c y x → r ≡ across n l s i x y
+  unfolding across
+  across-found j r w c g p q h = h ∙ rw (p, q, ← e, g)
+
+  pub across-none : f ≡ Nothing → 0 ≡ across n l s i x y
+  unfolding across
+  across-none g = rw (← e, g)
+
+module _ (n : ℕ) (l s : List ℕ) (i on fst own x y : ℕ) where
+  pub mid-off : on ≡ 0 → 0 ≡ midFor n l s i on fst own x y
+  unfolding midFor
+  mid-off a = rw (eq-eqb on 0 a)
+
+  pub mid-own : (on ≡ 0 → ⊥) → fst ≡ 1 → own ≡ midFor n l s i on fst own x y
+  unfolding midFor
+  mid-own a b = rw (ne-eqb on 0 a, eq-eqb fst 1 b)
+
+  pub mid-across : (r : ℕ) → (on ≡ 0 → ⊥) → (fst ≡ 1 → ⊥) → r ≡ across n l s i x y → r ≡ midFor n l s i on fst own x y
+  unfolding midFor
+  mid-across r a b e = rw (ne-eqb on 0 a, ne-eqb fst 1 b) e
+
+pub ruleset middle = (mid-off, mid-own, mid-across)
+
+pub mids-path : (a b c d e f : ℕ) → a ≡ d → b ≡ e → c ≡ f → mids a b c ≡ mids d e f
+mids-path a b c d e f x y z = cc
+
+pub mids-are : (n : ℕ) (l s : List ℕ) (i : ℕ) (w : Tri) (c : Note) (a b d m u v : ℕ) → w ≡ rowAt l i → c ≡ noteAt s i →
+    a ≡ ownM n c → m ≡ midFor n l s i (c .m) (c .fm) a (w .q) (w .r) →
+    b ≡ ownU n c → u ≡ midFor n l s i (c .u) (c .fu) b (w .p) (w .q) →
+    d ≡ ownV n c → v ≡ midFor n l s i (c .v) (c .fv) d (w .r) (w .p) → mids m u v ≡ midsAt n l s i
+unfolding midsAt
+mids-are n l s i w c a b d m u v p q e f g h j k =
+    rw (← p, ← q)
+    (mids-path _ _ _ _ _ _
+    (f ∙ ap (λ o. midFor n l s i (c .m) (c .fm) o (w .q) (w .r)) e)
+    (h ∙ ap (λ o. midFor n l s i (c .u) (c .fu) o (w .p) (w .q)) g)
+    (k ∙ ap (λ o. midFor n l s i (c .v) (c .fv) o (w .r) (w .p)) j))
+
+-- ---- six bits
+
+pub record Bits (x : Note) : Type 0 where
+  pub m-bit : x .m ≤ 1
+  pub u-bit : x .u ≤ 1
+  pub v-bit : x .v ≤ 1
+  pub fm-bit : x .fm ≤ 1
+  pub fu-bit : x .fu ≤ 1
+  pub fv-bit : x .fv ≤ 1
+
+pub note-bits : (s : List ℕ) (i : ℕ) → Bits (noteAt s i)
+unfolding noteAt unpacked
+note-bits s i = record { m-bit = omega arith; u-bit = omega arith; v-bit = omega arith; fm-bit = omega arith; fu-bit = omega arith; fv-bit = omega arith }

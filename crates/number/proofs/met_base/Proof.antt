@@ -1,0 +1,16 @@
+use Rattle.number.specs.NumberStep.{base-found, base-alone}
+use borrow.Author.Needs.{needs}
+use Rattle.number.proofs.met_base.Statement.{statement}
+use Rattle.number.proofs.met_base.Tie as tie
+
+returns : tie.Need-returns
+returns c = search (needs, base-found)
+
+returns-2 : tie.Need-returns-2
+returns-2 c = search (needs, base-alone)
+
+pub met-base-spec : {M : Type 1} → statement M
+met-base-spec =
+    tie.close
+    (tie.spec
+    (λ c κs. search needs) (λ c. search needs) (λ c κs. search needs) (λ c. search needs) returns returns-2)

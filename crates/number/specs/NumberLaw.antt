@@ -1,0 +1,560 @@
+-- What the notes say: which edges of a row are in a set, which of these the scan of document 01 meets first in this row, and how many
+-- it has met before. So each row can tell the numbers of its edges: the places in the order of the scan. Assumes nothing.
+use mathlib.Core.Path.{_≡_, refl, sym, ap, _∙_, subst}
+use mathlib.Core.Logic.{_⊎_, inl, inr, ⊎-elim}
+use mathlib.Core.Bool.{Bool, true, false, not, _&&_, _||_}
+use mathlib.Core.List.{List, [], _∷_, _++_, append-assoc, append-nil, List·Memᴰ}
+use mathlib.Core.Option.{Option, none, some}
+use Prim.Native.Nat.{ℕ, zero, suc, _+_, _*_, _%_, _≤_, _<_}
+use native.Mathlib.Omega.{arith}
+use native.Mathlib.Decide.{ℕ-discrete, decLt}
+use borrow.Author.Tests.{eqb-true, eq-eqb, ne-eqb, lt-ltb, le-ltb}
+use lib.Dec.{eqb, ltb}
+use lib.ListN.{length, getD, set, length-set, length-append}
+use lib.Seq.{getD-set-same, getD-set-other}
+use Rattle.lists.specs.declared.Found.{Found}
+use Rattle.lists.specs.declared.Found.the-variants.{At, Nothing}
+use Rattle.lists.specs.Lists.{any, only, consIf, once, joined, upTo, cases}
+use Rattle.lists.specs.ListsLaw.{clash, and-both, and-left, and-right, any-at, any-row, both-ways}
+use Rattle.lists.specs.MembersLaw.{only-in, joined-in}
+use Rattle.lists.specs.Tally.{bit}
+use Rattle.lists.specs.Search.{lowest, items, iter}
+use Rattle.lists.specs.SearchLaw.{lowest-below, lowest-nothing}
+use Rattle.lists.specs.ItemsLaw.{joined-append, items-snoc, items-none, iter-carries}
+use Rattle.lists.specs.ByNumberLaw.{items-in, items-of, items-around, lowest-no, lowest-cut, lowest-past, lowest-none-below}
+use Rattle.lists.specs.AnyLaw.{any-append}
+use Rattle.lists.specs.PartsLaw.{not-so, only-append, consIf-append, in-only, in-joined, where-nowhere}
+use Rattle.meaning.specs.declared.Tri.{Tri}
+use Rattle.meaning.specs.declared.Mids.{Mids}
+use Rattle.meaning.specs.Mesh.{Edge, edge, edges, base, sameEdge}
+use Rattle.meaning.specs.Lawful.{Named}
+use Rattle.meaning.specs.Split.{numberOf}
+use Rattle.meaning.specs.Tables.{rowAt}
+use Rattle.laws.specs.Edges.{edge-comm, sameEdge-eq, sameEdge-refl}
+use Rattle.tables.specs.Arrow.{arrowAt}
+use Rattle.notes.specs.declared.Note.{Note}
+use Rattle.notes.specs.Notes.{note, packed, unpacked, Tight, noteAt, ownM, ownU, ownV, ownOn, across, midFor, mids, midsAt}
+use Rattle.notes.specs.Notes as Noted
+use Rattle.notes.specs.Met as Met
+use Rattle.notes.specs.NotesLaw.{unpacked-packed, mids-path}
+use Rattle.close.specs.Drawn.{onFound}
+use Rattle.close.specs.EdgeLaw.{OnceAt, Side, side-m, side-u, side-v, side-at, side-edge, edge-side, edge-ends, found-is, found-side}
+use Rattle.number.specs.Numbered.{Met, met, baseSplit, metBy, metBase, metAcross, noteBy, noteOf, Numbers, numbers, numberRow}
+use Rattle.number.specs.OnceLaw.{any-once, once-add, once-place}
+
+-- ---- numbers of edges, 0 for none
+
+abbrev pub orZero : Option ℕ → ℕ
+orZero none = 0
+orZero (some k) = k
+
+abbrev pub num : ℕ → List Edge → Edge → ℕ
+num n s e = orZero (numberOf n s e)
+
+-- the numbers of a row's edges
+abbrev pub numsOf : ℕ → List Edge → Tri → Mids
+numsOf n s w = mids (num n s (base w)) (num n s (edge (w .p) (w .q))) (num n s (edge (w .r) (w .p)))
+
+-- ---- a scan of the rows of a table, for the edges of a set
+
+-- as it meets them in the rows below i
+abbrev pub metIn : List ℕ → (Edge → Bool) → ℕ → List Edge
+metIn l mem i = only mem (joined edges (items (rowAt l) 0 i))
+
+-- each once
+abbrev pub scanOf : List ℕ → (Edge → Bool) → ℕ → List Edge
+scanOf l mem i = once sameEdge (only mem (joined edges (items (rowAt l) 0 i)))
+
+-- e is in the set, and not met below row i
+abbrev pub newsIn : List ℕ → (Edge → Bool) → ℕ → Edge → Bool
+newsIn l mem i e = mem e && not (any (sameEdge e) (metIn l mem i))
+
+-- the edges first met in row i
+abbrev pub firstsIn : List ℕ → (Edge → Bool) → ℕ → List Edge
+firstsIn l mem i =
+    consIf (newsIn l mem i (base (rowAt l i))) (base (rowAt l i))
+    (consIf (newsIn l mem i (edge (rowAt l i .p) (rowAt l i .q))) (edge (rowAt l i .p) (rowAt l i .q))
+    (consIf (newsIn l mem i (edge (rowAt l i .r) (rowAt l i .p))) (edge (rowAt l i .r) (rowAt l i .p)) []))
+
+-- what the note of row i is to say
+abbrev pub noteIn : List ℕ → (Edge → Bool) → ℕ → Note
+noteIn l mem i =
+    note (bit (mem (base (rowAt l i)))) (bit (mem (edge (rowAt l i .p) (rowAt l i .q)))) (bit (mem (edge (rowAt l i .r) (rowAt l i .p))))
+    (bit (newsIn l mem i (base (rowAt l i)))) (bit (newsIn l mem i (edge (rowAt l i .p) (rowAt l i .q)))) (bit (newsIn l mem i (edge (rowAt l i .r) (rowAt l i .p))))
+    (length (scanOf l mem i))
+
+-- ---- small laws
+
+met-path : (a b c d : ℕ) → a ≡ c → b ≡ d → met a b ≡ met c d
+met-path a b c d p q = cc
+
+bit-one : (b : Bool) → eqb (bit b) 1 ≡ b
+bit-one true = refl
+bit-one false = refl
+
+cases-bit : (b : Bool) → cases b 1 0 ≡ bit b
+cases-bit true = refl
+cases-bit false = refl
+
+bit-le : (b : Bool) → bit b ≤ 1
+bit-le true = omega arith
+bit-le false = omega arith
+
+and-true : (a : Bool) → a && true ≡ a
+and-true true = refl
+and-true false = refl
+
+length-if : (b : Bool) (e : Edge) → length (consIf b e []) ≡ bit b
+length-if true e = refl
+length-if false e = refl
+
+not-same : (a b c d : ℕ) → (a ≡ c → b ≡ d → ⊥) → (a ≡ d → b ≡ c → ⊥) → sameEdge (edge a b) (edge c d) ≡ false
+not-same a b c d f g =
+    not-so (sameEdge (edge a b) (edge c d))
+    (λ t. ⊎-elim (λ h. f (h .0) (h .1)) (λ h. g (h .0) (h .1)) (edge-ends a b c d (sameEdge-eq (edge a b) (edge c d) t)))
+
+any-if : (e d : Edge) (b : Bool) → sameEdge e d ≡ false → any (sameEdge e) (consIf b d []) ≡ false
+any-if e d true n = rw n
+any-if e d false n = refl
+
+or-false : (a : Bool) → a || false ≡ a
+or-false true = refl
+or-false false = refl
+
+any-still : (e d : Edge) (P : List Edge) (b : Bool) → sameEdge e d ≡ false → any (sameEdge e) (P ++ consIf b d []) ≡ any (sameEdge e) P
+any-still e d P b n = any-append (sameEdge e) P (consIf b d []) ∙ ap (λ (c : Bool). any (sameEdge e) P || c) (any-if e d b n) ∙ or-false (any (sameEdge e) P)
+
+-- where the rows lie in a table, no directed edge occurs twice, the corners of a row differ; a set of edges that with an edge of a row
+-- holds its refinement edge, and holds nothing but refinement edges
+module _ (l : List ℕ) (t n : ℕ) (only-one : OnceAt l t) (named : (i : ℕ) → i < t → Named n (rowAt l i)) (mem : Edge → Bool)
+    (pull : (i : ℕ) (e : Edge) → i < t → List·Memᴰ e (edges (rowAt l i)) → mem e ≡ true → mem (base (rowAt l i)) ≡ true)
+    (held : (e : Edge) → mem e ≡ true → (j : ℕ) × (j < t) × (base (rowAt l j) ≡ e)) where
+  abbrev metTo : ℕ → List Edge
+  metTo i = metIn l mem i
+
+  abbrev scanned : List Edge
+  scanned = scanOf l mem t
+
+  abbrev news : ℕ → Edge → Bool
+  news i e = newsIn l mem i e
+
+  abbrev noteFor : ℕ → Note
+  noteFor i = noteIn l mem i
+
+  abbrev firsts : ℕ → List Edge
+  firsts i = firstsIn l mem i
+
+  -- ---- met before
+
+  one-below : (i : ℕ) → i ≤ t → OnceAt l i
+  one-below i h a b x y p q = only-one a b x y (omega arith) (omega arith)
+
+  -- an edge is met below row i exactly if a row there holds it the other way round
+  met-old : (i j x y : ℕ) → i ≤ t → lowest (arrowAt l y x) 0 i ≡ At j → mem (edge x y) ≡ true → any (sameEdge (edge x y)) (metTo i) ≡ true
+  met-old i j x y h e m =
+      let f = found-side l i (one-below i h) j y x e in
+      let k : List·Memᴰ (edge x y) (edges (rowAt l j)) = subst (λ (d : Edge). List·Memᴰ d (edges (rowAt l j))) (edge-comm y x) (side-edge (rowAt l j) (f .1)) in
+      any-at (sameEdge (edge x y)) (sameEdge-refl (edge x y)) (only-in mem (joined-in edges (items-in (rowAt l) i j (f .0)) k) m)
+
+  met-new : (i x y : ℕ) → i < t → Side (rowAt l i) x y → lowest (arrowAt l y x) 0 i ≡ Nothing → any (sameEdge (edge x y)) (metTo i) ≡ false
+  met-new i x y h s e = not-so (any (sameEdge (edge x y)) (metTo i)) (λ a. go (any-row (sameEdge (edge x y)) (metTo i) a))
+    where
+      side : (d : Edge) (j : ℕ) → j < i → sameEdge (edge x y) d ≡ true → (a : ℕ) × (c : ℕ) × Side (rowAt l j) a c × (d ≡ edge a c) → ⊥
+      side d j b q (a, c, u, g) = ends (edge-ends x y a c (sameEdge-eq (edge x y) d q ∙ g))
+        where
+          ends : ((x ≡ a) × (y ≡ c)) ⊎ ((x ≡ c) × (y ≡ a)) → ⊥
+          ends (inl (p, r)) =
+              let v : i ≡ j = only-one i j x y h (omega arith) (side-at l i s) (rw (p, r) (side-at l j u)) in
+              omega arith
+          ends (inr (p, r)) = clash (sym (rw (p, r) (side-at l j u)) ∙ lowest-nothing (arrowAt l y x) i j e b)
+
+      row : (d : Edge) → sameEdge (edge x y) d ≡ true → (w : Tri) × List·Memᴰ w (items (rowAt l) 0 i) × List·Memᴰ d (edges w) → ⊥
+      row d q (w, k, o) =
+          let r = items-of (rowAt l) i k in
+          side d (r .0) (r .1) q (edge-side (rowAt l (r .0)) d (subst (λ (v : Tri). List·Memᴰ d (edges v)) (r .2) o))
+
+      go : (d : Edge) × List·Memᴰ d (metTo i) × (sameEdge (edge x y) d ≡ true) → ⊥
+      go (d, m, q) = row d q (in-joined edges (items (rowAt l) 0 i) (in-only mem (joined edges (items (rowAt l) 0 i)) m .0))
+
+  -- ---- the parts of a note
+
+  -- the row across is j
+  by-is : (i j x y : ℕ) → i < t → Side (rowAt l i) x y → lowest (arrowAt l y x) 0 t ≡ At j →
+      metBy (bit (mem (edge x y))) j i ≡ met (bit (mem (edge x y))) (bit (news i (edge x y)))
+  unfolding metBy
+  by-is i j x y h s e = go (decLt j i) (mem (edge x y)) refl
+    where
+      go : Dec (j < i) → (b : Bool) → mem (edge x y) ≡ b → cases (ltb j i) (met (bit b) 0) (met (bit b) (bit b)) ≡ met (bit b) (bit (b && not (any (sameEdge (edge x y)) (metTo i))))
+      go (yes a) true q = let m = met-old i j x y (omega arith) (lowest-cut (arrowAt l y x) t i j e a) q in rw (lt-ltb j i a, m)
+      go (yes a) false q = rw (lt-ltb j i a)
+      go (no a) b q =
+          let c : i ≤ j = omega arith in
+          let m = met-new i x y h s (lowest-past (arrowAt l y x) t i j e c) in
+          rw (le-ltb j i c, m, and-true b)
+
+  base-is : (i : ℕ) → i < t → mem (base (rowAt l i)) ≡ true →
+      metBase l t i (rowAt l i .q) (rowAt l i .r) ≡ met (bit (mem (base (rowAt l i)))) (bit (news i (base (rowAt l i))))
+  unfolding metBase
+  base-is i h m = go (lowest (arrowAt l (rowAt l i .r) (rowAt l i .q)) 0 t) refl
+    where
+      go : (w : Found) → lowest (arrowAt l (rowAt l i .r) (rowAt l i .q)) 0 t ≡ w →
+          onFound w (λ j. metBy 1 j i) (met 1 1) ≡ met (bit (mem (base (rowAt l i)))) (bit (news i (base (rowAt l i))))
+      go (At j) e = ap (λ (b : Bool). metBy (bit b) j i) (sym m) ∙ by-is i j (rowAt l i .q) (rowAt l i .r) h side-m e
+      go Nothing e =
+          let f = met-new i (rowAt l i .q) (rowAt l i .r) h side-m (lowest-none-below (arrowAt l (rowAt l i .r) (rowAt l i .q)) t i e (omega arith)) in
+          rw (m, f)
+
+  -- an edge that is not the refinement edge of row i: by the row across
+  module _ (s : List ℕ) (bits : (j : ℕ) → j < t → noteAt s j .m ≡ bit (mem (base (rowAt l j)))) (i x y : ℕ) (h : i < t) (side : Side (rowAt l i) x y)
+      (other : rowAt l i .q ≡ x → rowAt l i .r ≡ y → ⊥) where
+    held-across : mem (edge x y) ≡ true → (j : ℕ) × (lowest (arrowAt l y x) 0 t ≡ At j) × (rowAt l j .q ≡ y) × (rowAt l j .r ≡ x)
+    held-across m = by (held (edge x y) m)
+      where
+        by : (j : ℕ) × (j < t) × (base (rowAt l j) ≡ edge x y) → (j : ℕ) × (lowest (arrowAt l y x) 0 t ≡ At j) × (rowAt l j .q ≡ y) × (rowAt l j .r ≡ x)
+        by (j, k, e) = ends (edge-ends (rowAt l j .q) (rowAt l j .r) x y e)
+          where
+            ends : ((rowAt l j .q ≡ x) × (rowAt l j .r ≡ y)) ⊎ ((rowAt l j .q ≡ y) × (rowAt l j .r ≡ x)) →
+                (j : ℕ) × (lowest (arrowAt l y x) 0 t ≡ At j) × (rowAt l j .q ≡ y) × (rowAt l j .r ≡ x)
+            ends (inl (c, d)) =
+                let q : i ≡ j = only-one i j x y h k (side-at l i side) (rw (← c, ← d) (side-at l j side-m)) in
+                absurd (other (ap (λ (k : ℕ). rowAt l k .q) q ∙ c) (ap (λ (k : ℕ). rowAt l k .r) q ∙ d))
+            ends (inr (c, d)) = (j, rw (← c, ← d) (found-is l t only-one j (rowAt l j .q) (rowAt l j .r) k side-m), c, d)
+
+    split-is : (j : ℕ) → lowest (arrowAt l y x) 0 t ≡ At j → baseSplit (rowAt l j) (noteAt s j .m) y x ≡ bit (mem (edge x y))
+    unfolding baseSplit
+    split-is j e =
+        let b = bits j (lowest-below (arrowAt l y x) t j e) in
+        rw (b, bit-one (mem (base (rowAt l j))))
+        (cases-bit (mem (base (rowAt l j)) && eqb (rowAt l j .q) y && eqb (rowAt l j .r) x)
+        ∙ ap bit (both-ways (mem (base (rowAt l j)) && eqb (rowAt l j .q) y && eqb (rowAt l j .r) x) (mem (edge x y)) there back))
+      where
+        there : mem (base (rowAt l j)) && eqb (rowAt l j .q) y && eqb (rowAt l j .r) x ≡ true → mem (edge x y) ≡ true
+        there a =
+            let a1 = and-left (mem (base (rowAt l j)) && eqb (rowAt l j .q) y) (eqb (rowAt l j .r) x) a in
+            let cr = eqb-true (rowAt l j .r) x (and-right (mem (base (rowAt l j)) && eqb (rowAt l j .q) y) (eqb (rowAt l j .r) x) a) in
+            let cq = eqb-true (rowAt l j .q) y (and-right (mem (base (rowAt l j))) (eqb (rowAt l j .q) y) a1) in
+            let m = and-left (mem (base (rowAt l j))) (eqb (rowAt l j .q) y) a1 in
+            let d : edge (rowAt l j .q) (rowAt l j .r) ≡ edge x y = rw (cq, cr) (edge-comm y x) in
+            subst (λ (k : Edge). mem k ≡ true) d m
+
+        back : mem (edge x y) ≡ true → mem (base (rowAt l j)) && eqb (rowAt l j .q) y && eqb (rowAt l j .r) x ≡ true
+        back m =
+            let r = held-across m in
+            let f : At (r .0) ≡ At j = sym (r .1) ∙ e in
+            let q : r .0 ≡ j = cc in
+            let cq : rowAt l j .q ≡ y = ap (λ (k : ℕ). rowAt l k .q) (sym q) ∙ r .2 in
+            let cr : rowAt l j .r ≡ x = ap (λ (k : ℕ). rowAt l k .r) (sym q) ∙ r .3 in
+            let d : edge x y ≡ edge (rowAt l j .q) (rowAt l j .r) = rw (cq, cr) (edge-comm x y) in
+            and-both (and-both (subst (λ (k : Edge). mem k ≡ true) d m) (eq-eqb (rowAt l j .q) y cq)) (eq-eqb (rowAt l j .r) x cr)
+
+    across-is : metAcross l t s i x y ≡ met (bit (mem (edge x y))) (bit (news i (edge x y)))
+    unfolding metAcross
+    across-is = go (lowest (arrowAt l y x) 0 t) refl
+      where
+        go : (w : Found) → lowest (arrowAt l y x) 0 t ≡ w →
+            onFound w (λ j. metBy (baseSplit (rowAt l j) (noteAt s j .m) y x) j i) (met 0 0) ≡ met (bit (mem (edge x y))) (bit (news i (edge x y)))
+        go (At j) e = ap (λ (b : ℕ). metBy b j i) (split-is j e) ∙ by-is i j x y h side e
+        go Nothing e =
+            let f = not-so (mem (edge x y)) (λ m. let r = held-across m in let c : At (r .0) ≡ Nothing = sym (r .1) ∙ e in let z : _≡_ {A = ℕ} 0 1 = cc in omega arith) in
+            rw f
+
+  -- ---- the note of row i
+
+  of-is : (s : List ℕ) → ((j : ℕ) → j < t → noteAt s j .m ≡ bit (mem (base (rowAt l j)))) → (i : ℕ) → i < t → noteOf l t s i (length (once sameEdge (metTo i))) ≡ noteFor i
+  unfolding noteOf
+  of-is s bits i h = go (mem (base (rowAt l i))) refl
+    where
+      go : (b : Bool) → mem (base (rowAt l i)) ≡ b →
+          cases (eqb (noteAt s i .m) 0) (note 0 0 0 0 0 0 (length (once sameEdge (metTo i))))
+          (noteBy (metBase l t i (rowAt l i .q) (rowAt l i .r)) (metAcross l t s i (rowAt l i .p) (rowAt l i .q)) (metAcross l t s i (rowAt l i .r) (rowAt l i .p))
+          (length (once sameEdge (metTo i)))) ≡ noteFor i
+      go true m =
+          let c = across-is s bits i (rowAt l i .p) (rowAt l i .q) h side-u (λ x y. named i h .p≢q (sym x)) in
+          let d = across-is s bits i (rowAt l i .r) (rowAt l i .p) h side-v (λ x y. named i h .q≢r x) in
+          rw (bits i h, m) (rw (base-is i h m, c, d, m))
+      go false m =
+          let n : (e : Edge) → List·Memᴰ e (edges (rowAt l i)) → mem e ≡ false = λ e k. not-so (mem e) (λ q. clash (sym (pull i e h k q) ∙ m)) in
+          rw (bits i h, m, n (edge (rowAt l i .p) (rowAt l i .q)) (side-edge (rowAt l i) side-u), n (edge (rowAt l i .r) (rowAt l i .p)) (side-edge (rowAt l i) side-v))
+
+  -- ---- one row more
+
+  abbrev afterM : ℕ → List Edge
+  afterM i = metTo i ++ consIf (mem (base (rowAt l i))) (base (rowAt l i)) []
+
+  abbrev afterU : ℕ → List Edge
+  afterU i = afterM i ++ consIf (mem (edge (rowAt l i .p) (rowAt l i .q))) (edge (rowAt l i .p) (rowAt l i .q)) []
+
+  abbrev afterV : ℕ → List Edge
+  afterV i = afterU i ++ consIf (mem (edge (rowAt l i .r) (rowAt l i .p))) (edge (rowAt l i .r) (rowAt l i .p)) []
+
+  if-front : (b : Bool) (e : Edge) (P xs : List Edge) → P ++ consIf b e xs ≡ (P ++ consIf b e []) ++ xs
+  if-front b e P xs = ap (λ (r : List Edge). P ++ r) (consIf-append b e [] xs) ∙ sym (append-assoc P (consIf b e []) xs)
+
+  three : (P A B C : List Edge) (a b c : Bool) (d e f : Edge) → A ≡ P ++ consIf a d [] → B ≡ A ++ consIf b e [] → C ≡ B ++ consIf c f [] →
+      C ≡ P ++ consIf a d (consIf b e (consIf c f []))
+  three P A B C a b c d e f p q r =
+      r ∙ ap (λ (x : List Edge). x ++ consIf c f []) q ∙ sym (if-front b e A (consIf c f []))
+      ∙ ap (λ (x : List Edge). x ++ consIf b e (consIf c f [])) p ∙ sym (if-front a d P (consIf b e (consIf c f [])))
+
+  module _ (i : ℕ) (h : i < t) where
+    abbrev later : List Edge
+    later = only mem (joined edges (items (rowAt l) (i + 1) t))
+
+    split-m : metTo t ≡ metTo i ++ consIf (mem (base (rowAt l i))) (base (rowAt l i))
+        (consIf (mem (edge (rowAt l i .p) (rowAt l i .q))) (edge (rowAt l i .p) (rowAt l i .q))
+        (consIf (mem (edge (rowAt l i .r) (rowAt l i .p))) (edge (rowAt l i .r) (rowAt l i .p)) later))
+    split-m =
+        ap (λ (ts : List Tri). only mem (joined edges ts)) (items-around (rowAt l) t i h)
+        ∙ ap (only mem) (joined-append edges (items (rowAt l) 0 i) (rowAt l i ∷ items (rowAt l) (i + 1) t))
+        ∙ only-append mem (joined edges (items (rowAt l) 0 i)) (joined edges (rowAt l i ∷ items (rowAt l) (i + 1) t))
+
+    split-u : metTo t ≡ afterM i ++ consIf (mem (edge (rowAt l i .p) (rowAt l i .q))) (edge (rowAt l i .p) (rowAt l i .q))
+        (consIf (mem (edge (rowAt l i .r) (rowAt l i .p))) (edge (rowAt l i .r) (rowAt l i .p)) later)
+    split-u = split-m ∙ if-front (mem (base (rowAt l i))) (base (rowAt l i)) (metTo i) _
+
+    split-v : metTo t ≡ afterU i ++ consIf (mem (edge (rowAt l i .r) (rowAt l i .p))) (edge (rowAt l i .r) (rowAt l i .p)) later
+    split-v = split-u ∙ if-front (mem (edge (rowAt l i .p) (rowAt l i .q))) (edge (rowAt l i .p) (rowAt l i .q)) (afterM i) _
+
+    met-next : metTo (i + 1) ≡ afterV i
+    met-next =
+        ap (λ (ts : List Tri). only mem (joined edges ts)) (items-snoc (rowAt l) 0 i (omega arith))
+        ∙ ap (only mem) (joined-append edges (items (rowAt l) 0 i) (rowAt l i ∷ []))
+        ∙ only-append mem (joined edges (items (rowAt l) 0 i)) (joined edges (rowAt l i ∷ []))
+        ∙ if-front (mem (base (rowAt l i))) (base (rowAt l i)) (metTo i) _
+        ∙ if-front (mem (edge (rowAt l i .p) (rowAt l i .q))) (edge (rowAt l i .p) (rowAt l i .q)) (afterM i) _
+
+    -- the edges of a row differ
+    u-m : sameEdge (edge (rowAt l i .p) (rowAt l i .q)) (base (rowAt l i)) ≡ false
+    u-m = not-same (rowAt l i .p) (rowAt l i .q) (rowAt l i .q) (rowAt l i .r) (λ a b. named i h .p≢q a) (λ a b. named i h .r≢p (sym a))
+
+    v-m : sameEdge (edge (rowAt l i .r) (rowAt l i .p)) (base (rowAt l i)) ≡ false
+    v-m = not-same (rowAt l i .r) (rowAt l i .p) (rowAt l i .q) (rowAt l i .r) (λ a b. named i h .q≢r (sym a)) (λ a b. named i h .p≢q b)
+
+    v-u : sameEdge (edge (rowAt l i .r) (rowAt l i .p)) (edge (rowAt l i .p) (rowAt l i .q)) ≡ false
+    v-u = not-same (rowAt l i .r) (rowAt l i .p) (rowAt l i .p) (rowAt l i .q) (λ a b. named i h .r≢p a) (λ a b. named i h .q≢r (sym a))
+
+    any-u : any (sameEdge (edge (rowAt l i .p) (rowAt l i .q))) (afterM i) ≡ any (sameEdge (edge (rowAt l i .p) (rowAt l i .q))) (metTo i)
+    any-u = any-still (edge (rowAt l i .p) (rowAt l i .q)) (base (rowAt l i)) (metTo i) (mem (base (rowAt l i))) u-m
+
+    any-v : any (sameEdge (edge (rowAt l i .r) (rowAt l i .p))) (afterU i) ≡ any (sameEdge (edge (rowAt l i .r) (rowAt l i .p))) (metTo i)
+    any-v =
+        any-still (edge (rowAt l i .r) (rowAt l i .p)) (edge (rowAt l i .p) (rowAt l i .q)) (afterM i) (mem (edge (rowAt l i .p) (rowAt l i .q))) v-u
+        ∙ any-still (edge (rowAt l i .r) (rowAt l i .p)) (base (rowAt l i)) (metTo i) (mem (base (rowAt l i))) v-m
+
+    once-m : once sameEdge (afterM i) ≡ once sameEdge (metTo i) ++ consIf (news i (base (rowAt l i))) (base (rowAt l i)) []
+    once-m = once-add (metTo i) (mem (base (rowAt l i))) (base (rowAt l i))
+
+    once-u : once sameEdge (afterU i) ≡ once sameEdge (afterM i) ++ consIf (news i (edge (rowAt l i .p) (rowAt l i .q))) (edge (rowAt l i .p) (rowAt l i .q)) []
+    once-u = once-add (afterM i) (mem (edge (rowAt l i .p) (rowAt l i .q))) (edge (rowAt l i .p) (rowAt l i .q)) ∙ rw any-u
+
+    once-v : once sameEdge (afterV i) ≡ once sameEdge (afterU i) ++ consIf (news i (edge (rowAt l i .r) (rowAt l i .p))) (edge (rowAt l i .r) (rowAt l i .p)) []
+    once-v = once-add (afterU i) (mem (edge (rowAt l i .r) (rowAt l i .p))) (edge (rowAt l i .r) (rowAt l i .p)) ∙ rw any-v
+
+    -- row i adds the edges first met in it
+    pub firsts-next : once sameEdge (metTo (i + 1)) ≡ once sameEdge (metTo i) ++ firsts i
+    firsts-next =
+        ap (once sameEdge) met-next
+        ∙ three (once sameEdge (metTo i)) (once sameEdge (afterM i)) (once sameEdge (afterU i)) (once sameEdge (afterV i))
+        (news i (base (rowAt l i))) (news i (edge (rowAt l i .p) (rowAt l i .q))) (news i (edge (rowAt l i .r) (rowAt l i .p)))
+        (base (rowAt l i)) (edge (rowAt l i .p) (rowAt l i .q)) (edge (rowAt l i .r) (rowAt l i .p)) once-m once-u once-v
+
+    length-m : length (once sameEdge (afterM i)) ≡ length (once sameEdge (metTo i)) + bit (news i (base (rowAt l i)))
+    length-m = ap length once-m ∙ length-append (once sameEdge (metTo i)) _ ∙ ap (λ (k : ℕ). length (once sameEdge (metTo i)) + k) (length-if (news i (base (rowAt l i))) (base (rowAt l i)))
+
+    length-u : length (once sameEdge (afterU i)) ≡ length (once sameEdge (afterM i)) + bit (news i (edge (rowAt l i .p) (rowAt l i .q)))
+    length-u =
+        ap length once-u ∙ length-append (once sameEdge (afterM i)) _
+        ∙ ap (λ (k : ℕ). length (once sameEdge (afterM i)) + k) (length-if (news i (edge (rowAt l i .p) (rowAt l i .q))) (edge (rowAt l i .p) (rowAt l i .q)))
+
+    length-v : length (once sameEdge (metTo (i + 1))) ≡ length (once sameEdge (afterU i)) + bit (news i (edge (rowAt l i .r) (rowAt l i .p)))
+    length-v =
+        ap (λ (r : List Edge). length (once sameEdge r)) met-next ∙ ap length once-v ∙ length-append (once sameEdge (afterU i)) _
+        ∙ ap (λ (k : ℕ). length (once sameEdge (afterU i)) + k) (length-if (news i (edge (rowAt l i .r) (rowAt l i .p))) (edge (rowAt l i .r) (rowAt l i .p)))
+
+  -- ---- the numbers, from n on
+
+  num-out : (e : Edge) → mem e ≡ false → num n scanned e ≡ 0
+  num-out e q = rw (where-nowhere (sameEdge e) scanned none-there)
+    where
+      none-there : any (sameEdge e) scanned ≡ false
+      none-there = any-once e (metTo t) ∙ not-so (any (sameEdge e) (metTo t)) (λ a. go (any-row (sameEdge e) (metTo t) a))
+        where
+          go : (x : Edge) × List·Memᴰ x (metTo t) × (sameEdge e x ≡ true) → ⊥
+          go (x, i, a) =
+              let m = in-only mem (joined edges (items (rowAt l) 0 t)) i .1 in
+              let f : true ≡ false = sym m ∙ ap mem (sym (sameEdge-eq e x a)) ∙ q in
+              clash f
+
+  num-new : (P Q : List Edge) (e : Edge) → metTo t ≡ P ++ consIf (mem e) e Q → mem e ≡ true → any (sameEdge e) P ≡ false → num n scanned e ≡ n + length (once sameEdge P)
+  num-new P Q e q m a =
+      let f : scanned ≡ once sameEdge (P ++ (e ∷ Q)) = ap (once sameEdge) (q ∙ ap (λ (b : Bool). P ++ consIf b e Q) m) in
+      rw (f, once-place P Q e a)
+
+  not-yes : (b : Bool) → not b ≡ true → b ≡ false
+  not-yes true e = sym e
+  not-yes false e = refl
+
+  news-in : (i : ℕ) (e : Edge) → news i e ≡ true → mem e ≡ true
+  news-in i e a = and-left (mem e) (not (any (sameEdge e) (metTo i))) a
+
+  news-none : (i : ℕ) (e : Edge) → news i e ≡ true → any (sameEdge e) (metTo i) ≡ false
+  news-none i e a = not-yes (any (sameEdge e) (metTo i)) (and-right (mem e) (not (any (sameEdge e) (metTo i))) a)
+
+  -- a row's own numbers
+  module _ (i : ℕ) (h : i < t) where
+    own-m : news i (base (rowAt l i)) ≡ true → ownM n (noteFor i) ≡ num n scanned (base (rowAt l i))
+    own-m a = sym (num-new (metTo i) _ (base (rowAt l i)) (split-m i h) (news-in i (base (rowAt l i)) a) (news-none i (base (rowAt l i)) a))
+
+    own-u : news i (edge (rowAt l i .p) (rowAt l i .q)) ≡ true → ownU n (noteFor i) ≡ num n scanned (edge (rowAt l i .p) (rowAt l i .q))
+    own-u a =
+        let e : Edge = edge (rowAt l i .p) (rowAt l i .q) in
+        let k = num-new (afterM i) _ e (split-u i h) (news-in i e a) (any-u i h ∙ news-none i e a) in
+        let g = length-m i h in
+        let z : ownU n (noteFor i) ≡ n + length (once sameEdge (afterM i)) = omega arith in
+        z ∙ sym k
+
+    own-v : news i (edge (rowAt l i .r) (rowAt l i .p)) ≡ true → ownV n (noteFor i) ≡ num n scanned (edge (rowAt l i .r) (rowAt l i .p))
+    own-v a =
+        let e : Edge = edge (rowAt l i .r) (rowAt l i .p) in
+        let k = num-new (afterU i) _ e (split-v i h) (news-in i e a) (any-v i h ∙ news-none i e a) in
+        let g = length-m i h in
+        let f = length-u i h in
+        let z : ownV n (noteFor i) ≡ n + length (once sameEdge (afterU i)) = omega arith in
+        z ∙ sym k
+
+  own-is : (i : ℕ) → i < t → {x y : ℕ} → Side (rowAt l i) x y → news i (edge x y) ≡ true → ownOn n (rowAt l i) (noteFor i) x y ≡ num n scanned (edge x y)
+  unfolding ownOn
+  own-is i h side-m a = rw (eq-eqb (rowAt l i .q) (rowAt l i .q) refl, eq-eqb (rowAt l i .r) (rowAt l i .r) refl) (own-m i h a)
+  own-is i h side-u a =
+      rw (ne-eqb (rowAt l i .q) (rowAt l i .p) (λ e. named i h .p≢q (sym e)), eq-eqb (rowAt l i .p) (rowAt l i .p) refl, eq-eqb (rowAt l i .q) (rowAt l i .q) refl)
+      (own-u i h a)
+  own-is i h side-v a =
+      rw (ne-eqb (rowAt l i .q) (rowAt l i .r) (named i h .q≢r), ne-eqb (rowAt l i .p) (rowAt l i .r) (λ e. named i h .r≢p (sym e)))
+      (own-v i h a)
+
+  -- where the notes of the rows up to i say what they are to say
+  module _ (s : List ℕ) (i : ℕ) (h : i < t) (notes : (j : ℕ) → j ≤ i → noteAt s j ≡ noteFor j) where
+    -- the edge was met in a lower row, the one across
+    across-num : (x y : ℕ) → Side (rowAt l i) x y → mem (edge x y) ≡ true → any (sameEdge (edge x y)) (metTo i) ≡ true → across n l s i x y ≡ num n scanned (edge x y)
+    unfolding across
+    across-num x y side m a = go (lowest (arrowAt l y x) 0 i) refl
+      where
+        go : (w : Found) → lowest (arrowAt l y x) 0 i ≡ w → Noted.onFound w (λ j. ownOn n (rowAt l j) (noteAt s j) y x) 0 ≡ num n scanned (edge x y)
+        go Nothing e = clash (sym a ∙ met-new i x y h side e)
+        go (At j) e =
+            let f = found-side l i (one-below i (omega arith)) j y x e in
+            let b = f .0 in
+            let first : lowest (arrowAt l x y) 0 j ≡ Nothing =
+            lowest-no (arrowAt l x y) j (λ k u. not-so (arrowAt l x y k) (λ q. let z = only-one k i x y (omega arith) h q (side-at l i side) in omega arith)) in
+            let c : mem (edge y x) ≡ true = ap mem (edge-comm y x) ∙ m in
+            let d : news j (edge y x) ≡ true = and-both c (ap not (met-new j y x (omega arith) (f .1) first)) in
+            ap (λ (w : Note). ownOn n (rowAt l j) w y x) (notes j (omega arith)) ∙ own-is j (omega arith) (f .1) d ∙ ap (num n scanned) (edge-comm y x)
+
+    for-num : (x y own : ℕ) → Side (rowAt l i) x y → (news i (edge x y) ≡ true → own ≡ num n scanned (edge x y)) →
+        midFor n l s i (bit (mem (edge x y))) (bit (news i (edge x y))) own x y ≡ num n scanned (edge x y)
+    unfolding midFor
+    for-num x y own side f = go (mem (edge x y)) refl (any (sameEdge (edge x y)) (metTo i)) refl f
+      where
+        go : (b : Bool) → mem (edge x y) ≡ b → (c : Bool) → any (sameEdge (edge x y)) (metTo i) ≡ c → (b && not c ≡ true → own ≡ num n scanned (edge x y)) →
+            cases (eqb (bit b) 0) 0 (cases (eqb (bit (b && not c)) 1) own (across n l s i x y)) ≡ num n scanned (edge x y)
+        go true m true a g = across-num x y side m a
+        go true m false a g = g refl
+        go false m c a g = sym (num-out (edge x y) m)
+
+    pub mids-num : midsAt n l s i ≡ numsOf n scanned (rowAt l i)
+    unfolding midsAt
+    mids-num =
+        rw (notes i (omega arith))
+        (mids-path _ _ _ _ _ _
+        (for-num (rowAt l i .q) (rowAt l i .r) (ownM n (noteFor i)) side-m (own-m i h))
+        (for-num (rowAt l i .p) (rowAt l i .q) (ownU n (noteFor i)) side-u (own-u i h))
+        (for-num (rowAt l i .r) (rowAt l i .p) (ownV n (noteFor i)) side-v (own-v i h)))
+
+  -- ---- all rows
+
+  -- the sweep has reached row i; N is the length of scratch
+  pub record Reached (N i : ℕ) (st : Numbers) : Type 0 where
+    pub done : (j : ℕ) → j < i → noteAt (st .table) j ≡ noteFor j
+    pub todo : (j : ℕ) → i ≤ j → j < t → noteAt (st .table) j .m ≡ bit (mem (base (rowAt l j)))
+    pub counted : st .count ≡ length (once sameEdge (metTo i))
+    pub few : st .count ≤ 3 * i
+    pub long : length (st .table) ≡ N
+
+  for-tight : (i : ℕ) → length (once sameEdge (metTo i)) ≤ 16_777_216 → Tight (noteFor i)
+  for-tight i k = record {
+    m-bit = bit-le (mem (base (rowAt l i)));
+    u-bit = bit-le (mem (edge (rowAt l i .p) (rowAt l i .q)));
+    v-bit = bit-le (mem (edge (rowAt l i .r) (rowAt l i .p)));
+    fm-bit = bit-le (news i (base (rowAt l i)));
+    fu-bit = bit-le (news i (edge (rowAt l i .p) (rowAt l i .q)));
+    fv-bit = bit-le (news i (edge (rowAt l i .r) (rowAt l i .p)));
+    few = k;
+  }
+
+  module _ (N : ℕ) (long : t ≤ N) (small : 3 * t ≤ 16_777_216) where
+    reach : (i : ℕ) (st : Numbers) → i < t → Reached N i st → Reached N (i + 1) (numberRow l t i st)
+    unfolding numberRow noteAt
+    reach i st h d = rw is (record {
+      done = λ j a. at j a (ℕ-discrete j i);
+      todo = λ j a c. ap (λ (k : ℕ). unpacked k .m) (getD-set-other (st .table) i j (packed (noteFor i)) 0 (omega arith)) ∙ d .todo j (omega arith) c;
+      counted = (let a = length-m i h in let b = length-u i h in let c = length-v i h in let k = d .counted in omega arith);
+      few = (let a = for-tight i few′ in let k = d .few in omega arith);
+      long = length-set (st .table) i (packed (noteFor i)) ∙ d .long;
+    })
+      where
+        few′ : length (once sameEdge (metTo i)) ≤ 16_777_216
+        few′ = let a = d .counted in let b = d .few in omega arith
+
+        bits : (j : ℕ) → j < t → noteAt (st .table) j .m ≡ bit (mem (base (rowAt l j)))
+        bits j g = by (decLt j i)
+          where
+            by : Dec (j < i) → noteAt (st .table) j .m ≡ bit (mem (base (rowAt l j)))
+            by (yes a) = ap (λ (c : Note). c .m) (d .done j a)
+            by (no a) = d .todo j (omega arith) g
+
+        is : noteOf l t (st .table) i (st .count) ≡ noteFor i
+        is = rw (d .counted) (of-is (st .table) bits i h)
+
+        at : (j : ℕ) → j < i + 1 → Dec (j ≡ i) → unpacked (getD (set (st .table) i (packed (noteFor i))) j 0) ≡ noteFor j
+        at j a (yes e) =
+            rw (e, getD-set-same (st .table) i (packed (noteFor i)) 0 (let y = d .long in omega arith)) (unpacked-packed (noteFor i) (for-tight i few′))
+        at j a (no o) = ap unpacked (getD-set-other (st .table) i j (packed (noteFor i)) 0 o) ∙ d .done j (omega arith)
+
+    -- from notes of 1 where a row is split
+    pub reach-all : (s : List ℕ) → length s ≡ N → ((j : ℕ) → j < t → getD s j 0 ≡ bit (mem (base (rowAt l j)))) → Reached N t (iter (numberRow l t) 0 t (numbers s 0))
+    unfolding noteAt unpacked
+    reach-all s e f =
+        iter-carries (numberRow l t) (λ i st. Reached N i st) t (numbers s 0) reach
+        (record {
+          done = λ j a. absurd (omega arith);
+          todo = λ j a c. rw (f j c) (mod-bit (mem (base (rowAt l j))));
+          counted = none-met;
+          few = omega arith;
+          long = e;
+        })
+      where
+        mod-bit : (b : Bool) → bit b % 2 ≡ bit b
+        mod-bit true = refl
+        mod-bit false = refl
+
+        none-met : 0 ≡ length (once sameEdge (metTo 0))
+        none-met = let z : items (rowAt l) 0 0 ≡ [] = items-none (rowAt l) 0 0 (omega arith) in rw z
+
+  -- ---- the scan
+
+  row-met : (s : List ℕ) (i : ℕ) → noteAt s i ≡ noteFor i → Met.metAt l s i ≡ firsts i
+  unfolding Met.metAt
+  row-met s i e =
+      rw (e, bit-one (news i (base (rowAt l i))), bit-one (news i (edge (rowAt l i .p) (rowAt l i .q))), bit-one (news i (edge (rowAt l i .r) (rowAt l i .p))))
+
+  -- where the notes of the rows below i say what they are to say, the edges first met in them are those of the scan
+  pub scan-met : (s : List ℕ) (i : ℕ) → i ≤ t → ((j : ℕ) → j < i → noteAt s j ≡ noteFor j) → Met.metTo l s i ≡ once sameEdge (metTo i)
+  unfolding Met.metTo Met.metAt
+  scan-met s zero h f = rw (items-none (rowAt l) 0 0 (omega arith))
+  scan-met s (suc i) h f =
+      let e : suc i ≡ i + 1 = omega arith in
+      let a : i < t = omega arith in
+      joined-append (Met.metAt l s) (upTo i) (i ∷ [])
+      ∙ ap (λ (r : List Edge). r ++ (Met.metAt l s i ++ [])) (scan-met s i (omega arith) (λ j k. f j (omega arith)))
+      ∙ ap (λ (r : List Edge). once sameEdge (metTo i) ++ r) (append-nil (Met.metAt l s i) ∙ row-met s i (f i (omega arith)))
+      ∙ sym (firsts-next i a) ∙ ap (λ (k : ℕ). once sameEdge (metTo k)) (sym e)

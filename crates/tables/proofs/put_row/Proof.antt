@@ -1,0 +1,27 @@
+use lib.ListN.{length-set}
+use native.Mathlib.Omega.{arith}
+use Rattle.tables.specs.Put.{setRow}
+use borrow.Author.Needs.{needs}
+use Rattle.tables.proofs.put_row.Statement.{statement}
+use Rattle.tables.proofs.put_row.Tie as tie
+
+slice-write-tri-2 : tie.Need-slice-write-tri-2
+slice-write-tri-2 c = simp length-set (omega arith)
+
+slice-write-tri-3 : tie.Need-slice-write-tri-3
+slice-write-tri-3 c = simp length-set (omega arith)
+
+same-length : tie.Need-same-length
+same-length c = simp length-set
+
+returns : tie.Need-returns
+unfolding setRow
+returns c = search needs
+
+pub put-row-spec : {M : Type 1} → statement M
+put-row-spec =
+    tie.close
+    (tie.spec
+    (λ c. search needs) (λ c. search needs) (λ c. search needs) (λ c. search needs) (λ c. search needs)
+    (λ c. search needs) slice-write-tri-2 (λ c. search needs) (λ c. search needs) (λ c. search needs)
+    slice-write-tri-3 same-length returns)

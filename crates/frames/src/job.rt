@@ -78,7 +78,7 @@ fn refine_listed(s: &[u8], nodes: &mut [i32], rows: &mut [u32], scratch: &mut [u
     let mut marks = [0u8; 1024];
     mark_listed(&mut marks, s);
     let t = desk.t;
-    let a = calls::refine(nodes, rows, scratch, &marks[..t], desk.n0, desk.n, t);
+    let a = mesh::refine(nodes, rows, scratch, &marks[..t], desk.n0, desk.n, t);
     let written = text::put_answer(out, 4, a);
     Done { desk: Desk { n: a.n, t: a.t, n0: desk.n0, accepted: desk.accepted }, written }
 }

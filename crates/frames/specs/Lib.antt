@@ -14,3 +14,4 @@ pub mod LineLaw
 pub mod Reader
 pub mod ReaderLaw
 pub mod Within
+pub mod Stays

@@ -15,3 +15,4 @@ pub mod Reader
 pub mod ReaderLaw
 pub mod Within
 pub mod Stays
+pub mod Spoken

@@ -63,8 +63,8 @@ length-shown h =
 
 -- ---- a step's text
 
-record Short (s : Step) : Type 0 where
-  few : length (s .text) ≤ 32768
+pub record Short (s : Step) : Type 0 where
+  pub few : length (s .text) ≤ 32768
 
 either : (b : Bool) {x y : Step} → Short x → Short y → Short (cases b x y)
 either true p q = p
@@ -150,7 +150,7 @@ module _ (h : Held) (l : List ℕ) where
     unfolding frame
     short-frame kind = either (leb kind 3) (short-base kind) (either (leb kind 6) (short-job kind) (either (eqb kind 7) short-show (short-ff h)))
 
-short-line : (h : Held) (l : List ℕ) → h .desk .n ≤ 512 → h .desk .t ≤ 1024 → Short (lineStep h l)
+pub short-line : (h : Held) (l : List ℕ) → h .desk .n ≤ 512 → h .desk .t ≤ 1024 → Short (lineStep h l)
 unfolding lineStep
 short-line h l a b = either (wellFormed l) (short-frame h (drop 2 l) a b (number 2 l 0)) (short-ff h)
 

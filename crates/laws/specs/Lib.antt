@@ -20,4 +20,5 @@ pub mod Coarsen
 pub mod Restore
 pub mod Good
 pub mod CoarsenCalls
+pub mod EdgeArrow
 pub mod OneOutcome

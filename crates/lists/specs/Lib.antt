@@ -11,3 +11,6 @@ pub mod ItemsLaw
 pub mod ByNumberLaw
 pub mod PartsLaw
 pub mod AnyLaw
+pub mod Loops
+pub mod LoopsLaw
+pub mod ChainLaw

@@ -39,6 +39,7 @@ pub record Fit (nl tl sl n0 n t : ℕ) : Type 0 where
   pub nodes : 2 * n ≤ nl
   pub rows : 3 * t ≤ tl
   pub base : n0 ≤ n
+  pub few : nl / 2 ≤ 1024
 
 pub fit : (nl tl sl n0 n t : ℕ) → fitting nl tl sl n0 n t ≡ true → Fit nl tl sl n0 n t
 unfolding fitting
@@ -65,4 +66,5 @@ fit nl tl sl n0 n t e =
       nodes = omega arith;
       rows = omega arith;
       base = h7;
+      few = h3;
     }

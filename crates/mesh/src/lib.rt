@@ -3,12 +3,13 @@ ghost use mathlib.Core.Path.{_≡_};
 ghost use lib.ListN.{length, replicate};
 ghost use Rattle.meaning.specs.Tables.{given, outcome};
 ghost use Rattle.meaning.specs.Split.{newest};
-ghost use Rattle.meaning.specs.Calls.{checkOut, refineOut};
+ghost use Rattle.meaning.specs.Calls.{checkOut, refineOut, coarsenOut};
 ghost use Rattle.mesh.specs.Sizes.{fitting};
 ghost use Rattle.mesh.specs.Check.{checkNumber};
 use meaning::Answer;
 
 mod refining; // refining.rt: the steps of refine
+mod coarsening; // coarsening.rt: the steps of coarsen
 
 // Not 1, for tables and scratch of these lengths.
 pub fn sizes_fit(nl: usize, tl: usize, sl: usize, n0: usize, n: usize, t: usize) -> bool
@@ -71,6 +72,24 @@ pub fn refine(
 {
     tables::clear(scratch);
     let a = refining::work(nodes, tri, scratch, marks, n0, n, t);
+    tables::clear(scratch);
+    a
+}
+
+// Coarsen: the nodes that are marked and good go. A refusal changes no node, row or mark.
+pub fn coarsen(
+    nodes: &mut [i32],
+    tri: &mut [u32],
+    scratch: &mut [u32],
+    marks: &[u8],
+    n0: usize,
+    n: usize,
+    t: usize,
+) -> Answer
+    ensures { λ r. ⌜ outcome r (now (nodes .exit)) (now (tri .exit)) (now (scratch .exit)) ≡ coarsenOut (given (now (nodes .entry)) (now (tri .entry)) (now (scratch .entry)) n t) n0 (now (marks .entry)) ⌝ }
+{
+    tables::clear(scratch);
+    let a = coarsening::work(nodes, tri, scratch, marks, n0, n, t);
     tables::clear(scratch);
     a
 }

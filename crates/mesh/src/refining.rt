@@ -39,8 +39,8 @@ fn first_high(marks: &[u8]) -> Found
     Found::Nothing
 }
 
-// Not 2: a byte for each of k rows, and none above 1.
-fn marks_fit(marks: &[u8], k: usize) -> bool
+// Not 2: a byte for each of k rows, or of k nodes, and none above 1.
+pub fn marks_fit(marks: &[u8], k: usize) -> bool
     ensures { λ r. ⌜ r ≡ marksFit k (now (marks .entry)) ⌝ }
 {
     (marks.len() == k) & !tables::is_found(first_high(marks))

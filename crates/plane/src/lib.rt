@@ -1,8 +1,9 @@
 // Coordinates: the range of a place, twice-areas.
 ghost use mathlib.Core.Path.{_≡_};
-ghost use lib.IntN.{_-ℤ_, _*ℤ_};
+ghost use lib.IntN.{_+ℤ_, _-ℤ_, _*ℤ_};
 ghost use Rattle.meaning.specs.Mesh.{turn};
 ghost use Rattle.meaning.specs.Lawful.{InRange, far, outside};
+ghost use Rattle.meaning.specs.Good.{sameZ, isMiddle};
 ghost use Rattle.plane.specs.Plane.{Short, Spans, flatTri};
 use meaning::Place;
 
@@ -61,4 +62,18 @@ pub fn outside(a: Place) -> bool
     ensures { λ r. ⌜ r ≡ outside a ⌝ }
 {
     far(a.x) | far(a.y)
+}
+
+// z is half of b + c, exactly.
+fn halves(z: i32, b: i32, c: i32) -> bool
+    ensures { λ r. ⌜ r ≡ sameZ (z +ℤ z) (b +ℤ c) ⌝ }
+{
+    (z as i64) + (z as i64) == (b as i64) + (c as i64)
+}
+
+// G3: m is the exact midpoint of a and b.
+pub fn is_middle(m: Place, a: Place, b: Place) -> bool
+    ensures { λ r. ⌜ r ≡ isMiddle m a b ⌝ }
+{
+    halves(m.x, a.x, b.x) & halves(m.y, a.y, b.y)
 }

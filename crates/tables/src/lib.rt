@@ -79,12 +79,12 @@ pub fn clear_rows_from(tri: &mut [u32], t: usize)
     clear(&mut tri[3 * t..]);
 }
 
-fn clear_signed(s: &mut [i32])
-    ensures { λ _. ⌜ now (s .exit) ≡ replicate (length (now (s .entry))) (pos 0) ⌝ }
+fn clear_signed(places: &mut [i32])
+    ensures { λ _. ⌜ now (places .exit) ≡ replicate (length (now (places .entry))) (pos 0) ⌝ }
 {
     let mut i = 0;
-    while i < s.len() {
-        s[i] = 0;
+    while i < places.len() {
+        places[i] = 0;
         i += 1;
     }
 }
@@ -148,7 +148,7 @@ pub fn is_found(f: Found) -> bool
 }
 
 // The row has the directed edge x→y.
-fn has_edge(w: Tri, x: u32, y: u32) -> bool
+pub fn has_edge(w: Tri, x: u32, y: u32) -> bool
     ensures { λ r. ⌜ r ≡ holdsArrow (arrow x y) w ⌝ }
 {
     (x == w.p) & (y == w.q) | (x == w.q) & (y == w.r) | (x == w.r) & (y == w.p)

@@ -1,0 +1,12 @@
+use Rattle.gather.specs.Needs.{items-count, nodes-closed}
+use borrow.Author.Needs.{needs}
+use Rattle.gather.proofs.close_nodes.Statement.{statement}
+use Rattle.gather.proofs.close_nodes.Tie as tie
+
+returns : tie.Need-returns
+returns c = (search (needs, items-count), search (needs, nodes-closed))
+
+pub close-nodes-spec : {M : Type 1} → statement M
+close-nodes-spec =
+    tie.close (tie.spec
+    (λ c κs. search needs) (λ c κs. search needs) (λ c. search needs) returns)

@@ -1,0 +1,12 @@
+use Rattle.good.specs.Pair.{closing}
+use borrow.Author.Needs.{needs}
+use Rattle.good.proofs.closing.Statement.{statement}
+use Rattle.good.proofs.closing.Tie as tie
+
+returns : tie.Need-returns
+unfolding closing
+returns c = cc
+
+pub closing-spec : {M : Type 1} → statement M
+closing-spec = tie.close (tie.spec
+    (λ c κs. search needs) returns)

@@ -1,0 +1,42 @@
+use Rattle.good.specs.RivalNeeds.{note-in}
+use Rattle.good.specs.RivalLaw.{Walk, walk-start, walk-note, walk-next, walk-hit, walk-on, walk-less, walk-over}
+use Rattle.lists.specs.ChainLaw.{ahead}
+use Rattle.good.specs.Meshes.{meshAt}
+use borrow.Author.Needs.{needs}
+use Rattle.good.proofs.find_rival.Statement.{statement}
+use Rattle.good.proofs.find_rival.Tie as tie
+
+abbrev Inv-loop : tie.InvT-loop
+Inv-loop nodes tri s nc n0 n t z v b k₀ k = Walk n0 (meshAt nodes tri n t) n t z k
+
+abbrev μ-loop : tie.MeasureT-loop
+μ-loop nodes tri s nc n0 n t z v b k₀ k = ahead n k
+
+loop-holds : tie.Need-loop-holds Inv-loop μ-loop
+loop-holds c = search (needs, walk-start)
+
+rival-requires : tie.Need-rival-requires Inv-loop μ-loop
+rival-requires c κs = (search needs, search (needs, walk-note))
+
+returns : tie.Need-returns Inv-loop μ-loop
+returns c = search (needs, walk-hit)
+
+note-at-requires-3 : tie.Need-note-at-requires-3 Inv-loop μ-loop
+note-at-requires-3 c κs = search (needs, walk-next)
+
+loop-less : tie.Need-loop-less Inv-loop μ-loop
+loop-less c = search (needs, walk-less)
+
+loop-again : tie.Need-loop-again Inv-loop μ-loop
+loop-again c = search (needs, walk-on)
+
+returns-2 : tie.Need-returns-2 Inv-loop μ-loop
+returns-2 c = search (needs, walk-over)
+
+pub find-rival-spec : {M : Type 1} → statement M
+find-rival-spec =
+    tie.close
+    (tie.spec
+    Inv-loop μ-loop (λ c. search needs) (λ c κs. search needs) (λ c κs. search needs) (λ c. search needs)
+    (λ c. search needs) (λ c κs. search needs) loop-holds (λ c κs. search needs) rival-requires returns
+    note-at-requires-3 loop-less loop-again returns-2)

@@ -1,0 +1,18 @@
+use Rattle.mesh.specs.CoarsenLaw.{coarsened-call}
+use Rattle.mesh.specs.Check.{zeroed}
+use borrow.Author.Needs.{needs}
+use Rattle.mesh.proofs.coarsen.Statement.{statement}
+use Rattle.mesh.proofs.coarsen.Tie as tie
+
+work-requires : tie.Need-work-requires
+work-requires c κs = search (needs, zeroed)
+
+returns : tie.Need-returns
+returns c = search (needs, coarsened-call)
+
+pub coarsen-spec : {M : Type 1} → statement M
+coarsen-spec =
+    tie.close
+    (tie.spec
+    (λ c κs. search needs) work-requires (λ c κs. search needs) (λ c. search needs) (λ c. search needs)
+    (λ c. search needs) returns)

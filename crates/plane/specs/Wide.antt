@@ -1,0 +1,45 @@
+-- 32-bit numbers in 64 bits: they and their sums fit; equal bits are equal numbers. Assumes nothing.
+use mathlib.Core.Path.{_≡_, refl, sym, ap, _∙_}
+use mathlib.Core.Bool.{Bool, true, false, not, _&&_}
+use Prim.Native.Nat.{ℕ, _+_, _≤_, _<_, _^_}
+use native.Mathlib.Omega.{arith}
+use borrow.Author.Tests.{eqb-true, eqb-false, eq-eqb}
+use lib.Dec.{eqb}
+use lib.IntN.{ℤ, pos, natAbs, _+ℤ_}
+use lib.Signed.{leZ, ltZ, mag, natAbs-le}
+use mir.Syntax.{w32, w64}
+use mir.Val.{SFits, ofZ, hbits}
+use Rattle.whole.specs.Bound.{abs-add, fits-abs}
+use Rattle.whole.specs.Diff.{onℤ}
+use Rattle.whole.specs.Tests.{tests, ofZ-inj}
+
+pub wide : (z : ℤ) → SFits w32 z → SFits w64 z
+wide z h = record { sfits = omega (arith, h .sfits) }
+
+pub wide-sum : (a b : ℤ) → SFits w32 a → SFits w32 b → SFits w64 (a +ℤ b)
+wide-sum a b f g = fits-abs w64 (abs-add a b (natAbs-le a (f .sfits)) (natAbs-le b (g .sfits))) tt
+
+same-yes : (a b : ℤ) → a ≡ b → leZ a b && leZ b a ≡ true
+same-yes a b e =
+    let p : leZ a b ≡ true = omega (arith, onℤ, tests) in
+    let q : leZ b a ≡ true = omega (arith, onℤ, tests) in
+    rw (p, q)
+
+both : (x y : Bool) → x && y ≡ true → (x ≡ true) × (y ≡ true)
+both true y e = (refl, e)
+both false y e = (e, absurd (let z : _≡_ {A = ℕ} 0 1 = cc in omega arith))
+
+same-eq : (a b : ℤ) → leZ a b && leZ b a ≡ true → a ≡ b
+same-eq a b e =
+    let h = both (leZ a b) (leZ b a) e in
+    let p = h .0 in
+    let q = h .1 in
+    omega (arith, onℤ, tests)
+
+pub same-bits : (a b : ℤ) → SFits w64 a → SFits w64 b → eqb (ofZ w64 a) (ofZ w64 b) ≡ leZ a b && leZ b a
+same-bits a b f g = go (eqb (ofZ w64 a) (ofZ w64 b)) (leZ a b && leZ b a) refl refl
+  where
+    go : (x y : Bool) → eqb (ofZ w64 a) (ofZ w64 b) ≡ x → leZ a b && leZ b a ≡ y → x ≡ y
+    go true y e h = sym (same-yes a b (ofZ-inj f g (eqb-true (ofZ w64 a) (ofZ w64 b) e))) ∙ h
+    go false true e h = absurd (eqb-false (ofZ w64 a) (ofZ w64 b) e (ap (ofZ w64) (same-eq a b h)))
+    go false false e h = refl

@@ -97,7 +97,7 @@ fn coarsen_listed(s: &[u8], nodes: &mut [i32], rows: &mut [u32], scratch: &mut [
     let mut marks = [0u8; 512];
     mark_listed(&mut marks, s);
     let n = desk.n;
-    let a = calls::coarsen(nodes, rows, scratch, &marks[..n], desk.n0, n, desk.t);
+    let a = mesh::coarsen(nodes, rows, scratch, &marks[..n], desk.n0, n, desk.t);
     let written = text::put_answer(out, 5, a);
     Done { desk: Desk { n: a.n, t: a.t, n0: desk.n0, accepted: desk.accepted }, written }
 }

@@ -1,10 +1,9 @@
 // The line program of document 01: what one line does to the tables and what it writes, and the reader that cuts bytes into lines.
 mod base;
-mod calls;
 pub mod digits;
-mod job;
 pub mod reader;
 pub mod text;
+mod work;
 
 ghost use mathlib.Core.Path.{_≡_};
 ghost use Prim.Native.Nat.{ℕ};
@@ -55,7 +54,7 @@ fn frame(kind: u32, s: &[u8], nodes: &mut [i32], rows: &mut [u32], scratch: &mut
         return base::base_frame(kind, s, nodes, rows, scratch, desk, out);
     }
     if kind <= 6 {
-        return job::job_frame(kind, s, nodes, rows, scratch, desk, out);
+        return work::job_frame(kind, s, nodes, rows, scratch, desk, out);
     }
     if kind == 7 {
         return show_all(s, nodes, rows, scratch, desk, out);

@@ -1,7 +1,7 @@
 use Rattle.frames.specs.JobLaw.{job-early, job-refine, job-coarsen, job-restore, job-other}
 use borrow.Author.Needs.{needs}
-use Rattle.frames.proofs.job.job_frame.Statement.{statement}
-use Rattle.frames.proofs.job.job_frame.Tie as tie
+use Rattle.frames.proofs.work.job_frame.Statement.{statement}
+use Rattle.frames.proofs.work.job_frame.Tie as tie
 
 returns : tie.Need-returns
 returns c = search (needs, job-early)

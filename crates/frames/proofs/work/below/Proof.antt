@@ -1,7 +1,7 @@
 use Rattle.frames.specs.JobLaw.{below-is}
 use borrow.Author.Needs.{needs}
-use Rattle.frames.proofs.job.below.Statement.{statement}
-use Rattle.frames.proofs.job.below.Tie as tie
+use Rattle.frames.proofs.work.below.Statement.{statement}
+use Rattle.frames.proofs.work.below.Tie as tie
 
 returns : tie.Need-returns
 returns c = search (needs, below-is)

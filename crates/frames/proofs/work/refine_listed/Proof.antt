@@ -1,8 +1,8 @@
 use Rattle.frames.specs.JobLaw.{marked-count}
 use Rattle.frames.specs.JobLaw.{refine-odd, refine-high, refine-done}
 use borrow.Author.Needs.{needs}
-use Rattle.frames.proofs.job.refine_listed.Statement.{statement}
-use Rattle.frames.proofs.job.refine_listed.Tie as tie
+use Rattle.frames.proofs.work.refine_listed.Statement.{statement}
+use Rattle.frames.proofs.work.refine_listed.Tie as tie
 
 returns : tie.Need-returns
 returns c = search (needs, refine-odd)

@@ -1,7 +1,7 @@
 use Rattle.frames.specs.JobLaw.{restore-long, restore-done}
 use borrow.Author.Needs.{needs}
-use Rattle.frames.proofs.job.restore_base.Statement.{statement}
-use Rattle.frames.proofs.job.restore_base.Tie as tie
+use Rattle.frames.proofs.work.restore_base.Statement.{statement}
+use Rattle.frames.proofs.work.restore_base.Tie as tie
 
 returns : tie.Need-returns
 returns c = search (needs, restore-long)

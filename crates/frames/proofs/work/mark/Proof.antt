@@ -1,7 +1,7 @@
 use Rattle.frames.specs.JobLaw.{mark-in, mark-out}
 use borrow.Author.Needs.{needs}
-use Rattle.frames.proofs.job.mark.Statement.{statement}
-use Rattle.frames.proofs.job.mark.Tie as tie
+use Rattle.frames.proofs.work.mark.Statement.{statement}
+use Rattle.frames.proofs.work.mark.Tie as tie
 
 returns : tie.Need-returns
 returns c = search (needs, mark-in)

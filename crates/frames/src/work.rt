@@ -11,7 +11,6 @@ ghost use Rattle.frames.specs.JobLaw.{markOne};
 ghost use Rattle.frames.specs.Left.{left, leaves, Whole};
 use crate::Desk;
 use crate::Done;
-use crate::calls;
 use crate::digits;
 use crate::text;
 
@@ -110,7 +109,7 @@ fn restore_base(s: &[u8], nodes: &mut [i32], rows: &mut [u32], scratch: &mut [u3
     if s.len() != 0 {
         return Done { desk, written: text::put_ff(out) };
     }
-    let a = calls::restore(nodes, rows, scratch, desk.n0, desk.n, desk.t);
+    let a = job::restore(nodes, rows, scratch, desk.n0, desk.n, desk.t);
     let written = text::put_answer(out, 6, a);
     Done { desk: Desk { n: a.n, t: a.t, n0: desk.n0, accepted: desk.accepted }, written }
 }

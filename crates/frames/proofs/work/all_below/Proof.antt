@@ -6,8 +6,8 @@ use lib.ListN.{length}
 use Prim.Native.Nat.{_≤_, _-_, _/_}
 use mathlib.Core.Path.{_≡_}
 use borrow.Author.Needs.{needs}
-use Rattle.frames.proofs.job.all_below.Statement.{statement}
-use Rattle.frames.proofs.job.all_below.Tie as tie
+use Rattle.frames.proofs.work.all_below.Statement.{statement}
+use Rattle.frames.proofs.work.all_below.Tie as tie
 
 abbrev Inv-loop : tie.InvT-loop
 Inv-loop s end count i₀ i = (count ≡ length s / 4) × (i ≤ count) × (allBelow end (items (field 4 s) i (length s / 4)) ≡ allBelow end (listed s))

@@ -1,8 +1,8 @@
 use Rattle.frames.specs.JobLaw.{marked-count}
 use Rattle.frames.specs.JobLaw.{coarsen-odd, coarsen-high, coarsen-done}
 use borrow.Author.Needs.{needs}
-use Rattle.frames.proofs.job.coarsen_listed.Statement.{statement}
-use Rattle.frames.proofs.job.coarsen_listed.Tie as tie
+use Rattle.frames.proofs.work.coarsen_listed.Statement.{statement}
+use Rattle.frames.proofs.work.coarsen_listed.Tie as tie
 
 returns : tie.Need-returns
 returns c = search (needs, coarsen-odd)

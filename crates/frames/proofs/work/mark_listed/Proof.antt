@@ -5,8 +5,8 @@ use lib.ListN.{length}
 use Prim.Native.Nat.{_≤_, _-_, _/_}
 use mathlib.Core.Path.{_≡_}
 use borrow.Author.Needs.{needs}
-use Rattle.frames.proofs.job.mark_listed.Statement.{statement}
-use Rattle.frames.proofs.job.mark_listed.Tie as tie
+use Rattle.frames.proofs.work.mark_listed.Statement.{statement}
+use Rattle.frames.proofs.work.mark_listed.Tie as tie
 
 abbrev Inv-loop : tie.InvT-loop
 Inv-loop marks₀ s count i₀ marks i = (length marks ≡ length marks₀) × (count ≡ length s / 4) × (i ≤ length s / 4) × (iter (markOne s) i (length s / 4) marks ≡ iter (markOne s) 0 (length s / 4) marks₀)

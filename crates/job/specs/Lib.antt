@@ -1,3 +1,4 @@
 pub mod Pass
 pub mod StillLaw
 pub mod PassLaw
+pub mod Demand3Calls

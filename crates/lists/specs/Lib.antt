@@ -6,6 +6,7 @@ pub mod Search
 pub mod SearchLaw
 pub mod IterLaw
 pub mod FillLaw
+pub mod AllLaw
 pub mod ItemsLaw
 pub mod ByNumberLaw
 pub mod PartsLaw

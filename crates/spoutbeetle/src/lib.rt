@@ -1,7 +1,8 @@
-// The calls for programs in other languages. A slice passes as a pointer and a length.
+// The calls for programs in other languages. A slice passes as a pointer and a length; counts pass by reference and are the new ones after.
 ghost use mathlib.Core.Path.{_≡_};
+ghost use Rattle.meaning.specs.Split.{newest};
 ghost use Rattle.meaning.specs.Tables.{given, outcome, answer};
-ghost use Rattle.meaning.specs.Calls.{checkOut};
+ghost use Rattle.meaning.specs.Calls.{checkOut, refineOut, coarsenOut, restoreOut};
 
 // The base check's number.
 #[no_mangle]
@@ -15,5 +16,63 @@ pub extern "C" fn spoutbeetle_check(
     ensures { λ r. ⌜ outcome (answer r n t 0) (now (nodes .exit)) (now (rows .exit)) (now (scratch .exit)) ≡ checkOut (given (now (nodes .entry)) (now (rows .entry)) (now (scratch .entry)) n t) ⌝ }
 {
     let a = mesh::check(nodes, rows, scratch, n, t);
+    a.number
+}
+
+// Refine's number.
+#[no_mangle]
+pub extern "C" fn spoutbeetle_refine(
+    nodes: &mut [i32],
+    rows: &mut [u32],
+    scratch: &mut [u32],
+    marks: &[u8],
+    n0: usize,
+    n: &mut usize,
+    t: &mut usize,
+) -> u32
+    ensures { λ r. ⌜ outcome (answer r (now (n .exit)) (now (t .exit)) 0) (now (nodes .exit)) (now (rows .exit)) (now (scratch .exit)) ≡ refineOut newest (given (now (nodes .entry)) (now (rows .entry)) (now (scratch .entry)) (now (n .entry)) (now (t .entry))) n0 (now (marks .entry)) ⌝ }
+{
+    let a = mesh::refine(nodes, rows, scratch, marks, n0, *n, *t);
+    *n = a.n;
+    *t = a.t;
+    a.number
+}
+
+// Coarsen's number.
+#[no_mangle]
+pub extern "C" fn spoutbeetle_coarsen(
+    nodes: &mut [i32],
+    rows: &mut [u32],
+    scratch: &mut [u32],
+    marks: &[u8],
+    n0: usize,
+    n: &mut usize,
+    t: &mut usize,
+) -> u32
+    ensures { λ r. ⌜ outcome (answer r (now (n .exit)) (now (t .exit)) 0) (now (nodes .exit)) (now (rows .exit)) (now (scratch .exit)) ≡ coarsenOut (given (now (nodes .entry)) (now (rows .entry)) (now (scratch .entry)) (now (n .entry)) (now (t .entry))) n0 (now (marks .entry)) ⌝ }
+{
+    let a = mesh::coarsen(nodes, rows, scratch, marks, n0, *n, *t);
+    *n = a.n;
+    *t = a.t;
+    a.number
+}
+
+// Restore's number; the passes it made are left behind `passes`.
+#[no_mangle]
+pub extern "C" fn spoutbeetle_restore(
+    nodes: &mut [i32],
+    rows: &mut [u32],
+    scratch: &mut [u32],
+    n0: usize,
+    n: &mut usize,
+    t: &mut usize,
+    passes: &mut usize,
+) -> u32
+    ensures { λ r. ⌜ outcome (answer r (now (n .exit)) (now (t .exit)) (now (passes .exit))) (now (nodes .exit)) (now (rows .exit)) (now (scratch .exit)) ≡ restoreOut (given (now (nodes .entry)) (now (rows .entry)) (now (scratch .entry)) (now (n .entry)) (now (t .entry))) n0 ⌝ }
+{
+    let a = job::restore(nodes, rows, scratch, n0, *n, *t);
+    *n = a.n;
+    *t = a.t;
+    *passes = a.passes;
     a.number
 }

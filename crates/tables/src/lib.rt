@@ -79,12 +79,12 @@ pub fn clear_rows_from(tri: &mut [u32], t: usize)
     clear(&mut tri[3 * t..]);
 }
 
-fn clear_signed(s: &mut [i32])
-    ensures { λ _. ⌜ now (s .exit) ≡ replicate (length (now (s .entry))) (pos 0) ⌝ }
+fn clear_signed(places: &mut [i32])
+    ensures { λ _. ⌜ now (places .exit) ≡ replicate (length (now (places .entry))) (pos 0) ⌝ }
 {
     let mut i = 0;
-    while i < s.len() {
-        s[i] = 0;
+    while i < places.len() {
+        places[i] = 0;
         i += 1;
     }
 }

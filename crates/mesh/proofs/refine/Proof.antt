@@ -4,9 +4,6 @@ use borrow.Author.Needs.{needs}
 use Rattle.mesh.proofs.refine.Statement.{statement}
 use Rattle.mesh.proofs.refine.Tie as tie
 
-work-requires : tie.Need-work-requires
-work-requires c κs = search (needs, zeroed)
-
 returns : tie.Need-returns
 returns c = search (needs, refined-call)
 
@@ -14,5 +11,5 @@ pub refine-spec : {M : Type 1} → statement M
 refine-spec =
     tie.close
     (tie.spec
-    (λ c κs. search needs) work-requires (λ c κs. search needs) (λ c. search needs) (λ c. search needs)
+    (λ c κs. search needs) (λ c κs. search (needs, zeroed)) (λ c κs. search needs) (λ c. search needs) (λ c. search needs)
     (λ c. search needs) returns)

@@ -1,0 +1,50 @@
+-- Document 01, 'The line program': all that is written for a whole input. Assumes nothing.
+use mathlib.Core.Bool.{Bool, true, false}
+use mathlib.Core.List.{List, [], _∷_, _++_}
+use Prim.Native.Nat.{ℕ}
+use lib.Dec.{eqb}
+use lib.IntN.{pos}
+use lib.ListN.{replicate}
+use Rattle.frames.specs.Digits.{bytes}
+use Rattle.frames.specs.Frames.{Held, held, desk, Step, ff, lineStep}
+
+-- "one frame a line, .. ended by byte 0x0A": a line without that byte; or the last one, if it has none
+pub data Line : Type 0 where
+  whole : List ℕ → Line
+  endless : Line
+
+abbrev pub before : ℕ → List Line → List Line
+before b [] = endless ∷ []
+before b (whole l ∷ ls) = whole (b ∷ l) ∷ ls
+before b (endless ∷ ls) = endless ∷ ls
+
+abbrev pub addByte : Bool → ℕ → List Line → List Line
+addByte true b ls = whole [] ∷ ls
+addByte false b ls = before b ls
+
+abbrev pub linesOf : List ℕ → List Line
+linesOf [] = []
+linesOf (b ∷ bs) = addByte (eqb b 0x0a) b (linesOf bs)
+
+-- "Anything malformed (a line .. without its end byte included) .. answers `ff`"
+abbrev pub stepOf : Held → Line → Step
+stepOf h (whole l) = lineStep h l
+stepOf h endless = ff h
+
+-- "The program holds each table whole, 1,024 rows of triangles included."
+abbrev pub start : Held
+start = held (replicate 1024 (pos 0)) (replicate 3072 0) (replicate 6144 0) (desk 0 0 0 false)
+
+abbrev pub answers : Held → List Line → List ℕ
+answers h [] = []
+answers h (l ∷ ls) = stepOf h l .text ++ answers (stepOf h l .next) ls
+
+-- "Output opens with the line `mesh lines 1` and closes with `end`, every line ended by 0x0A."
+abbrev pub opening : List ℕ
+opening = bytes "mesh lines 1\n"
+
+abbrev pub closing : List ℕ
+closing = bytes "end\n"
+
+unfoldable pub program : List ℕ → List ℕ
+program input = opening ++ answers start (linesOf input) ++ closing

@@ -1,0 +1,147 @@
+-- The line program on the texts of document 01 and on texts of our own: rows of one list, under one claim. Assumes nothing.
+use mathlib.Core.Path.{_≡_, refl}
+use mathlib.Core.List.{List, [], _∷_, _++_, map}
+use Prim.Native.Nat.{ℕ}
+use Prim.Native.String.{String}
+use mathlib.Core.Bool.{true, false}
+use lib.IntN.{ℤ, pos, negsuc}
+use lib.ListN.{replicate}
+use Rattle.lists.specs.Search.{lowest, lowestFrom, items, itemsFrom}
+use Rattle.meaning.specs.Mesh.{twiceArea}
+use Rattle.meaning.specs.Lawful.{refusal, compatible, faultOf, firstOutside, firstMisnamed, firstRepeat, firstFlat, firstUnused, firstClash}
+use Rattle.meaning.specs.Split.{newest, closure, splitEdges, splitAt, split, refined}
+use Rattle.meaning.specs.Good.{pairs, span, G1-4, good}
+use Rattle.meaning.specs.Coarsen.{taken, without, coarsened, goodNodes, pass, restored}
+use Rattle.meaning.specs.Tables.{placeAt, rowAt, meshOf}
+use Rattle.meaning.specs.Calls.{checkNo, refineNo, coarsenNo, checks, refines, coarsens, restores, sizesFit, checkOut, refineOut, coarsenOut, restoreOut}
+use Rattle.frames.specs.Digits.{bytes, isDigit, worth, number, listed, signed, unsigned, hexDigit, hex}
+use Rattle.frames.specs.Frames.{answerLine, addNode, addRow, checkBase, baseFrame, marksOf, refineListed, coarsenListed, restoreBase, jobFrame, nodeLine, rowLine, shown, showAll, wellFormed, frame, lineStep, Held, held, desk, Step, step}
+use Rattle.frames.specs.Program.{program, start}
+
+-- ---- whole texts
+
+record Talk : Type 0 where
+  says : List ℕ
+  hears : List ℕ
+
+-- the answers between the opening and the closing line
+said : List ℕ → List ℕ → Talk
+said a b = record { says = a; hears = bytes "mesh lines 1\n" ++ b ++ bytes "end\n" }
+
+talk : String → String → Talk
+talk a b = said (bytes a) (bytes b)
+
+-- S of document 01; a base that is accepted
+square : List ℕ
+square = bytes "010000000000000000\n010000000800000000\n010000000800000008\n010000000000000008\n02000100020000\n02000300000002\n03\n"
+
+on : String → String → Talk
+on a b = said (square ++ bytes a) (bytes "0300000400020000\n" ++ bytes b)
+
+talks : List Talk
+talks =
+    -- the whole example, and empty input
+    talk
+    "010000000000000000\n010000000800000000\n010000000800000008\n010000000000000008\n02000100020000\n02000300000002\n03\n040000\n06\n"
+    "0300000400020000\n0400000500040000\n0600000400020001\n" ∷
+    talk "" "" ∷
+    -- no kind byte, half of one, an unknown one (of a later request too)
+    talk "\n0\n00\n08\n0a\n10\nff\n" "ff\nff\nff\nff\nff\nff\nff\n" ∷
+    -- a blank, a carriage return, upper case, the bytes beside the digits, the prefix 0x, bytes above 0x7f
+    talk " 03\n03 \n03\r\n0A\n010000000A00000000\n0/\n0:\n0`\n0g\n0x03\n" "ff\nff\nff\nff\nff\nff\nff\nff\nff\nff\n" ∷
+    said (0x30 ∷ 0xb3 ∷ 0x0a ∷ 0xff ∷ 0x0a ∷ 0x30 ∷ 0x33 ∷ 0x80 ∷ 0x0a ∷ 0 ∷ 0x0a ∷ []) (bytes "ff\nff\nff\nff\n") ∷
+    -- a last line without its end byte, also an empty frame's; nothing after the last end byte is no line
+    talk "03" "ff\n" ∷
+    talk "03\n03" "0300000000000000\nff\n" ∷
+    talk "03\n0" "0300000000000000\nff\n" ∷
+    -- 01 and 02 of another length
+    talk "01\n01000000000000000\n0100000000000000000\n02\n0200010002000\n020001000200000\n07\n" "ff\nff\nff\nff\nff\nff\n" ∷
+    -- 07 shows rows that are not judged yet, coordinates as they came
+    talk "0180000000ffffffff\n017ffffffffffffffd\n02ffff00010000\n07\n" "0180000000ffffffff\n017ffffffffffffffd\n02ffff00010000\n" ∷
+    -- 03, 06, 07 with digits behind them
+    on "0600\n0700\n060\n" "ff\nff\nff\n" ∷
+    talk "0300\n030\n" "ff\nff\n" ∷
+    -- 03 accepts the empty mesh, once; 01 and 02 after it
+    talk "03\n03\n010000000000000000\n02000000010002\n07\n" "0300000000000000\nff\nff\nff\n" ∷
+    -- 04 to 06 before an accepted 03
+    talk "04\n05\n06\n040000\n" "ff\nff\nff\nff\n" ∷
+    -- a refused 03 (x = 1,048,577 is 3; R is 10) drops all rows; another base may follow; 04 is still too early
+    talk "010010000100000000\n03\n07\n04\n03\n" "0303000000000000\nff\n0300000000000000\n" ∷
+    talk
+    "010000000000000000\n010000001000000000\n010000000000000010\n010000000400000004\n02000000010003\n02000100020003\n02000200000003\n03\n07\n"
+    "030a000000000000\n" ∷
+    -- 04: none listed, one twice, all; t itself, a number and a half
+    on "04\n07\n" "0400000400020000\n010000000000000000\n010000000800000000\n010000000800000008\n010000000000000008\n02000100020000\n02000300000002\n" ∷
+    on "0400000000\n" "0400000500040000\n" ∷
+    on "0400010000\n07\n" "0400000500040000\n010000000000000000\n010000000800000000\n010000000800000008\n010000000000000008\n010000000400000004\n02000400010002\n02000400030000\n02000400000001\n02000400020003\n" ∷
+    on "040002\n0400000002\n04000\n0400000\n04ffff\n" "ff\nff\nff\nff\nff\n" ∷
+    -- 05: base nodes do not go; node 4 does, listed twice; n itself
+    on "050000\n040000\n050000000100020003\n05\n05000400040000\n050003\n050004\n" "0500000400020000\n0400000500040000\n0500000500040000\n0500000500040000\n0500000400020000\n0500000400020000\nff\n" ∷
+    on "050004\n05ffff\n" "ff\nff\n" ∷
+    -- 06 counts its passes; a refused 04 (an odd sum is 8) shows the counts as they are
+    on "040000\n040000\n040000\n06\n06\n" "0400000500040000\n0400000600050000\n0400000800080000\n0600000400020003\n0600000400020000\n" ∷
+    talk
+    "010000000000000000\n010000000100000000\n010000000000000001\n02000000010002\n03\n040000\n06\n"
+    "0300000300010000\n0408000300010000\n0600000300010000\n" ∷
+    -- 254 digits are taken, 255, 256 and 300 are not
+    said (square ++ bytes "04" ++ replicate 252 0x30 ++ 0x0a ∷ []) (bytes "0300000400020000\n0400000500040000\n") ∷
+    said (square ++ bytes "04" ++ replicate 253 0x30 ++ 0x0a ∷ []) (bytes "0300000400020000\nff\n") ∷
+    said (square ++ bytes "04" ++ replicate 256 0x30 ++ 0x0a ∷ []) (bytes "0300000400020000\nff\n") ∷
+    said (bytes "03" ++ replicate 298 0x30 ++ bytes "\n03\n") (bytes "ff\n0300000000000000\n") ∷
+    []
+
+spoken : map (λ t. program (t .says)) talks ≡ map (λ t. t .hears) talks
+unfolding talks said talk square on lowest lowestFrom items itemsFrom twiceArea refusal compatible faultOf firstOutside firstMisnamed firstRepeat firstFlat firstUnused firstClash closure splitEdges splitAt split refined pairs span G1-4 good taken without coarsened goodNodes pass restored placeAt rowAt meshOf checkNo refineNo coarsenNo checks refines coarsens restores sizesFit checkOut refineOut coarsenOut restoreOut isDigit worth number listed signed unsigned hexDigit hex answerLine addNode addRow checkBase baseFrame marksOf refineListed coarsenListed restoreBase jobFrame nodeLine rowLine shown showAll wellFormed frame lineStep program
+spoken = refl
+
+-- ---- single lines, on tables of any size
+
+record Row : Type 0 where
+  got : Step
+  expected : Step
+
+-- the line is answered so, and changes nothing
+only : Held → String → String → Row
+only h a b = record { got = lineStep h (bytes a); expected = step h (bytes b) }
+
+-- full tables, and tables with no room to grow
+full : Held
+full = held (replicate 1024 (negsuc 6)) (replicate 3072 7) [] (desk 512 1024 0 false)
+
+tight : Held
+tight =
+    held
+    (pos 0 ∷ pos 0 ∷ pos 8 ∷ pos 0 ∷ pos 8 ∷ pos 8 ∷ pos 0 ∷ pos 8 ∷ [])
+    (1 ∷ 2 ∷ 0 ∷ 3 ∷ 0 ∷ 2 ∷ [])
+    (replicate 24 0)
+    (desk 4 2 4 true)
+
+rows : List Row
+rows =
+    -- a row past 512 nodes or 1,024 triangles; the last of each is taken
+    only full "010000000000000000" "ff\n" ∷
+    only full "02000000010002" "ff\n" ∷
+    record {
+      got = lineStep (held (replicate 1024 (pos 0)) [] [] (desk 511 0 0 false)) (bytes "01fffffffd0000000a");
+      expected = step (held (replicate 1022 (pos 0) ++ negsuc 2 ∷ pos 10 ∷ []) [] [] (desk 512 0 0 false)) [];
+    } ∷
+    record {
+      got = lineStep (held [] (replicate 3072 0) [] (desk 0 1023 0 false)) (bytes "02000100ff0abc");
+      expected = step (held [] (replicate 3069 0 ++ 1 ∷ 255 ∷ 2748 ∷ []) [] (desk 0 1024 0 false)) [];
+    } ∷
+    -- growth past the rooms is 9
+    only tight "040000" "0409000400020000\n" ∷
+    -- a refused 03 leaves zeros, an accepted one the rows as they are
+    record {
+      got = lineStep (held (pos 5 ∷ negsuc 5 ∷ pos 1 ∷ pos 1 ∷ []) (9 ∷ 9 ∷ 9 ∷ 9 ∷ 9 ∷ 9 ∷ []) (replicate 16 3) (desk 1 1 0 false)) (bytes "03");
+      expected = step (held (replicate 4 (pos 0)) (replicate 6 0) (replicate 16 0) (desk 0 0 0 false)) (bytes "0304000000000000\n");
+    } ∷
+    record {
+      got = lineStep (held (tight .nodes) (tight .rows) (replicate 24 3) (desk 4 2 0 false)) (bytes "03");
+      expected = step tight (bytes "0300000400020000\n");
+    } ∷
+    []
+
+stepped : map (λ r. r .got) rows ≡ map (λ r. r .expected) rows
+unfolding rows only full tight lowest lowestFrom items itemsFrom twiceArea refusal compatible faultOf firstOutside firstMisnamed firstRepeat firstFlat firstUnused firstClash closure splitEdges splitAt split refined pairs span G1-4 good taken without coarsened goodNodes pass restored placeAt rowAt meshOf checkNo refineNo coarsenNo checks refines coarsens restores sizesFit checkOut refineOut coarsenOut restoreOut isDigit worth number listed signed unsigned hexDigit hex answerLine addNode addRow checkBase baseFrame marksOf refineListed coarsenListed restoreBase jobFrame nodeLine rowLine shown showAll wellFormed frame lineStep
+stepped = refl

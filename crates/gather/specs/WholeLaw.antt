@@ -60,7 +60,7 @@ module _ (zs : List ℕ) (a : ℕ → Place) (gone : ℕ → Bool) where
   from-staying i (suc k) h =
       let e : i + 1 ≡ suc i = omega arith in
       let ih : staying zs (suc i) (itemsFrom a (i + 1) k) ≡ keptFrom gone a (i + 1) k =
-          subst (λ (x : ℕ). staying zs x (itemsFrom a (i + 1) k) ≡ keptFrom gone a (i + 1) k) e (from-staying (i + 1) k (λ j l u. h j (omega arith) (omega arith))) in
+      subst (λ (x : ℕ). staying zs x (itemsFrom a (i + 1) k) ≡ keptFrom gone a (i + 1) k) e (from-staying (i + 1) k (λ j l u. h j (omega arith) (omega arith))) in
       rw (h i (omega arith) (omega arith)) (go (any (eqb i) zs) ih)
     where
       go : (b : Bool) → staying zs (suc i) (itemsFrom a (i + 1) k) ≡ keptFrom gone a (i + 1) k →

@@ -297,7 +297,16 @@ pub struct Counts {
 }
 
 // Notes which nodes go, each with its pair.
-fn note_nodes(nodes: &[i32], tri: &[u32], s: &mut [u32], marks: &[u8], nc: usize, n0: usize, n: usize, t: usize)
+fn note_nodes(
+    nodes: &[i32],
+    tri: &[u32],
+    s: &mut [u32],
+    marks: &[u8],
+    nc: usize,
+    n0: usize,
+    n: usize,
+    t: usize,
+)
     requires { ⌜ Lawful (meshAt (now nodes) (now tri) n t) ⌝ }
     requires { ⌜ Sized nc (length (now tri)) (length (now s)) ⌝ }
     requires { ⌜ (2 * n ≤ length (now nodes)) × (3 * t ≤ length (now tri)) ⌝ }
@@ -312,7 +321,16 @@ fn note_nodes(nodes: &[i32], tri: &[u32], s: &mut [u32], marks: &[u8], nc: usize
 }
 
 // Notes which nodes go, what becomes of each row, and the new numbers.
-fn note(nodes: &[i32], tri: &[u32], s: &mut [u32], marks: &[u8], nc: usize, n0: usize, n: usize, t: usize)
+fn note(
+    nodes: &[i32],
+    tri: &[u32],
+    s: &mut [u32],
+    marks: &[u8],
+    nc: usize,
+    n0: usize,
+    n: usize,
+    t: usize,
+)
     requires { ⌜ Lawful (meshAt (now nodes) (now tri) n t) ⌝ }
     requires { ⌜ Sized nc (length (now tri)) (length (now s)) ⌝ }
     requires { ⌜ (2 * n ≤ length (now nodes)) × (3 * t ≤ length (now tri)) ⌝ }

@@ -206,8 +206,7 @@ module _ (s : List ℕ) (nc n0 : ℕ) (m : Mesh) (n t z : ℕ) (d : Signed s nc 
       let p : rivals (signFrom n0 m) z j ≡ false = sym (rival-is j h) ∙ (rw q at (sym e)) ∙ y in
       let same : keyOf t (signFrom n0 m j) ≡ keyOf t (signFrom n0 m z) = eqb-true (keyOf t (signFrom n0 m j)) (keyOf t (signFrom n0 m z)) x in
       let w : k′ ≡ code (lowest (sameKey t (signFrom n0 m) z) (j + 1) n) =
-          (rw q at g) ∙ (rw (q0, same) at (d .chain .nexts j (omega arith) h (rw same key-in))) in
-      (
+      (rw q at g) ∙ (rw (q0, same) at (d .chain .nexts j (omega arith) h (rw same key-in))) in (
         rw w (on-next (rivals (signFrom n0 m) z) (sameKey t (signFrom n0 m) z) n (same-key t (signFrom n0 m) z) j h f p),
         rw w (less j k′ w h),
       )

@@ -76,12 +76,15 @@ held-either l t z e f g a b k p q r u =
     let h : x ≤ y = rw (← k) at (span-order (rowsAlone l t) z) in
     let n : edge x y ≡ edgeOf e = (let p : min x y ≡ x = omega arith in let q : max x y ≡ y = omega arith in λ i. record { lo = p i; hi = q i }) in
     let v : a || b ≡ any (holdsEdge (edge x y)) (items (rowAt l) 0 t) =
-        rw (
-          q, p, u, r,
-          lowest-any (holdsArrow (arrow x y)) (rowAt l) (arrowAt l x y) t (λ j k. refl),
-          lowest-any (holdsArrow (arrow y x)) (rowAt l) (arrowAt l y x) t (λ j k. refl),
-        )
-        (sym (any-split (holdsEdge (edge x y)) (holdsArrow (arrow x y)) (holdsArrow (arrow y x)) (edge-arrows x y) (items (rowAt l) 0 t))) in
+    rw (
+      q,
+      p,
+      u,
+      r,
+      lowest-any (holdsArrow (arrow x y)) (rowAt l) (arrowAt l x y) t (λ j k. refl),
+      lowest-any (holdsArrow (arrow y x)) (rowAt l) (arrowAt l y x) t (λ j k. refl),
+    )
+    (sym (any-split (holdsEdge (edge x y)) (holdsArrow (arrow x y)) (holdsArrow (arrow y x)) (edge-arrows x y) (items (rowAt l) 0 t))) in
     ap not (v ∙ ap (λ (d : Edge). any (holdsEdge d) (items (rowAt l) 0 t)) (n ∙ k))
 
 -- ---- G3

@@ -320,7 +320,16 @@ fn pair_number(e: Ends) -> u32
 }
 
 // G3 and G4, with the pair e.
-fn sign_on(nodes: &[i32], tri: &[u32], s: &[u32], nc: usize, n: usize, t: usize, z: u32, e: Ends) -> u32
+fn sign_on(
+    nodes: &[i32],
+    tri: &[u32],
+    s: &[u32],
+    nc: usize,
+    n: usize,
+    t: usize,
+    z: u32,
+    e: Ends,
+) -> u32
     requires { ⌜ Ready (now s) nc (now tri) t ⌝ }
     requires { ⌜ 2 * n ≤ length (now nodes) ⌝ }
     requires { ⌜ n ≤ 32_768 ⌝ }
@@ -354,7 +363,16 @@ fn sign(nodes: &[i32], tri: &[u32], s: &[u32], nc: usize, n: usize, t: usize, z:
     sign_on(nodes, tri, s, nc, n, t, z, e)
 }
 
-fn sign_from(nodes: &[i32], tri: &[u32], s: &[u32], nc: usize, n0: usize, n: usize, t: usize, z: usize) -> u32
+fn sign_from(
+    nodes: &[i32],
+    tri: &[u32],
+    s: &[u32],
+    nc: usize,
+    n0: usize,
+    n: usize,
+    t: usize,
+    z: usize,
+) -> u32
     requires { ⌜ Fair (now tri) n t ⌝ }
     requires { ⌜ Around (now s) nc (now tri) t z ⌝ }
     requires { ⌜ Ready (now s) nc (now tri) t ⌝ }
@@ -369,7 +387,16 @@ fn sign_from(nodes: &[i32], tri: &[u32], s: &[u32], nc: usize, n0: usize, n: usi
     sign(nodes, tri, s, nc, n, t, z as u32)
 }
 
-fn put_sign(nodes: &[i32], tri: &[u32], s: &mut [u32], nc: usize, n0: usize, n: usize, t: usize, z: usize)
+fn put_sign(
+    nodes: &[i32],
+    tri: &[u32],
+    s: &mut [u32],
+    nc: usize,
+    n0: usize,
+    n: usize,
+    t: usize,
+    z: usize,
+)
     requires { ⌜ Lawful (meshAt (now nodes) (now tri) n t) ⌝ }
     requires { ⌜ Fair (now tri) n t ⌝ }
     requires { ⌜ Around (now s) nc (now tri) t z ⌝ }
@@ -467,7 +494,16 @@ fn item(k: u32) -> usize
     k as usize - 1
 }
 
-fn find_rival(nodes: &[i32], tri: &[u32], s: &[u32], nc: usize, n0: usize, n: usize, t: usize, z: usize) -> bool
+fn find_rival(
+    nodes: &[i32],
+    tri: &[u32],
+    s: &[u32],
+    nc: usize,
+    n0: usize,
+    n: usize,
+    t: usize,
+    z: usize,
+) -> bool
     requires { ⌜ Signed (now s) nc n0 (meshAt (now nodes) (now tri) n t) n t ⌝ }
     requires { ⌜ z < n ⌝ }
     requires { ⌜ (signFrom n0 (meshAt (now nodes) (now tri) n t) z ≡ 0 → ⊥) ⌝ }
@@ -487,7 +523,16 @@ fn find_rival(nodes: &[i32], tri: &[u32], s: &[u32], nc: usize, n0: usize, n: us
     false
 }
 
-fn g5(nodes: &[i32], tri: &[u32], s: &[u32], nc: usize, n0: usize, n: usize, t: usize, z: usize) -> bool
+fn g5(
+    nodes: &[i32],
+    tri: &[u32],
+    s: &[u32],
+    nc: usize,
+    n0: usize,
+    n: usize,
+    t: usize,
+    z: usize,
+) -> bool
     requires { ⌜ Lawful (meshAt (now nodes) (now tri) n t) ⌝ }
     requires { ⌜ Signed (now s) nc n0 (meshAt (now nodes) (now tri) n t) n t ⌝ }
     requires { ⌜ n ≤ 32_768 ⌝ }
@@ -500,7 +545,16 @@ fn g5(nodes: &[i32], tri: &[u32], s: &[u32], nc: usize, n0: usize, n: usize, t: 
 
 // ---- good
 
-pub fn good(nodes: &[i32], tri: &[u32], s: &[u32], nc: usize, n0: usize, n: usize, t: usize, z: usize) -> bool
+pub fn good(
+    nodes: &[i32],
+    tri: &[u32],
+    s: &[u32],
+    nc: usize,
+    n0: usize,
+    n: usize,
+    t: usize,
+    z: usize,
+) -> bool
     requires { ⌜ Lawful (meshAt (now nodes) (now tri) n t) ⌝ }
     requires { ⌜ Signed (now s) nc n0 (meshAt (now nodes) (now tri) n t) n t ⌝ }
     requires { ⌜ n ≤ 32_768 ⌝ }
@@ -515,7 +569,16 @@ pub fn good(nodes: &[i32], tri: &[u32], s: &[u32], nc: usize, n0: usize, n: usiz
 }
 
 // What is noted of a node, and 1 more where it is good.
-fn tag(nodes: &[i32], tri: &[u32], s: &[u32], nc: usize, n0: usize, n: usize, t: usize, z: usize) -> u32
+fn tag(
+    nodes: &[i32],
+    tri: &[u32],
+    s: &[u32],
+    nc: usize,
+    n0: usize,
+    n: usize,
+    t: usize,
+    z: usize,
+) -> u32
     requires { ⌜ Lawful (meshAt (now nodes) (now tri) n t) ⌝ }
     requires { ⌜ Signed (now s) nc n0 (meshAt (now nodes) (now tri) n t) n t ⌝ }
     requires { ⌜ n ≤ 32_768 ⌝ }

@@ -1,4 +1,3 @@
 pub mod Pass
-pub mod StillLaw
 pub mod PassLaw
 pub mod Demand3Calls

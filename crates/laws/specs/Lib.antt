@@ -22,3 +22,4 @@ pub mod Good
 pub mod CoarsenCalls
 pub mod EdgeArrow
 pub mod OneOutcome
+pub mod StillLaw

@@ -122,7 +122,7 @@ module _ (nodes : List ℤ) (l s marks : List ℕ) (n0 n t k : ℕ) (z : s ≡ r
       let f : Gather.Left → Outcome = λ x. outcome (answer 0 (x .counts .n) (x .counts .t) 0) (x .nodes) (x .rows) s in
       ap f g
       ∙ ap (λ (x : List ℕ). outcome (answer 0 (length (coarsened n0 (meshAt nodes l n t) marks .nodes)) (length (coarsened n0 (meshAt nodes l n t) marks .tris)) 0)
-          (filled (pos 0) (length nodes) (flatNodes (coarsened n0 (meshAt nodes l n t) marks .nodes))) (filled 0 (length l) (flatRows (coarsened n0 (meshAt nodes l n t) marks .tris))) x) z
+      (filled (pos 0) (length nodes) (flatNodes (coarsened n0 (meshAt nodes l n t) marks .nodes))) (filled 0 (length l) (flatRows (coarsened n0 (meshAt nodes l n t) marks .tris))) x) z
       ∙ ap (λ (x : Mesh). done (given nodes l s n t) x 0) (sym m)
       ∙ sym (number-says (given nodes l s n t) n0 marks (sym e ∙ y))
 

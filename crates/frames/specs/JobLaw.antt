@@ -86,12 +86,12 @@ module _ (s : List ℕ) where
       let lt : length (take t m) ≡ t = length-take-le t m (omega arith) in
       ext-getD 0 (take t m) (items (λ i. cases (any (eqb i) (items (field 4 s) 0 (length s / 4))) 1 0) 0 t) (lt ∙ sym (length-items (λ i. cases (any (eqb i) (items (field 4 s) 0 (length s / 4))) 1 0) t))
       (λ j b.
-        let b′ : j < t = omega arith in
-        getD-take t m j 0 b′ ∙
-        ap (λ (q : List ℕ). getD q j 0) e ∙
-        marked-from 0 (length s / 4 - 0) j (replicate c 0) (rw (length-replicate {A = ℕ} c 0) (omega arith)) ∙
-        ap (cases (any (eqb j) (itemsFrom (field 4 s) 0 (length s / 4 - 0))) 1) (getD-replicate c j 0 0 (omega arith)) ∙
-        sym (getD-items (λ i. cases (any (eqb i) (items (field 4 s) 0 (length s / 4))) 1 0) t j 0 b′))
+      let b′ : j < t = omega arith in
+      getD-take t m j 0 b′ ∙
+      ap (λ (q : List ℕ). getD q j 0) e ∙
+      marked-from 0 (length s / 4 - 0) j (replicate c 0) (rw (length-replicate {A = ℕ} c 0) (omega arith)) ∙
+      ap (cases (any (eqb j) (itemsFrom (field 4 s) 0 (length s / 4 - 0))) 1) (getD-replicate c j 0 0 (omega arith)) ∙
+      sym (getD-items (λ i. cases (any (eqb i) (items (field 4 s) 0 (length s / 4))) 1 0) t j 0 b′))
 
 -- ---- the frames
 
@@ -166,10 +166,10 @@ module _ (ns : List ℤ) (rs sc out l : List ℕ) (d : Desk) where
         refused k o e ∙
         ap (leaves out)
         (sym
-          (pick-yes (d .accepted) _ _ (not-false (d .accepted) b) ∙
-            pick-no (eqb kind 4) _ _ (ne-eqb kind 4 h4) ∙
-            pick-no (eqb kind 5) _ _ (ne-eqb kind 5 h5) ∙
-            pick-no (eqb kind 6) _ _ (ne-eqb kind 6 h6)))
+        (pick-yes (d .accepted) _ _ (not-false (d .accepted) b) ∙
+        pick-no (eqb kind 4) _ _ (ne-eqb kind 4 h4) ∙
+        pick-no (eqb kind 5) _ _ (ne-eqb kind 5 h5) ∙
+        pick-no (eqb kind 6) _ _ (ne-eqb kind 6 h6)))
 
   module _ (kind : ℕ) (x : Left) (b : not (d .accepted) ≡ false) where
     pub job-refine : kind ≡ 4 → x ≡ leaves out (refineListed (held ns rs sc d) l) → x ≡ leaves out (jobFrame (held ns rs sc d) kind l)

@@ -36,7 +36,7 @@ module _ (ns : List ℤ) (rs sc out l : List ℕ) (d : Desk) where
   show-done w k o h a b =
       rw (eq-eqb (length l) 0 h)
       (ap (with (held ns rs sc d))
-        (then (wrote 0 out) w (wrote k o) (joined nodeLine (items (placeAt ns) 0 (d .n))) (joined rowLine (items (rowAt rs) 0 (d .t))) a b))
+      (then (wrote 0 out) w (wrote k o) (joined nodeLine (items (placeAt ns) 0 (d .n))) (joined rowLine (items (rowAt rs) 0 (d .t))) a b))
 
   -- ---- which frame
 

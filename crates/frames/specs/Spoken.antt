@@ -129,13 +129,14 @@ module _ (h : Held) (w : WholeHeld h) (out : List ℕ) (o : 32768 ≤ length out
   whole-yes : left.whole (length (h .nodes)) (length (h .rows)) (length (h .scratch)) (length out) (h .desk) ≡ true
   unfolding left.whole
   whole-yes =
-      rw
-      (eq-eqb (length (h .nodes)) 1024 (w .nodes),
+      rw (
+        eq-eqb (length (h .nodes)) 1024 (w .nodes),
         eq-eqb (length (h .rows)) 3072 (w .rows),
         eq-eqb (length (h .scratch)) 6144 (w .scratch),
         le-leb 32768 (length out) o,
         le-leb (h .desk .n) 512 (w .few-nodes),
-        le-leb (h .desk .t) 1024 (w .few-rows))
+        le-leb (h .desk .t) 1024 (w .few-rows),
+      )
 
   line-left : (l : List ℕ) → lineLeft h l out ≡ leaves out (lineStep h l)
   unfolding lineLeft
@@ -219,9 +220,10 @@ unfolding written program Told
 spoken buf out input h o =
     let e : startLeft out ≡ writes (wrote 0 out) opening = start-long out (omega arith) in
     let o′ : 32768 ≤ length (writes (wrote 0 out) opening .out) = omega (arith, writes-length (wrote 0 out) opening) in
-    rw
-    (e,
+    rw (
+      e,
       front-is out opening (omega arith),
       told input [] (kept 0 buf) start (writes (wrote 0 out) opening .out) (keeping-none buf h) start-whole o′,
-      after-none (linesOf input))
+      after-none (linesOf input),
+    )
     (sym (append-assoc opening (answers start (linesOf input)) closing))

@@ -167,21 +167,21 @@ module _ (g : Given) (a : 2 * g .n ≤ length (g .nodes)) (b : 3 * g .t ≤ leng
   sound-refine w n0 marks =
       sound-sized n0 (left g (refines w (roomOf g) (meshOf g) marks))
       (sound-left (refineNo w (roomOf g) (meshOf g) marks) (meshOf g) (refined w (meshOf g) marks) 0
-        (λ e. counted-fits (refined w (meshOf g) marks) (refine-fits w (meshOf g) marks e)))
+      (λ e. counted-fits (refined w (meshOf g) marks) (refine-fits w (meshOf g) marks e)))
 
   sound-coarsen : (n0 : ℕ) (marks : List ℕ) → Sound g (coarsenOut g n0 marks)
   unfolding coarsenOut coarsens
   sound-coarsen n0 marks =
       sound-sized n0 (left g (coarsens n0 (meshOf g) marks))
       (sound-left (coarsenNo (meshOf g) marks) (meshOf g) (coarsened n0 (meshOf g) marks) 0
-        (λ e. counted-less (coarsened n0 (meshOf g) marks) (coarsened-within n0 (meshOf g) marks)))
+      (λ e. counted-less (coarsened n0 (meshOf g) marks) (coarsened-within n0 (meshOf g) marks)))
 
   sound-restore : (n0 : ℕ) → Sound g (restoreOut g n0)
   unfolding restoreOut restores
   sound-restore n0 =
       sound-sized n0 (left g (restores n0 (meshOf g)))
       (sound-left (refusal (meshOf g)) (meshOf g) (restored n0 (meshOf g) .end) (restored n0 (meshOf g) .passes)
-        (λ e. counted-less (restored n0 (meshOf g) .end) (restored-within n0 (meshOf g))))
+      (λ e. counted-less (restored n0 (meshOf g) .end) (restored-within n0 (meshOf g))))
 
 -- ---- what a line leaves
 
@@ -224,15 +224,15 @@ module _ (h : Held) (w : WholeHeld h) where
   checked-whole : (o : Outcome) → Sound (givenBy h) o → WholeStep (checked h o)
   checked-whole o s =
       let z : WholeHeld (held (replicate (length (o .nodes)) (pos 0)) (cleared (o .rows)) (o .scratch) (desk 0 0 0 false)) =
-        record {
-          nodes = length-replicate (length (o .nodes)) (pos 0) ∙ s .nodes ∙ w .nodes;
-          rows = length-replicate (length (o .rows)) 0 ∙ s .rows ∙ w .rows;
-          scratch = s .scratch ∙ w .scratch;
-          few-nodes = omega arith;
-          few-rows = omega arith;
-        } in
+      record {
+        nodes = length-replicate (length (o .nodes)) (pos 0) ∙ s .nodes ∙ w .nodes;
+        rows = length-replicate (length (o .rows)) 0 ∙ s .rows ∙ w .rows;
+        scratch = s .scratch ∙ w .scratch;
+        few-nodes = omega arith;
+        few-rows = omega arith;
+      } in
       let y : WholeStep (step (held (o .nodes) (o .rows) (o .scratch) (desk (o .answer .n) (o .answer .t) (o .answer .n) true)) (answerLine 3 (o .answer))) =
-        record { next = sound-whole o s (o .answer .n) true } in
+      record { next = sound-whole o s (o .answer .n) true } in
       let x : WholeStep (step (held (replicate (length (o .nodes)) (pos 0)) (cleared (o .rows)) (o .scratch) (desk 0 0 0 false)) (answerLine 3 (answer (o .answer .number) 0 0 0))) = record { next = z } in
       either (eqb (o .answer .number) 0) (λ e. y) x
 
@@ -242,16 +242,16 @@ module _ (h : Held) (w : WholeHeld h) where
     node-whole =
         either (eqb (length l) 16 && ltb (h .desk .n) 512)
         (λ e.
-          let b = ltb-true (h .desk .n) 512 (and-right (eqb (length l) 16) (ltb (h .desk .n) 512) e) in
-          record {
-            next = record {
-              nodes = length-sets (h .nodes) (2 * h .desk .n) (signed (field 8 l 0) ∷ signed (field 8 l 1) ∷ []) ∙ w .nodes;
-              rows = w .rows;
-              scratch = w .scratch;
-              few-nodes = omega (arith, b);
-              few-rows = w .few-rows;
-            };
-          })
+        let b = ltb-true (h .desk .n) 512 (and-right (eqb (length l) 16) (ltb (h .desk .n) 512) e) in
+        record {
+          next = record {
+            nodes = length-sets (h .nodes) (2 * h .desk .n) (signed (field 8 l 0) ∷ signed (field 8 l 1) ∷ []) ∙ w .nodes;
+            rows = w .rows;
+            scratch = w .scratch;
+            few-nodes = omega (arith, b);
+            few-rows = w .few-rows;
+          };
+        })
         (same _)
 
     row-whole : WholeStep (addRow h l)
@@ -259,16 +259,16 @@ module _ (h : Held) (w : WholeHeld h) where
     row-whole =
         either (eqb (length l) 12 && ltb (h .desk .t) 1024)
         (λ e.
-          let b = ltb-true (h .desk .t) 1024 (and-right (eqb (length l) 12) (ltb (h .desk .t) 1024) e) in
-          record {
-            next = record {
-              nodes = w .nodes;
-              rows = length-sets (h .rows) (3 * h .desk .t) (field 4 l 0 ∷ field 4 l 1 ∷ field 4 l 2 ∷ []) ∙ w .rows;
-              scratch = w .scratch;
-              few-nodes = w .few-nodes;
-              few-rows = omega (arith, b);
-            };
-          })
+        let b = ltb-true (h .desk .t) 1024 (and-right (eqb (length l) 12) (ltb (h .desk .t) 1024) e) in
+        record {
+          next = record {
+            nodes = w .nodes;
+            rows = length-sets (h .rows) (3 * h .desk .t) (field 4 l 0 ∷ field 4 l 1 ∷ field 4 l 2 ∷ []) ∙ w .rows;
+            scratch = w .scratch;
+            few-nodes = w .few-nodes;
+            few-rows = omega (arith, b);
+          };
+        })
         (same _)
 
     check-whole : WholeStep (checkBase h l)

@@ -55,11 +55,12 @@ length-shown : (h : Held) → length (shown h) ≡ 19 * h .desk .n + 15 * h .des
 unfolding shown
 length-shown h =
     length-append (joined nodeLine (items (placeAt (h .nodes)) 0 (h .desk .n))) (joined rowLine (items (rowAt (h .rows)) 0 (h .desk .t))) ∙
-    rw
-    (length-joined nodeLine 19 length-node (items (placeAt (h .nodes)) 0 (h .desk .n)),
+    rw (
+      length-joined nodeLine 19 length-node (items (placeAt (h .nodes)) 0 (h .desk .n)),
       length-joined rowLine 15 length-row (items (rowAt (h .rows)) 0 (h .desk .t)),
       length-items (placeAt (h .nodes)) (h .desk .n),
-      length-items (rowAt (h .rows)) (h .desk .t))
+      length-items (rowAt (h .rows)) (h .desk .t),
+    )
 
 -- ---- a step's text
 
@@ -95,8 +96,8 @@ module _ (h : Held) (l : List ℕ) where
   short-node =
       either (eqb (length l) 16 && ltb (h .desk .n) 512)
       (short-quiet
-        (held (sets (h .nodes) (2 * h .desk .n) (signed (field 8 l 0) ∷ signed (field 8 l 1) ∷ [])) (h .rows) (h .scratch)
-          (desk (h .desk .n + 1) (h .desk .t) (h .desk .n0) (h .desk .accepted))))
+      (held (sets (h .nodes) (2 * h .desk .n) (signed (field 8 l 0) ∷ signed (field 8 l 1) ∷ [])) (h .rows) (h .scratch)
+      (desk (h .desk .n + 1) (h .desk .t) (h .desk .n0) (h .desk .accepted))))
       (short-ff h)
 
   short-row : Short (addRow h l)
@@ -104,8 +105,8 @@ module _ (h : Held) (l : List ℕ) where
   short-row =
       either (eqb (length l) 12 && ltb (h .desk .t) 1024)
       (short-quiet
-        (held (h .nodes) (sets (h .rows) (3 * h .desk .t) (field 4 l 0 ∷ field 4 l 1 ∷ field 4 l 2 ∷ [])) (h .scratch)
-          (desk (h .desk .n) (h .desk .t + 1) (h .desk .n0) (h .desk .accepted))))
+      (held (h .nodes) (sets (h .rows) (3 * h .desk .t) (field 4 l 0 ∷ field 4 l 1 ∷ field 4 l 2 ∷ [])) (h .scratch)
+      (desk (h .desk .n) (h .desk .t + 1) (h .desk .n0) (h .desk .accepted))))
       (short-ff h)
 
   short-check : Short (checkBase h l)
@@ -178,9 +179,9 @@ unfolding lineLeft
 in-line h l out =
     eitherLeft (whole (length (h .nodes)) (length (h .rows)) (length (h .scratch)) (length out) (h .desk))
     (λ e.
-      let w = whole-is (length (h .nodes)) (length (h .rows)) (length (h .scratch)) (length out) (h .desk) e in
-      let s = short-line h l (w .few-nodes) (w .few-rows) in
-      inside (lineStep h l .next) out (lineStep h l .text) (omega (arith, s .few, w .out)))
+    let w = whole-is (length (h .nodes)) (length (h .rows)) (length (h .scratch)) (length out) (h .desk) e in
+    let s = short-line h l (w .few-nodes) (w .few-rows) in
+    inside (lineStep h l .next) out (lineStep h l .text) (omega (arith, s .few, w .out)))
     (inside h out [] (omega arith))
 
 in-byte : (k : Kept) (h : Held) (b : ℕ) (out : List ℕ) → InTaken (tookLeft k h b out)

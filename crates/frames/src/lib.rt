@@ -33,12 +33,22 @@ pub struct Took {
 }
 
 // 07: all nodes as 01 frames, then all rows as 02 frames.
-fn show_all(s: &[u8], nodes: &mut [i32], rows: &mut [u32], scratch: &mut [u32], desk: Desk, out: &mut [u8]) -> Done
+fn show_all(
+    s: &[u8],
+    nodes: &mut [i32],
+    rows: &mut [u32],
+    scratch: &mut [u32],
+    desk: Desk,
+    out: &mut [u8],
+) -> Done
     requires { ⌜ l.Whole (length (now nodes)) (length (now rows)) (length (now scratch)) (length (now out)) desk ⌝ }
     ensures { λ r. ⌜ l.left r (now (nodes .exit)) (now (rows .exit)) (now (scratch .exit)) (now (out .exit)) ≡ l.leaves (now (out .entry)) (showAll (held (now (nodes .entry)) (now (rows .entry)) (now (scratch .entry)) desk) (now (s .entry))) ⌝ }
 {
     if s.len() != 0 {
-        return Done { desk, written: text::put_ff(out) };
+        return Done {
+            desk,
+            written: text::put_ff(out),
+        };
     }
     let k = text::put_nodes(out, 0, nodes, desk.n);
     let written = text::put_rows(out, k, rows, desk.t);
@@ -46,7 +56,15 @@ fn show_all(s: &[u8], nodes: &mut [i32], rows: &mut [u32], scratch: &mut [u32], 
 }
 
 // A kind byte, and the part of the line after it.
-fn frame(kind: u32, s: &[u8], nodes: &mut [i32], rows: &mut [u32], scratch: &mut [u32], desk: Desk, out: &mut [u8]) -> Done
+fn frame(
+    kind: u32,
+    s: &[u8],
+    nodes: &mut [i32],
+    rows: &mut [u32],
+    scratch: &mut [u32],
+    desk: Desk,
+    out: &mut [u8],
+) -> Done
     requires { ⌜ l.Whole (length (now nodes)) (length (now rows)) (length (now scratch)) (length (now out)) desk ⌝ }
     ensures { λ r. ⌜ l.left r (now (nodes .exit)) (now (rows .exit)) (now (scratch .exit)) (now (out .exit)) ≡ l.leaves (now (out .entry)) (frame (held (now (nodes .entry)) (now (rows .entry)) (now (scratch .entry)) desk) kind (now (s .entry))) ⌝ }
 {
@@ -59,7 +77,10 @@ fn frame(kind: u32, s: &[u8], nodes: &mut [i32], rows: &mut [u32], scratch: &mut
     if kind == 7 {
         return show_all(s, nodes, rows, scratch, desk, out);
     }
-    Done { desk, written: text::put_ff(out) }
+    Done {
+        desk,
+        written: text::put_ff(out),
+    }
 }
 
 // Digits alone, at least 2 and at most 254.
@@ -70,12 +91,22 @@ fn well_formed(s: &[u8]) -> bool
 }
 
 // A line, on whole tables.
-fn plain_line(s: &[u8], nodes: &mut [i32], rows: &mut [u32], scratch: &mut [u32], desk: Desk, out: &mut [u8]) -> Done
+fn plain_line(
+    s: &[u8],
+    nodes: &mut [i32],
+    rows: &mut [u32],
+    scratch: &mut [u32],
+    desk: Desk,
+    out: &mut [u8],
+) -> Done
     requires { ⌜ l.Whole (length (now nodes)) (length (now rows)) (length (now scratch)) (length (now out)) desk ⌝ }
     ensures { λ r. ⌜ l.left r (now (nodes .exit)) (now (rows .exit)) (now (scratch .exit)) (now (out .exit)) ≡ l.leaves (now (out .entry)) (lineStep (held (now (nodes .entry)) (now (rows .entry)) (now (scratch .entry)) desk) (now (s .entry))) ⌝ }
 {
     if !well_formed(s) {
-        return Done { desk, written: text::put_ff(out) };
+        return Done {
+            desk,
+            written: text::put_ff(out),
+        };
     }
     let kind = digits::two(s, 0);
     frame(kind, &s[2..], nodes, rows, scratch, desk, out)
@@ -90,7 +121,14 @@ fn whole(nl: usize, rl: usize, sl: usize, ol: usize, d: Desk) -> bool
 
 // One line without its end byte: what it does to the tables, and its answer from the buffer's start on. Lent anything but whole tables,
 // it does nothing.
-pub fn line(s: &[u8], nodes: &mut [i32], rows: &mut [u32], scratch: &mut [u32], desk: Desk, out: &mut [u8]) -> Done
+pub fn line(
+    s: &[u8],
+    nodes: &mut [i32],
+    rows: &mut [u32],
+    scratch: &mut [u32],
+    desk: Desk,
+    out: &mut [u8],
+) -> Done
     ensures { λ r. ⌜ l.left r (now (nodes .exit)) (now (rows .exit)) (now (scratch .exit)) (now (out .exit)) ≡ l.lineLeft (held (now (nodes .entry)) (now (rows .entry)) (now (scratch .entry)) desk) (now (s .entry)) (now (out .entry)) ⌝ }
 {
     if !whole(nodes.len(), rows.len(), scratch.len(), out.len(), desk) {

@@ -23,7 +23,16 @@ fn keep(buf: &mut [u8], used: usize, b: u8) -> usize
 }
 
 // A byte, with a buffer that has room for a line.
-fn take_plain(b: u8, used: usize, buf: &mut [u8], nodes: &mut [i32], rows: &mut [u32], scratch: &mut [u32], desk: Desk, out: &mut [u8]) -> Took
+fn take_plain(
+    b: u8,
+    used: usize,
+    buf: &mut [u8],
+    nodes: &mut [i32],
+    rows: &mut [u32],
+    scratch: &mut [u32],
+    desk: Desk,
+    out: &mut [u8],
+) -> Took
     requires { ⌜ 255 ≤ length (now buf) ⌝ }
     requires { ⌜ used ≤ 255 ⌝ }
     ensures { λ k. ⌜ r.took k (now (buf .exit)) (now (nodes .exit)) (now (rows .exit)) (now (scratch .exit)) (now (out .exit)) ≡ r.byteLeft (r.kept used (now (buf .entry))) (held (now (nodes .entry)) (now (rows .entry)) (now (scratch .entry)) desk) b (now (out .entry)) ⌝ }
@@ -31,10 +40,18 @@ fn take_plain(b: u8, used: usize, buf: &mut [u8], nodes: &mut [i32], rows: &mut 
     if b == b'\n' {
         let d = crate::line(&buf[..used], nodes, rows, scratch, desk, out);
         let after = d.desk;
-        return Took { used: 0, desk: after, written: d.written };
+        return Took {
+            used: 0,
+            desk: after,
+            written: d.written,
+        };
     }
     let used = keep(buf, used, b);
-    Took { used, desk, written: 0 }
+    Took {
+        used,
+        desk,
+        written: 0,
+    }
 }
 
 fn roomy(used: usize, length: usize) -> bool
@@ -44,11 +61,24 @@ fn roomy(used: usize, length: usize) -> bool
 }
 
 // Any byte: the end byte has the line answered into `out`, any other joins it.
-pub fn take_byte(b: u8, used: usize, buf: &mut [u8], nodes: &mut [i32], rows: &mut [u32], scratch: &mut [u32], desk: Desk, out: &mut [u8]) -> Took
+pub fn take_byte(
+    b: u8,
+    used: usize,
+    buf: &mut [u8],
+    nodes: &mut [i32],
+    rows: &mut [u32],
+    scratch: &mut [u32],
+    desk: Desk,
+    out: &mut [u8],
+) -> Took
     ensures { λ k. ⌜ r.took k (now (buf .exit)) (now (nodes .exit)) (now (rows .exit)) (now (scratch .exit)) (now (out .exit)) ≡ r.tookLeft (r.kept used (now (buf .entry))) (held (now (nodes .entry)) (now (rows .entry)) (now (scratch .entry)) desk) b (now (out .entry)) ⌝ }
 {
     if !roomy(used, buf.len()) {
-        return Took { used, desk, written: 0 };
+        return Took {
+            used,
+            desk,
+            written: 0,
+        };
     }
     take_plain(b, used, buf, nodes, rows, scratch, desk, out)
 }

@@ -64,63 +64,134 @@ fn mark_listed(marks: &mut [u8], s: &[u8])
 // ---- the calls
 
 // 04: refine.
-fn refine_listed(s: &[u8], nodes: &mut [i32], rows: &mut [u32], scratch: &mut [u32], desk: Desk, out: &mut [u8]) -> Done
+fn refine_listed(
+    s: &[u8],
+    nodes: &mut [i32],
+    rows: &mut [u32],
+    scratch: &mut [u32],
+    desk: Desk,
+    out: &mut [u8],
+) -> Done
     requires { ⌜ Whole (length (now nodes)) (length (now rows)) (length (now scratch)) (length (now out)) desk ⌝ }
     ensures { λ r. ⌜ left r (now (nodes .exit)) (now (rows .exit)) (now (scratch .exit)) (now (out .exit)) ≡ leaves (now (out .entry)) (f.refineListed (f.held (now (nodes .entry)) (now (rows .entry)) (now (scratch .entry)) desk) (now (s .entry))) ⌝ }
 {
     if s.len() % 4 != 0 {
-        return Done { desk, written: text::put_ff(out) };
+        return Done {
+            desk,
+            written: text::put_ff(out),
+        };
     }
     if !all_below(s, desk.t) {
-        return Done { desk, written: text::put_ff(out) };
+        return Done {
+            desk,
+            written: text::put_ff(out),
+        };
     }
     let mut marks = [0u8; 1024];
     mark_listed(&mut marks, s);
     let t = desk.t;
     let a = mesh::refine(nodes, rows, scratch, &marks[..t], desk.n0, desk.n, t);
     let written = text::put_answer(out, 4, a);
-    Done { desk: Desk { n: a.n, t: a.t, n0: desk.n0, accepted: desk.accepted }, written }
+    Done {
+        desk: Desk {
+            n: a.n,
+            t: a.t,
+            n0: desk.n0,
+            accepted: desk.accepted,
+        },
+        written,
+    }
 }
 
 // 05: coarsen.
-fn coarsen_listed(s: &[u8], nodes: &mut [i32], rows: &mut [u32], scratch: &mut [u32], desk: Desk, out: &mut [u8]) -> Done
+fn coarsen_listed(
+    s: &[u8],
+    nodes: &mut [i32],
+    rows: &mut [u32],
+    scratch: &mut [u32],
+    desk: Desk,
+    out: &mut [u8],
+) -> Done
     requires { ⌜ Whole (length (now nodes)) (length (now rows)) (length (now scratch)) (length (now out)) desk ⌝ }
     ensures { λ r. ⌜ left r (now (nodes .exit)) (now (rows .exit)) (now (scratch .exit)) (now (out .exit)) ≡ leaves (now (out .entry)) (f.coarsenListed (f.held (now (nodes .entry)) (now (rows .entry)) (now (scratch .entry)) desk) (now (s .entry))) ⌝ }
 {
     if s.len() % 4 != 0 {
-        return Done { desk, written: text::put_ff(out) };
+        return Done {
+            desk,
+            written: text::put_ff(out),
+        };
     }
     if !all_below(s, desk.n) {
-        return Done { desk, written: text::put_ff(out) };
+        return Done {
+            desk,
+            written: text::put_ff(out),
+        };
     }
     let mut marks = [0u8; 512];
     mark_listed(&mut marks, s);
     let n = desk.n;
     let a = mesh::coarsen(nodes, rows, scratch, &marks[..n], desk.n0, n, desk.t);
     let written = text::put_answer(out, 5, a);
-    Done { desk: Desk { n: a.n, t: a.t, n0: desk.n0, accepted: desk.accepted }, written }
+    Done {
+        desk: Desk {
+            n: a.n,
+            t: a.t,
+            n0: desk.n0,
+            accepted: desk.accepted,
+        },
+        written,
+    }
 }
 
 // 06: restore.
-fn restore_base(s: &[u8], nodes: &mut [i32], rows: &mut [u32], scratch: &mut [u32], desk: Desk, out: &mut [u8]) -> Done
+fn restore_base(
+    s: &[u8],
+    nodes: &mut [i32],
+    rows: &mut [u32],
+    scratch: &mut [u32],
+    desk: Desk,
+    out: &mut [u8],
+) -> Done
     requires { ⌜ Whole (length (now nodes)) (length (now rows)) (length (now scratch)) (length (now out)) desk ⌝ }
     ensures { λ r. ⌜ left r (now (nodes .exit)) (now (rows .exit)) (now (scratch .exit)) (now (out .exit)) ≡ leaves (now (out .entry)) (f.restoreBase (f.held (now (nodes .entry)) (now (rows .entry)) (now (scratch .entry)) desk) (now (s .entry))) ⌝ }
 {
     if s.len() != 0 {
-        return Done { desk, written: text::put_ff(out) };
+        return Done {
+            desk,
+            written: text::put_ff(out),
+        };
     }
     let a = job::restore(nodes, rows, scratch, desk.n0, desk.n, desk.t);
     let written = text::put_answer(out, 6, a);
-    Done { desk: Desk { n: a.n, t: a.t, n0: desk.n0, accepted: desk.accepted }, written }
+    Done {
+        desk: Desk {
+            n: a.n,
+            t: a.t,
+            n0: desk.n0,
+            accepted: desk.accepted,
+        },
+        written,
+    }
 }
 
 // 04 to 06, once a base is accepted.
-pub fn job_frame(kind: u32, s: &[u8], nodes: &mut [i32], rows: &mut [u32], scratch: &mut [u32], desk: Desk, out: &mut [u8]) -> Done
+pub fn job_frame(
+    kind: u32,
+    s: &[u8],
+    nodes: &mut [i32],
+    rows: &mut [u32],
+    scratch: &mut [u32],
+    desk: Desk,
+    out: &mut [u8],
+) -> Done
     requires { ⌜ Whole (length (now nodes)) (length (now rows)) (length (now scratch)) (length (now out)) desk ⌝ }
     ensures { λ r. ⌜ left r (now (nodes .exit)) (now (rows .exit)) (now (scratch .exit)) (now (out .exit)) ≡ leaves (now (out .entry)) (f.jobFrame (f.held (now (nodes .entry)) (now (rows .entry)) (now (scratch .entry)) desk) kind (now (s .entry))) ⌝ }
 {
     if !desk.accepted {
-        return Done { desk, written: text::put_ff(out) };
+        return Done {
+            desk,
+            written: text::put_ff(out),
+        };
     }
     if kind == 4 {
         return refine_listed(s, nodes, rows, scratch, desk, out);
@@ -131,5 +202,8 @@ pub fn job_frame(kind: u32, s: &[u8], nodes: &mut [i32], rows: &mut [u32], scrat
     if kind == 6 {
         return restore_base(s, nodes, rows, scratch, desk, out);
     }
-    Done { desk, written: text::put_ff(out) }
+    Done {
+        desk,
+        written: text::put_ff(out),
+    }
 }

@@ -12,18 +12,35 @@ struct Talk {
 fn start() -> Talk {
     Talk {
         used: 0,
-        desk: Desk { n: 0, t: 0, n0: 0, accepted: false },
+        desk: Desk {
+            n: 0,
+            t: 0,
+            n0: 0,
+            accepted: false,
+        },
         on: true,
     }
 }
 
 fn stopped(talk: Talk) -> Talk {
     let desk = talk.desk;
-    Talk { used: talk.used, desk, on: false }
+    Talk {
+        used: talk.used,
+        desk,
+        on: false,
+    }
 }
 
 // One byte, and the answer if it ends a line. Once an answer does not go out, bytes are passed over.
-fn take(b: u8, talk: Talk, buf: &mut [u8], nodes: &mut [i32], rows: &mut [u32], scratch: &mut [u32], out: &mut [u8]) -> Talk {
+fn take(
+    b: u8,
+    talk: Talk,
+    buf: &mut [u8],
+    nodes: &mut [i32],
+    rows: &mut [u32],
+    scratch: &mut [u32],
+    out: &mut [u8],
+) -> Talk {
     if !talk.on {
         return talk;
     }
@@ -32,14 +49,30 @@ fn take(b: u8, talk: Talk, buf: &mut [u8], nodes: &mut [i32], rows: &mut [u32], 
     let n = took.written;
     let after = took.desk;
     if n == 0 {
-        return Talk { used: took.used, desk: after, on: true };
+        return Talk {
+            used: took.used,
+            desk: after,
+            on: true,
+        };
     }
     let on = io::write_all(1, &out[..n]);
-    Talk { used: took.used, desk: after, on }
+    Talk {
+        used: took.used,
+        desk: after,
+        on,
+    }
 }
 
 // The bytes of a piece.
-fn take_piece(piece: &[u8], first: Talk, buf: &mut [u8], nodes: &mut [i32], rows: &mut [u32], scratch: &mut [u32], out: &mut [u8]) -> Talk {
+fn take_piece(
+    piece: &[u8],
+    first: Talk,
+    buf: &mut [u8],
+    nodes: &mut [i32],
+    rows: &mut [u32],
+    scratch: &mut [u32],
+    out: &mut [u8],
+) -> Talk {
     let mut talk = first;
     let mut i = 0;
     while i < piece.len() {
@@ -50,7 +83,14 @@ fn take_piece(piece: &[u8], first: Talk, buf: &mut [u8], nodes: &mut [i32], rows
 }
 
 // Reads once, and takes what came.
-fn read_piece(talk: Talk, buf: &mut [u8], nodes: &mut [i32], rows: &mut [u32], scratch: &mut [u32], out: &mut [u8]) -> Talk {
+fn read_piece(
+    talk: Talk,
+    buf: &mut [u8],
+    nodes: &mut [i32],
+    rows: &mut [u32],
+    scratch: &mut [u32],
+    out: &mut [u8],
+) -> Talk {
     let mut piece = [0u8; 512];
     let got = libc::read(0, &mut piece);
     if got <= 0 {
@@ -61,7 +101,13 @@ fn read_piece(talk: Talk, buf: &mut [u8], nodes: &mut [i32], rows: &mut [u32], s
 }
 
 // A proved loop has to end, and nothing says that the input does: the turns count down from a number that no run uses up.
-fn talk_on(buf: &mut [u8], nodes: &mut [i32], rows: &mut [u32], scratch: &mut [u32], out: &mut [u8]) -> usize {
+fn talk_on(
+    buf: &mut [u8],
+    nodes: &mut [i32],
+    rows: &mut [u32],
+    scratch: &mut [u32],
+    out: &mut [u8],
+) -> usize {
     let mut talk = start();
     let mut turns = u64::MAX;
     while turns > 0 && talk.on {

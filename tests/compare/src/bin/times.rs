@@ -74,12 +74,14 @@ fn main() {
         row("check", &Call::Check, &tables(&nodes, &rows, nodes.len(), rows.len()));
     }
     row("check", &Call::Check, &full());
-    for want in [64, 256, 512, 1000] {
-        let g = grown(want * 2 / 3);
-        row("refine, every third row", &Call::Refine(4, (0..g.t).map(|i| (i % 3 == 0) as u8).collect()), &g);
-    }
-    for want in [64, 256, 512, 1000] {
+    for (want, every, name) in [(43, 3, "refine, every third row"), (246, 3, "refine, every third row"), (434, 3, "refine, every third row"), (790, 12, "refine, every twelfth row")] {
         let g = grown(want);
+        row(name, &Call::Refine(4, (0..g.t).map(|i| (i % every == 0) as u8).collect()), &g);
+    }
+    let mut last = grown(790);
+    let marks = (0..last.t).map(|i| (i % 12 == 0) as u8).collect();
+    other(&Call::Refine(4, marks), &mut last);
+    for g in [grown(64), grown(256), grown(512), last] {
         row("one full pass", &Call::Coarsen(4, vec![1; g.n]), &g);
         row("restore", &Call::Restore(4), &g);
     }

@@ -21,7 +21,7 @@ use Rattle.growth.specs.GrownFrom.{GrownFrom, from-checked}
 use Rattle.growth.specs.Coarsening.{from-coarsened}
 use Rattle.growth.specs.Refining.{from-refine}
 use Rattle.growth.specs.Restoring.{pass-removes, restored-base}
-use Rattle.growth.specs.TableMesh.{nodes-count, rows-count, written, left-by, refused}
+use Rattle.laws.specs.TableMesh.{nodes-count, rows-count, written, left-by, refused}
 use Rattle.growth.specs.OnTables.{Held, fit₀, held-begin, held-same, held-refine, held-coarsen, held-restore, held-sizes, restore-number, restore-done, held-passes, end-here, pass-done, pass-less}
 
 -- ---- passes

@@ -1,5 +1,5 @@
 -- Demand 3: what refining and coarsening make of a compatibly labelled base goes back to the base. Read Demand3 first; then Labels (names
--- and labels, no mesh), Rows to Restoring (meshes), TableMesh and OnTables (tables).
+-- and labels, no mesh), Rows to Restoring (meshes), OnTables (tables).
 pub mod Labels
 pub mod Rows
 pub mod GrownFrom
@@ -7,7 +7,6 @@ pub mod Goodness
 pub mod Coarsening
 pub mod Refining
 pub mod Restoring
-pub mod TableMesh
 pub mod OnTables
 pub mod Demand3
 pub mod Demand3Example

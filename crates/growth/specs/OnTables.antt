@@ -26,7 +26,7 @@ use Rattle.growth.specs.GrownFrom.{GrownFrom, from-checked}
 use Rattle.growth.specs.Coarsening.{from-coarsened}
 use Rattle.growth.specs.Refining.{from-refine}
 use Rattle.growth.specs.Restoring.{pass-removes, restored-base}
-use Rattle.growth.specs.TableMesh.{Fits, nodes-count, rows-count, left-by, done-mesh, done-nodes, done-rows, accepted}
+use Rattle.laws.specs.TableMesh.{Fits, nodes-count, rows-count, left-by, done-mesh, done-nodes, done-rows, accepted}
 
 -- What the tables have, whatever calls left them.
 pub record Held (g₀ g : Given) : Type 0 where

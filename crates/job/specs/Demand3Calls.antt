@@ -14,7 +14,7 @@ use Rattle.meaning.specs.Split.{newest}
 use Rattle.meaning.specs.Coarsen.{restored}
 use Rattle.meaning.specs.Tables.{Given, Outcome, given, meshOf, roomOf}
 use Rattle.meaning.specs.Calls.{sizesFit, checkOut, refineOut, coarsenOut, restoreOut}
-use Rattle.growth.specs.TableMesh.{left-by}
+use Rattle.laws.specs.TableMesh.{left-by}
 use Rattle.growth.specs.Demand3.{Removals, Left, begin, lent, refined-by, coarsened-by, restored-by, refused-by, checked-by, a-refine, a-coarsen, a-restore, still, baseAgain, Restores, demand3-tables}
 
 -- A call that was made on the tables g: what it left, o, is what its contract ensures.

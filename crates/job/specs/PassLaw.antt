@@ -24,7 +24,7 @@ use Rattle.laws.specs.Lawful.{refusal-lawful, lawful-refusal}
 use Rattle.laws.specs.Coarsen.{Kept, Gone}
 use Rattle.laws.specs.Restore.{pass-count, pass-gone, pass-kept, restored-stop, restored-step}
 use Rattle.laws.specs.StillLaw.{pass-still}
-use Rattle.growth.specs.TableMesh.{nodes-count, rows-count, left-by, done-mesh, done-nodes, done-rows}
+use Rattle.laws.specs.TableMesh.{nodes-count, rows-count, left-by, done-mesh, done-nodes, done-rows}
 use Rattle.job.specs.Pass.{passOut, after}
 
 -- ---- the marks

@@ -21,5 +21,6 @@ pub mod Restore
 pub mod Good
 pub mod CoarsenCalls
 pub mod EdgeArrow
+pub mod TableMesh
 pub mod OneOutcome
 pub mod StillLaw

@@ -91,15 +91,15 @@ written g f =
     let t : g .t - 0 ≡ g .t = omega arith in
     (rw n (nodes-written (g .n) (g .nodes) (f .nodes-fit)), rw t (rows-written (g .t) (g .rows) (f .rows-fit)))
 
-flat-nodes-length : (ns : List Place) → length (flatNodes ns) ≡ 2 * length ns
+pub flat-nodes-length : (ns : List Place) → length (flatNodes ns) ≡ 2 * length ns
 flat-nodes-length [] = omega arith
 flat-nodes-length (a ∷ ns) = omega (arith, flat-nodes-length ns)
 
-flat-rows-length : (ts : List Tri) → length (flatRows ts) ≡ 3 * length ts
+pub flat-rows-length : (ts : List Tri) → length (flatRows ts) ≡ 3 * length ts
 flat-rows-length [] = omega arith
 flat-rows-length (t ∷ ts) = omega (arith, flat-rows-length ts)
 
-filled-length : {A : Type 0} (z : A) (len : ℕ) (xs : List A) → length xs ≤ len → length (filled z len xs) ≡ len
+pub filled-length : {A : Type 0} (z : A) (len : ℕ) (xs : List A) → length xs ≤ len → length (filled z len xs) ≡ len
 filled-length z len xs h = omega (arith, length-append xs (replicate (len - length xs) z), length-replicate (len - length xs) z)
 
 -- ---- what an outcome leaves

@@ -20,14 +20,14 @@ use meaning::Tri;
 // ---- rows and places
 
 // Row i of the triangle table.
-pub fn row_at(tri: &[u32], i: usize) -> Tri
-    requires { ⌜ 3 * i + 3 ≤ length (now tri) ⌝ }
-    ensures { λ w. ⌜ w ≡ rowAt (now (tri .entry)) i ⌝ }
+pub fn row_at(rows: &[u32], i: usize) -> Tri
+    requires { ⌜ 3 * i + 3 ≤ length (now rows) ⌝ }
+    ensures { λ w. ⌜ w ≡ rowAt (now (rows .entry)) i ⌝ }
 {
     Tri {
-        p: tri[3 * i],
-        q: tri[3 * i + 1],
-        r: tri[3 * i + 2],
+        p: rows[3 * i],
+        q: rows[3 * i + 1],
+        r: rows[3 * i + 2],
     }
 }
 
@@ -50,13 +50,13 @@ pub fn corner(nodes: &[i32], k: u32) -> Place
     place_at(nodes, k as usize)
 }
 
-pub fn put_row(tri: &mut [u32], i: usize, w: Tri)
-    requires { ⌜ 3 * i + 3 ≤ length (now tri) ⌝ }
-    ensures { λ _. ⌜ now (tri .exit) ≡ setRow (now (tri .entry)) i w ⌝ }
+pub fn put_row(rows: &mut [u32], i: usize, w: Tri)
+    requires { ⌜ 3 * i + 3 ≤ length (now rows) ⌝ }
+    ensures { λ _. ⌜ now (rows .exit) ≡ setRow (now (rows .entry)) i w ⌝ }
 {
-    tri[3 * i] = w.p;
-    tri[3 * i + 1] = w.q;
-    tri[3 * i + 2] = w.r;
+    rows[3 * i] = w.p;
+    rows[3 * i + 1] = w.q;
+    rows[3 * i + 2] = w.r;
 }
 
 pub fn put_place(nodes: &mut [i32], k: usize, a: Place)
@@ -72,19 +72,20 @@ pub fn put_place(nodes: &mut [i32], k: usize, a: Place)
 // ---- zeros past the counts
 
 // The first t rows stay; the rest of the table is zero.
-pub fn clear_rows_from(tri: &mut [u32], t: usize)
-    requires { ⌜ 3 * t ≤ length (now tri) ⌝ }
-    ensures { λ _. ⌜ now (tri .exit) ≡ filled 0 (length (now (tri .entry))) (flatRows (items (rowAt (now (tri .entry))) 0 t)) ⌝ }
+pub fn clear_rows_from(rows: &mut [u32], t: usize)
+    requires { ⌜ 3 * t ≤ length (now rows) ⌝ }
+    ensures { λ _. ⌜ now (rows .exit) ≡ filled 0 (length (now (rows .entry))) (flatRows (items (rowAt (now (rows .entry))) 0 t)) ⌝ }
 {
-    clear(&mut tri[3 * t..]);
+    clear(&mut rows[3 * t..]);
 }
 
-fn clear_signed(places: &mut [i32])
-    ensures { λ _. ⌜ now (places .exit) ≡ replicate (length (now (places .entry))) (pos 0) ⌝ }
+// All of the node table is zero after.
+pub fn clear_nodes(nodes: &mut [i32])
+    ensures { λ _. ⌜ now (nodes .exit) ≡ replicate (length (now (nodes .entry))) (pos 0) ⌝ }
 {
     let mut i = 0;
-    while i < places.len() {
-        places[i] = 0;
+    while i < nodes.len() {
+        nodes[i] = 0;
         i += 1;
     }
 }
@@ -94,44 +95,44 @@ pub fn clear_places_from(nodes: &mut [i32], n: usize)
     requires { ⌜ 2 * n ≤ length (now nodes) ⌝ }
     ensures { λ _. ⌜ now (nodes .exit) ≡ filled (pos 0) (length (now (nodes .entry))) (flatNodes (items (placeAt (now (nodes .entry))) 0 n)) ⌝ }
 {
-    clear_signed(&mut nodes[2 * n..]);
+    clear_nodes(&mut nodes[2 * n..]);
 }
 
 // ---- notes
 
-pub fn note_at(s: &[u32], k: usize) -> u32
-    requires { ⌜ k < length (now s) ⌝ }
-    ensures { λ v. ⌜ v ≡ getD (now (s .entry)) k 0 ⌝ }
+pub fn note_at(scratch: &[u32], k: usize) -> u32
+    requires { ⌜ k < length (now scratch) ⌝ }
+    ensures { λ v. ⌜ v ≡ getD (now (scratch .entry)) k 0 ⌝ }
 {
-    s[k]
+    scratch[k]
 }
 
-pub fn put_note(s: &mut [u32], k: usize, v: u32)
-    requires { ⌜ k < length (now s) ⌝ }
-    ensures { λ _. ⌜ now (s .exit) ≡ set (now (s .entry)) k v ⌝ }
+pub fn put_note(scratch: &mut [u32], k: usize, v: u32)
+    requires { ⌜ k < length (now scratch) ⌝ }
+    ensures { λ _. ⌜ now (scratch .exit) ≡ set (now (scratch .entry)) k v ⌝ }
 {
-    s[k] = v;
+    scratch[k] = v;
 }
 
-// All of s is zero after.
-pub fn clear(s: &mut [u32])
-    ensures { λ _. ⌜ now (s .exit) ≡ replicate (length (now (s .entry))) 0 ⌝ }
+// All of the table is zero after.
+pub fn clear(table: &mut [u32])
+    ensures { λ _. ⌜ now (table .exit) ≡ replicate (length (now (table .entry))) 0 ⌝ }
 {
     let mut i = 0;
-    while i < s.len() {
-        s[i] = 0;
+    while i < table.len() {
+        table[i] = 0;
         i += 1;
     }
 }
 
-// The first k of s are zero after.
-pub fn clear_front(s: &mut [u32], k: usize)
-    requires { ⌜ k ≤ length (now s) ⌝ }
-    ensures { λ _. ⌜ now (s .exit) ≡ replicate k 0 ++ drop k (now (s .entry)) ⌝ }
+// The first k of scratch are zero after.
+pub fn clear_front(scratch: &mut [u32], k: usize)
+    requires { ⌜ k ≤ length (now scratch) ⌝ }
+    ensures { λ _. ⌜ now (scratch .exit) ≡ replicate k 0 ++ drop k (now (scratch .entry)) ⌝ }
 {
     let mut i = 0;
     while i < k {
-        s[i] = 0;
+        scratch[i] = 0;
         i += 1;
     }
 }
@@ -154,21 +155,21 @@ pub fn has_edge(w: Tri, x: u32, y: u32) -> bool
     (x == w.p) & (y == w.q) | (x == w.q) & (y == w.r) | (x == w.r) & (y == w.p)
 }
 
-fn edge_at(tri: &[u32], x: u32, y: u32, i: usize) -> bool
-    requires { ⌜ 3 * i + 3 ≤ length (now tri) ⌝ }
-    ensures { λ r. ⌜ r ≡ arrowAt (now (tri .entry)) x y i ⌝ }
+fn edge_at(rows: &[u32], x: u32, y: u32, i: usize) -> bool
+    requires { ⌜ 3 * i + 3 ≤ length (now rows) ⌝ }
+    ensures { λ r. ⌜ r ≡ arrowAt (now (rows .entry)) x y i ⌝ }
 {
-    has_edge(row_at(tri, i), x, y)
+    has_edge(row_at(rows, i), x, y)
 }
 
-// The lowest of the first t rows that holds x→y. The index of these rows stands in s.
-pub fn find_edge(tri: &[u32], s: &[u32], nc: usize, t: usize, x: u32, y: u32) -> Found
-    requires { ⌜ Ready (now s) nc (now tri) t ⌝ }
-    ensures { λ r. ⌜ r ≡ lowest (arrowAt (now (tri .entry)) x y) 0 t ⌝ }
+// The lowest of the first t rows that holds x→y. The index of these rows stands in scratch.
+pub fn find_edge(rows: &[u32], scratch: &[u32], nc: usize, t: usize, x: u32, y: u32) -> Found
+    requires { ⌜ Ready (now scratch) nc (now rows) t ⌝ }
+    ensures { λ r. ⌜ r ≡ lowest (arrowAt (now (rows .entry)) x y) 0 t ⌝ }
 {
     let mut i = 0;
     while i < t {
-        if edge_at(tri, x, y, i) {
+        if edge_at(rows, x, y, i) {
             return Found::At(i);
         }
         i += 1;
@@ -177,10 +178,10 @@ pub fn find_edge(tri: &[u32], s: &[u32], nc: usize, t: usize, x: u32, y: u32) ->
 }
 
 // Row i joins the index, which holds the rows below it. No note changes.
-pub fn add_row(tri: &[u32], s: &mut [u32], nc: usize, i: usize)
-    requires { ⌜ 3 * i + 3 ≤ length (now tri) ⌝ }
-    requires { ⌜ Corners nc (rowAt (now tri) i) ⌝ }
-    requires { ⌜ Ready (now s) nc (now tri) i ⌝ }
-    ensures notes { λ _. ⌜ take (indexAt nc (length (now (tri .entry)))) (now (s .exit)) ≡ take (indexAt nc (length (now (tri .entry)))) (now (s .entry)) ⌝ }
-    ensures ready { λ _. ⌜ Ready (now (s .exit)) nc (now (tri .entry)) (i + 1) ⌝ }
+pub fn add_row(rows: &[u32], scratch: &mut [u32], nc: usize, i: usize)
+    requires { ⌜ 3 * i + 3 ≤ length (now rows) ⌝ }
+    requires { ⌜ Corners nc (rowAt (now rows) i) ⌝ }
+    requires { ⌜ Ready (now scratch) nc (now rows) i ⌝ }
+    ensures notes { λ _. ⌜ take (indexAt nc (length (now (rows .entry)))) (now (scratch .exit)) ≡ take (indexAt nc (length (now (rows .entry)))) (now (scratch .entry)) ⌝ }
+    ensures ready { λ _. ⌜ Ready (now (scratch .exit)) nc (now (rows .entry)) (i + 1) ⌝ }
 {}

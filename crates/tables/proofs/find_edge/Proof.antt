@@ -9,10 +9,10 @@ use Rattle.tables.proofs.find_edge.Statement.{statement}
 use Rattle.tables.proofs.find_edge.Tie as tie
 
 abbrev Inv-loop : tie.InvT-loop
-Inv-loop tri s nc t x y i₀ i = (i ≤ t) × (lowest (arrowAt tri x y) i t ≡ lowest (arrowAt tri x y) 0 t)
+Inv-loop rows scratch nc t x y i₀ i = (i ≤ t) × (lowest (arrowAt rows x y) i t ≡ lowest (arrowAt rows x y) 0 t)
 
 abbrev μ-loop : tie.MeasureT-loop
-μ-loop tri s nc t x y i₀ i = t - i
+μ-loop rows scratch nc t x y i₀ i = t - i
 
 edge-at-requires : tie.Need-edge-at-requires Inv-loop μ-loop
 unfolding Ready

@@ -5,11 +5,11 @@ use borrow.Author.Needs.{needs}
 use Rattle.tables.proofs.put_row.Statement.{statement}
 use Rattle.tables.proofs.put_row.Tie as tie
 
-slice-write-tri-2 : tie.Need-slice-write-tri-2
-slice-write-tri-2 c = simp length-set (omega arith)
+slice-write-rows-2 : tie.Need-slice-write-rows-2
+slice-write-rows-2 c = simp length-set (omega arith)
 
-slice-write-tri-3 : tie.Need-slice-write-tri-3
-slice-write-tri-3 c = simp length-set (omega arith)
+slice-write-rows-3 : tie.Need-slice-write-rows-3
+slice-write-rows-3 c = simp length-set (omega arith)
 
 same-length : tie.Need-same-length
 same-length c = simp length-set
@@ -23,5 +23,5 @@ put-row-spec =
     tie.close
     (tie.spec
     (λ c. search needs) (λ c. search needs) (λ c. search needs) (λ c. search needs) (λ c. search needs)
-    (λ c. search needs) slice-write-tri-2 (λ c. search needs) (λ c. search needs) (λ c. search needs)
-    slice-write-tri-3 same-length returns)
+    (λ c. search needs) slice-write-rows-2 (λ c. search needs) (λ c. search needs) (λ c. search needs)
+    slice-write-rows-3 same-length returns)

@@ -13,7 +13,7 @@ use Rattle.meaning.specs.declared.Mids.{Mids}
 use Rattle.meaning.specs.Split.{Cut, cut, bisected}
 use Rattle.meaning.specs.Tables.{rowAt}
 use Rattle.tables.specs.Put.{setRow}
-use Rattle.tables.specs.PutLaw.{length-setRow, row-set-same, row-set-other}
+use Rattle.tables.specs.PutLaw.{rows-table}
 use Rattle.tables.specs.Ready.{Ready, ready-fewer}
 use Rattle.notes.specs.Notes.{midsAt}
 use Rattle.notes.specs.NotesLaw.{note-bits}
@@ -59,7 +59,7 @@ few-for w (some m) none (some v) = omega arith
 few-for w (some m) (some u) none = omega arith
 few-for w (some m) (some u) (some v) = omega arith
 
-pub added-few : (n : ℕ) (l s : List ℕ) (i : ℕ) → addedAt n l s i ≤ 3
+added-few : (n : ℕ) (l s : List ℕ) (i : ℕ) → addedAt n l s i ≤ 3
 unfolding addedAt cutAt cutBy
 added-few n l s i = let k = midsAt n l s i in few-for (rowAt l i) (opt (k .m)) (opt (k .u)) (opt (k .v))
 
@@ -82,10 +82,7 @@ unfolding cutAt
 cut-is n l s i w k c e f g = g ∙ rw (e, f)
 
 module _ (n : ℕ) (l s : List ℕ) (i end : ℕ) (c : Children) (h : i + addedAt n l s i < end) (b : 3 * end ≤ length l) where
-  pub row-in : 3 * i + 3 ≤ length l
-  row-in = omega arith
-
-  pub children-count : c ≡ children (cutAt n l s i) → c .count ≡ suc (addedAt n l s i)
+  children-count : c ≡ children (cutAt n l s i) → c .count ≡ suc (addedAt n l s i)
   unfolding addedAt
   children-count e = ap (λ (z : Children). z .count) e
 
@@ -179,7 +176,7 @@ module _ (n : ℕ) (l₀ s : List ℕ) (t t1 : ℕ) (total : t1 ≡ t + sumTo (a
 
       long : length l₁ ≡ length l₀
       unfolding l₁
-      long = length-setRow l k (c .kept) ∙ d .size
+      long = rows-table .long l k (c .kept) ∙ d .size
 
       count-is : length (c .added) ≡ addedAt n l₀ s k
       unfolding c addedAt
@@ -198,7 +195,7 @@ module _ (n : ℕ) (l₀ s : List ℕ) (t t1 : ℕ) (total : t1 ≡ t + sumTo (a
           let b = d .within in
           ap (λ (m : List ℕ). rowAt m j) put-is
           ∙ put-below l₁ at (c .added) j (omega arith)
-          ∙ row-set-other l k j (c .kept) (omega arith)
+          ∙ rows-table .other l k j (c .kept) (omega arith)
           ∙ d .whole j (omega arith)
 
       here : rowAt l′ k ≡ c .kept
@@ -211,7 +208,7 @@ module _ (n : ℕ) (l₀ s : List ℕ) (t t1 : ℕ) (total : t1 ≡ t + sumTo (a
           let q = place-in in
           ap (λ (m : List ℕ). rowAt m k) put-is
           ∙ put-below l₁ at (c .added) k (omega arith)
-          ∙ row-set-same l k (c .kept) (omega arith)
+          ∙ rows-table .same l k (c .kept) (omega arith)
 
       between : (j : ℕ) → k + 1 ≤ j → j < t → rowAt l′ j ≡ rowAt l j
       unfolding l₁
@@ -219,7 +216,7 @@ module _ (n : ℕ) (l₀ s : List ℕ) (t t1 : ℕ) (total : t1 ≡ t + sumTo (a
           let a = at-is in
           ap (λ (m : List ℕ). rowAt m j) put-is
           ∙ put-below l₁ at (c .added) j (omega arith)
-          ∙ row-set-other l k j (c .kept) (omega arith)
+          ∙ rows-table .other l k j (c .kept) (omega arith)
 
       past : (j : ℕ) → end ≤ j → j < t1 → rowAt l′ j ≡ rowAt l j
       unfolding l₁
@@ -229,7 +226,7 @@ module _ (n : ℕ) (l₀ s : List ℕ) (t t1 : ℕ) (total : t1 ≡ t + sumTo (a
           let q = d .place in
           ap (λ (m : List ℕ). rowAt m j) put-is
           ∙ put-above l₁ at (c .added) j (omega arith)
-          ∙ row-set-other l k j (c .kept) (omega arith)
+          ∙ rows-table .other l k j (c .kept) (omega arith)
 
       new : items (rowAt l′) at end ≡ c .added
       new =
@@ -240,7 +237,7 @@ module _ (n : ℕ) (l₀ s : List ℕ) (t t1 : ℕ) (total : t1 ≡ t + sumTo (a
           ∙ ap (λ (e : ℕ). items (rowAt (putRows l₁ at (c .added))) at e) (sym end-is)
           ∙ put-rows l₁ at (c .added) (omega arith)
 
-      pub turn-done : Partly n l₀ s t t1 k at l′
+      turn-done : Partly n l₀ s t t1 k at l′
       unfolding c
       turn-done = record {
         size = ap length put-is ∙ length-put l₁ at (c .added) ∙ long;
@@ -284,12 +281,12 @@ pub ruleset cutting = (cut-start, loop-ready, loop-below, loop-room, loop-turn, 
 
 -- ---- the count
 
-pub splits-few : (s : List ℕ) (i : ℕ) → splits s i ≤ 3
+splits-few : (s : List ℕ) (i : ℕ) → splits s i ≤ 3
 unfolding splits
 splits-few s i = let b = note-bits s i in omega arith
 
 -- r rows after rows below i were counted
-pub count-few : (s : List ℕ) (t i r : ℕ) → i ≤ t → r ≡ t + sumTo (splits s) i → r ≤ t + 3 * i
+count-few : (s : List ℕ) (t i r : ℕ) → i ≤ t → r ≡ t + sumTo (splits s) i → r ≤ t + 3 * i
 count-few s t i r h e = let a = sum-few (splits s) 3 i (λ j b. splits-few s j) in omega arith
 
 pub count-fits : (s : List ℕ) (t i r a : ℕ) → i < t → t ≤ 262_144 → r ≡ t + sumTo (splits s) i → a ≡ splits s i → r + a < 18_446_744_073_709_551_616

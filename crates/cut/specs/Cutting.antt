@@ -7,7 +7,7 @@ use Rattle.lists.specs.Lists.{joined}
 use Rattle.lists.specs.Search.{iter}
 use Rattle.meaning.specs.declared.Tri.{Tri}
 use Rattle.meaning.specs.declared.Mids.{Mids}
-use Rattle.meaning.specs.Split.{Cut, cut, bisected}
+use Rattle.meaning.specs.Split.{Cut, bisected}
 use Rattle.meaning.specs.Tables.{rowAt, flatRows}
 use Rattle.tables.specs.Put.{setRow}
 use Rattle.notes.specs.declared.Note.{Note}

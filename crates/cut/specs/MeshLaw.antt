@@ -8,7 +8,7 @@ use native.Mathlib.Omega.{arith}
 use lib.ListN.{length, length-append, length-map}
 use Rattle.lists.specs.declared.Found.{Found}
 use Rattle.lists.specs.declared.Found.the-variants.{At, Nothing}
-use Rattle.lists.specs.Lists.{isFound, any, joined, whereFirst}
+use Rattle.lists.specs.Lists.{isFound, joined, whereFirst}
 use Rattle.lists.specs.ListsLaw.{clash}
 use Rattle.lists.specs.AnyLaw.{any-where}
 use Rattle.lists.specs.Tally.{bit}
@@ -37,7 +37,7 @@ module _ {A : Type 0} (f : A → Cut) where
   joined-added (t ∷ ts) = ap (λ r. f t .added ++ r) (joined-added ts)
 
 -- rows that are cut as f cuts them
-pub cut-all-as : (f : Tri → Cut) (n : ℕ) (l s : List ℕ) (t : ℕ) → ((j : ℕ) → j < t → cutAt n l s j ≡ f (rowAt l j)) →
+cut-all-as : (f : Tri → Cut) (n : ℕ) (l s : List ℕ) (t : ℕ) → ((j : ℕ) → j < t → cutAt n l s j ≡ f (rowAt l j)) →
     cutAll (items (cutAt n l s) 0 t) ≡ map (λ w. f w .kept) (items (rowAt l) 0 t) ++ joined (λ w. f w .added) (items (rowAt l) 0 t)
 unfolding cutAll
 cut-all-as f n l s t h =
@@ -60,7 +60,7 @@ opt-number : (n : ℕ) (o : Found) → 0 < n → opt (orZero (plus n o)) ≡ plu
 opt-number n Nothing h = refl
 opt-number n (At k) h = opt-yes (n + k) (λ e. omega arith)
 
-pub cut-by-numbers : (n : ℕ) (es : List Edge) (w : Tri) → 0 < n → cutBy w (numbersOf n es w) ≡ cutOf bisected n es w
+cut-by-numbers : (n : ℕ) (es : List Edge) (w : Tri) → 0 < n → cutBy w (numbersOf n es w) ≡ cutOf bisected n es w
 unfolding cutBy
 cut-by-numbers n es w h =
     rw (
@@ -125,7 +125,7 @@ added-length n l s (suc t) =
     let e : suc t ≡ t + 1 = omega arith in
     rw e (added-more n l s t (added-length n l s t))
 
-pub cut-all-length : (n : ℕ) (l s : List ℕ) (t : ℕ) → length (cutAll (items (cutAt n l s) 0 t)) ≡ t + sumTo (addedAt n l s) t
+cut-all-length : (n : ℕ) (l s : List ℕ) (t : ℕ) → length (cutAll (items (cutAt n l s) 0 t)) ≡ t + sumTo (addedAt n l s) t
 unfolding cutAll
 cut-all-length n l s t =
     rw (length-append, length-map, items-length (cutAt n l s) 0 t, added-length n l s t) (let e : t - 0 ≡ t = omega arith in rw e)
@@ -140,28 +140,28 @@ on-number n (At k) h = sym (on-some (n + k) (omega arith))
     on-some zero g = absurd (omega arith)
     on-some (suc j) g = refl
 
-number-none : (n : ℕ) (es : List Edge) (e : Edge) → memEdge e es ≡ false → orZero (numberOf n es e) ≡ 0
-number-none n es e h = go (whereFirst (sameEdge e) es) (sym (any-where (sameEdge e) es) ∙ h)
+unsplit-zero : (n : ℕ) (es : List Edge) (e : Edge) → memEdge e es ≡ false → orZero (numberOf n es e) ≡ 0
+unsplit-zero n es e h = go (whereFirst (sameEdge e) es) (sym (any-where (sameEdge e) es) ∙ h)
   where
     go : (o : Found) → isFound o ≡ false → orZero (plus n o) ≡ 0
     go (At k) g = clash g
     go Nothing g = refl
 
-number-some : (n : ℕ) (es : List Edge) (e : Edge) → 0 < n → orZero (numberOf n es e) ≡ 0 → memEdge e es ≡ false
-number-some n es e z h = any-where (sameEdge e) es ∙ go (whereFirst (sameEdge e) es) h
+zero-unsplit : (n : ℕ) (es : List Edge) (e : Edge) → 0 < n → orZero (numberOf n es e) ≡ 0 → memEdge e es ≡ false
+zero-unsplit n es e z h = any-where (sameEdge e) es ∙ go (whereFirst (sameEdge e) es) h
   where
     go : (o : Found) → orZero (plus n o) ≡ 0 → isFound o ≡ false
     go (At k) g = absurd (omega arith)
     go Nothing g = refl
 
 -- a note that says which edges are among es tells the numbers of the definition
-pub tells-numbers : (n : ℕ) (es : List Edge) (w : Tri) (c : Note) → 0 < n → Says (λ e. memEdge e es) w c →
+tells-numbers : (n : ℕ) (es : List Edge) (w : Tri) (c : Note) → 0 < n → Says (λ e. memEdge e es) w c →
     (memEdge (base w) es ≡ false → (memEdge (edge (w .p) (w .q)) es ≡ false) × (memEdge (edge (w .r) (w .p)) es ≡ false)) → Tells c (numbersOf n es w)
 tells-numbers n es w c z d p = record {
   m-told = d .m-said ∙ told (base w);
   u-told = d .u-said ∙ told (edge (w .p) (w .q));
   v-told = d .v-said ∙ told (edge (w .r) (w .p));
-  pulled = λ h. let q = p (number-some n es (base w) z h) in (number-none n es (edge (w .p) (w .q)) (q .0), number-none n es (edge (w .r) (w .p)) (q .1));
+  pulled = λ h. let q = p (zero-unsplit n es (base w) z h) in (unsplit-zero n es (edge (w .p) (w .q)) (q .0), unsplit-zero n es (edge (w .r) (w .p)) (q .1));
 }
   where
     told : (e : Edge) → bit (memEdge e es) ≡ on (orZero (numberOf n es e))

@@ -10,24 +10,24 @@ use Rattle.meaning.specs.declared.Tri.{Tri}
 use Rattle.meaning.specs.Split.{cut}
 use Rattle.meaning.specs.Tables.{rowAt}
 use Rattle.tables.specs.Put.{setRow}
-use Rattle.tables.specs.PutLaw.{length-setRow, row-set-same, row-set-other}
+use Rattle.tables.specs.PutLaw.{rows-table}
 use Rattle.cut.specs.Cutting.{children, append, placed, putRows, putCut}
 
 pub length-put : (l : List ℕ) (at : ℕ) (ws : List Tri) → length (putRows l at ws) ≡ length l
 unfolding putRows
 length-put l at [] = refl
-length-put l at (w ∷ ws) = length-put (setRow l at w) (at + 1) ws ∙ length-setRow l at w
+length-put l at (w ∷ ws) = length-put (setRow l at w) (at + 1) ws ∙ rows-table .long l at w
 
 -- the rows below and above stay
 pub put-below : (l : List ℕ) (at : ℕ) (ws : List Tri) (j : ℕ) → j < at → rowAt (putRows l at ws) j ≡ rowAt l j
 unfolding putRows
 put-below l at [] j h = refl
-put-below l at (w ∷ ws) j h = put-below (setRow l at w) (at + 1) ws j (omega arith) ∙ row-set-other l at j w (omega arith)
+put-below l at (w ∷ ws) j h = put-below (setRow l at w) (at + 1) ws j (omega arith) ∙ rows-table .other l at j w (omega arith)
 
 pub put-above : (l : List ℕ) (at : ℕ) (ws : List Tri) (j : ℕ) → at + length ws ≤ j → rowAt (putRows l at ws) j ≡ rowAt l j
 unfolding putRows
 put-above l at [] j h = refl
-put-above l at (w ∷ ws) j h = put-above (setRow l at w) (at + 1) ws j (omega arith) ∙ row-set-other l at j w (omega arith)
+put-above l at (w ∷ ws) j h = put-above (setRow l at w) (at + 1) ws j (omega arith) ∙ rows-table .other l at j w (omega arith)
 
 -- the rows between are those that were put
 pub put-rows : (l : List ℕ) (at : ℕ) (ws : List Tri) → 3 * (at + length ws) ≤ length l → items (rowAt (putRows l at ws)) at (at + length ws) ≡ ws
@@ -35,9 +35,9 @@ unfolding putRows
 put-rows l at [] h = items-none (rowAt l) at (at + 0) (omega arith)
 put-rows l at (w ∷ ws) h =
     let e : at + suc (length ws) ≡ at + 1 + length ws = omega arith in
-    let k : 3 * (at + 1 + length ws) ≤ length (setRow l at w) = rw length-setRow (omega arith) in
+    let k : 3 * (at + 1 + length ws) ≤ length (setRow l at w) = rw (rows-table .long l at w) (omega arith) in
     let m : List ℕ = putRows (setRow l at w) (at + 1) ws in
-    let a : rowAt m at ≡ w = put-below (setRow l at w) (at + 1) ws at (omega arith) ∙ row-set-same l at w (omega arith) in
+    let a : rowAt m at ≡ w = put-below (setRow l at w) (at + 1) ws at (omega arith) ∙ rows-table .same l at w (omega arith) in
     rw e (items-cons (rowAt m) at (at + 1 + length ws) (omega arith) ∙ rw (a, put-rows (setRow l at w) (at + 1) ws k))
 
 -- a cut's children are put one after the other

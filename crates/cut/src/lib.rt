@@ -21,7 +21,7 @@ pub struct Children {
 
 // (p, q, r) with midpoints m of q-r, u of p-q, v of r-p: how a triangle is cut is said here alone. First the row that keeps the father's
 // place, then the rows that are appended.
-pub fn cut_of(w: Tri, k: Mids) -> Children
+fn cut_of(w: Tri, k: Mids) -> Children
     ensures { λ c. ⌜ c ≡ children (cutBy w k) ⌝ }
 {
     if k.m == 0 {
@@ -55,92 +55,92 @@ pub fn cut_of(w: Tri, k: Mids) -> Children
 }
 
 // Row k of a cut.
-fn child_at(rows: &[u32; 12], k: usize) -> Tri
+fn child_at(numbers: &[u32; 12], k: usize) -> Tri
     requires { ⌜ k < 4 ⌝ }
-    ensures { λ w. ⌜ w ≡ rowAt (now (rows .entry)) k ⌝ }
+    ensures { λ w. ⌜ w ≡ rowAt (now (numbers .entry)) k ⌝ }
 {
     Tri {
-        p: rows[3 * k],
-        q: rows[3 * k + 1],
-        r: rows[3 * k + 2],
+        p: numbers[3 * k],
+        q: numbers[3 * k + 1],
+        r: numbers[3 * k + 2],
     }
 }
 
-fn place_one(tri: &mut [u32], at: usize, k: usize, rows: &[u32; 12])
+fn place_one(rows: &mut [u32], at: usize, k: usize, numbers: &[u32; 12])
     requires { ⌜ (1 ≤ k) × (k < 4) ⌝ }
-    requires { ⌜ 3 * (at + k) ≤ length (now tri) ⌝ }
-    ensures { λ _. ⌜ now (tri .exit) ≡ append (now (rows .entry)) at k (now (tri .entry)) ⌝ }
+    requires { ⌜ 3 * (at + k) ≤ length (now rows) ⌝ }
+    ensures { λ _. ⌜ now (rows .exit) ≡ append (now (numbers .entry)) at k (now (rows .entry)) ⌝ }
 {
-    let w = child_at(rows, k);
-    tables::put_row(tri, at + k - 1, w);
+    let w = child_at(numbers, k);
+    tables::put_row(rows, at + k - 1, w);
 }
 
 // Rows 1 to count - 1 of a cut, from row `at` on.
-fn place_rest(tri: &mut [u32], at: usize, count: usize, rows: &[u32; 12])
+fn place_rest(rows: &mut [u32], at: usize, count: usize, numbers: &[u32; 12])
     requires { ⌜ (1 ≤ count) × (count ≤ 4) ⌝ }
-    requires { ⌜ 3 * (at + count - 1) ≤ length (now tri) ⌝ }
-    ensures { λ _. ⌜ now (tri .exit) ≡ iter (append (now (rows .entry)) at) 1 count (now (tri .entry)) ⌝ }
+    requires { ⌜ 3 * (at + count - 1) ≤ length (now rows) ⌝ }
+    ensures { λ _. ⌜ now (rows .exit) ≡ iter (append (now (numbers .entry)) at) 1 count (now (rows .entry)) ⌝ }
 {
     let mut k = 1;
     while k < count {
-        place_one(tri, at, k, rows);
+        place_one(rows, at, k, numbers);
         k += 1;
     }
 }
 
 // Row 0 of a cut on row i, the others from row `at` on.
-pub fn place(tri: &mut [u32], i: usize, at: usize, c: Children)
+fn place(rows: &mut [u32], i: usize, at: usize, c: Children)
     requires { ⌜ (1 ≤ c .count) × (c .count ≤ 4) ⌝ }
-    requires { ⌜ 3 * i + 3 ≤ length (now tri) ⌝ }
-    requires { ⌜ 3 * (at + c .count - 1) ≤ length (now tri) ⌝ }
-    ensures { λ _. ⌜ now (tri .exit) ≡ placed (c .rows) (c .count) (now (tri .entry)) i at ⌝ }
+    requires { ⌜ 3 * i + 3 ≤ length (now rows) ⌝ }
+    requires { ⌜ 3 * (at + c .count - 1) ≤ length (now rows) ⌝ }
+    ensures { λ _. ⌜ now (rows .exit) ≡ placed (c .rows) (c .count) (now (rows .entry)) i at ⌝ }
 {
-    let rows = c.rows;
+    let numbers = c.rows;
     let count = c.count;
-    let w = child_at(&rows, 0);
-    tables::put_row(tri, i, w);
-    place_rest(tri, at, count, &rows);
+    let w = child_at(&numbers, 0);
+    tables::put_row(rows, i, w);
+    place_rest(rows, at, count, &numbers);
 }
 
 // The cut of row i.
-fn cut_at(tri: &[u32], s: &[u32], nc: usize, n: u32, i: usize) -> Children
+fn cut_at(rows: &[u32], scratch: &[u32], nc: usize, n: u32, i: usize) -> Children
     requires { ⌜ n ≤ 65_536 ⌝ }
-    requires { ⌜ Ready (now s) nc (now tri) i ⌝ }
-    requires { ⌜ 3 * i + 3 ≤ length (now tri) ⌝ }
-    ensures { λ c. ⌜ c ≡ children (cutAt n (now (tri .entry)) (now (s .entry)) i) ⌝ }
+    requires { ⌜ Ready (now scratch) nc (now rows) i ⌝ }
+    requires { ⌜ 3 * i + 3 ≤ length (now rows) ⌝ }
+    ensures { λ c. ⌜ c ≡ children (cutAt n (now (rows .entry)) (now (scratch .entry)) i) ⌝ }
 {
-    let w = tables::row_at(tri, i);
-    let k = notes::mids_of(tri, s, nc, n, i);
+    let w = tables::row_at(rows, i);
+    let k = notes::mids_of(rows, scratch, nc, n, i);
     cut_of(w, k)
 }
 
 // Row i is cut; the rows that it adds end before row `end`. Returns where they begin.
-fn cut_row(tri: &mut [u32], s: &[u32], nc: usize, n: u32, i: usize, end: usize) -> usize
+fn cut_row(rows: &mut [u32], scratch: &[u32], nc: usize, n: u32, i: usize, end: usize) -> usize
     requires { ⌜ n ≤ 65_536 ⌝ }
-    requires { ⌜ Ready (now s) nc (now tri) i ⌝ }
-    requires { ⌜ i + addedAt n (now tri) (now s) i < end ⌝ }
-    requires { ⌜ 3 * end ≤ length (now tri) ⌝ }
-    ensures begin { λ r. ⌜ r ≡ end - addedAt n (now (tri .entry)) (now (s .entry)) i ⌝ }
-    ensures table { λ r. ⌜ now (tri .exit) ≡ putCut (cutAt n (now (tri .entry)) (now (s .entry)) i) i r (now (tri .entry)) ⌝ }
+    requires { ⌜ Ready (now scratch) nc (now rows) i ⌝ }
+    requires { ⌜ i + addedAt n (now rows) (now scratch) i < end ⌝ }
+    requires { ⌜ 3 * end ≤ length (now rows) ⌝ }
+    ensures begin { λ r. ⌜ r ≡ end - addedAt n (now (rows .entry)) (now (scratch .entry)) i ⌝ }
+    ensures table { λ r. ⌜ now (rows .exit) ≡ putCut (cutAt n (now (rows .entry)) (now (scratch .entry)) i) i r (now (rows .entry)) ⌝ }
 {
-    let c = cut_at(tri, s, nc, n, i);
+    let c = cut_at(rows, scratch, nc, n, i);
     let at = end + 1 - c.count;
-    place(tri, i, at, c);
+    place(rows, i, at, c);
     at
 }
 
 // All t rows are cut, the last first; t1 is the count of rows after.
-pub fn cut_rows(tri: &mut [u32], s: &[u32], nc: usize, n: u32, t: usize, t1: usize)
+pub fn cut_rows(rows: &mut [u32], scratch: &[u32], nc: usize, n: u32, t: usize, t1: usize)
     requires { ⌜ n ≤ 65_536 ⌝ }
-    requires { ⌜ Ready (now s) nc (now tri) t ⌝ }
-    requires { ⌜ t1 ≡ t + sumTo (addedAt n (now tri) (now s)) t ⌝ }
-    requires { ⌜ 3 * t1 ≤ length (now tri) ⌝ }
-    ensures { λ _. ⌜ items (rowAt (now (tri .exit))) 0 t1 ≡ cutAll (items (cutAt n (now (tri .entry)) (now (s .entry))) 0 t) ⌝ }
+    requires { ⌜ Ready (now scratch) nc (now rows) t ⌝ }
+    requires { ⌜ t1 ≡ t + sumTo (addedAt n (now rows) (now scratch)) t ⌝ }
+    requires { ⌜ 3 * t1 ≤ length (now rows) ⌝ }
+    ensures { λ _. ⌜ items (rowAt (now (rows .exit))) 0 t1 ≡ cutAll (items (cutAt n (now (rows .entry)) (now (scratch .entry))) 0 t) ⌝ }
 {
     let mut i = t;
     let mut end = t1;
     while i > 0 {
-        end = cut_row(tri, s, nc, n, i - 1, end);
+        end = cut_row(rows, scratch, nc, n, i - 1, end);
         i -= 1;
     }
 }
@@ -148,30 +148,30 @@ pub fn cut_rows(tri: &mut [u32], s: &[u32], nc: usize, n: u32, t: usize, t1: usi
 // ---- the count of rows after
 
 // How many rows the cut of a triangle adds: one for each of its edges that is split.
-pub fn added(c: Note) -> usize
+fn added(c: Note) -> usize
     requires { ⌜ Short c ⌝ }
     ensures { λ r. ⌜ r ≡ splitsOf c ⌝ }
 {
     (c.m + c.u + c.v) as usize
 }
 
-pub fn added_at(s: &[u32], i: usize) -> usize
-    requires { ⌜ i < length (now s) ⌝ }
-    ensures { λ r. ⌜ r ≡ splits (now (s .entry)) i ⌝ }
+fn added_at(scratch: &[u32], i: usize) -> usize
+    requires { ⌜ i < length (now scratch) ⌝ }
+    ensures { λ r. ⌜ r ≡ splits (now (scratch .entry)) i ⌝ }
 {
-    added(notes::note_at(s, i))
+    added(notes::note_at(scratch, i))
 }
 
 // The count of rows after all t are cut.
-pub fn rows_after(s: &[u32], t: usize) -> usize
-    requires { ⌜ t ≤ length (now s) ⌝ }
+pub fn rows_after(scratch: &[u32], t: usize) -> usize
+    requires { ⌜ t ≤ length (now scratch) ⌝ }
     requires { ⌜ t ≤ 262_144 ⌝ }
-    ensures { λ r. ⌜ r ≡ t + sumTo (splits (now (s .entry))) t ⌝ }
+    ensures { λ r. ⌜ r ≡ t + sumTo (splits (now (scratch .entry))) t ⌝ }
 {
     let mut r = t;
     let mut i = 0;
     while i < t {
-        r += added_at(s, i);
+        r += added_at(scratch, i);
         i += 1;
     }
     r

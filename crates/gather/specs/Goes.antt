@@ -1,5 +1,5 @@
 -- Which nodes go, what becomes of a row, the new numbers: by the notes in s. Assumes nothing.
-use mathlib.Core.Bool.{Bool, true, false, not, _&&_}
+use mathlib.Core.Bool.{Bool, not, _&&_}
 use mathlib.Core.List.{List}
 use Prim.Native.Nat.{ℕ, zero, suc, _+_, _-_, _*_, _/_, _%_, _≤_, _<_}
 use lib.Dec.{eqb, ltb}
@@ -50,5 +50,5 @@ fatherBy w f = cases (ltb f 2) w (tri (w .q) (w .r) (f - 2))
 unfoldable pub renamedBy : List ℕ → Tri → Tri
 renamedBy s w = tri (getD s (w .p) 0) (getD s (w .q) 0) (getD s (w .r) 0)
 
-unfoldable pub newRow : List ℕ → List ℕ → ℕ → ℕ → Tri
-newRow l s nc i = renamedBy s (fatherBy (rowAt l i) (getD s (2 * nc + i) 0))
+unfoldable pub newRow : List ℕ → ℕ → List ℕ → ℕ → Tri
+newRow s nc l i = renamedBy s (fatherBy (rowAt l i) (getD s (2 * nc + i) 0))

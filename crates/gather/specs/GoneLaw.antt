@@ -1,27 +1,23 @@
 -- The notes say what coarsening does: which nodes go, what becomes of each row, the new numbers. Assumes nothing.
-use mathlib.Core.Path.{_≡_, refl, sym, subst, ap, ap₂, _∙_}
+use mathlib.Core.Path.{_≡_, refl, sym, ap, _∙_}
 use mathlib.Core.Logic.{_≢_}
 use mathlib.Core.Bool.{Bool, true, false, not, _&&_}
-use mathlib.Core.List.{List, [], _∷_, _++_, map, List·Memᴰ}
+use mathlib.Core.List.{List, [], _∷_, List·Memᴰ}
 use Prim.Native.Nat.{ℕ, zero, suc, _+_, _-_, _*_, _/_, _%_, _≤_, _<_, min, max}
 use native.Mathlib.Omega.{arith}
 use native.Mathlib.Decide.{ℕ-discrete}
-use borrow.Author.Tests.{eqb-true, eqb-false, eq-eqb, ne-eqb, le-ltb}
+use borrow.Author.Tests.{eqb-true, eq-eqb, ne-eqb, le-ltb}
 use lib.Dec.{eqb, ltb}
-use lib.IntN.{ℤ}
 use lib.ListN.{length, getD}
-use Rattle.lists.specs.Lists.{cases, any, joined, consIf, All}
+use Rattle.lists.specs.Lists.{cases, any}
 use Rattle.lists.specs.ListsLaw.{clash, and-both, and-left, and-right, All-at, any-at, any-row}
 use Rattle.lists.specs.PartsLaw.{not-so}
 use Rattle.lists.specs.Tally.{bit}
-use Rattle.lists.specs.Search.{items, itemsFrom}
-use Rattle.lists.specs.Loops.{kept, keptFrom}
-use Rattle.meaning.specs.declared.Place.{Place}
 use Rattle.meaning.specs.declared.Tri.{Tri}
-use Rattle.meaning.specs.Mesh.{Mesh, Edge, tri, edge, sameTri}
+use Rattle.meaning.specs.Mesh.{Mesh, tri, edge}
 use Rattle.meaning.specs.Lawful.{Lawful, Named}
 use Rattle.meaning.specs.Good.{Brothers, father, span, good}
-use Rattle.meaning.specs.Coarsen.{marked, taken, fate, stays, stayed, renumber, renamed, staying}
+use Rattle.meaning.specs.Coarsen.{marked, taken, fate, stays, renumber}
 use Rattle.laws.specs.Edges.{sameTri-eq}
 use Rattle.laws.specs.Star.{Pair, father-named, good-added, good-meets}
 use Rattle.laws.specs.Stay.{stayed-more}
@@ -75,14 +71,14 @@ module _ (n0 : ℕ) (m : Mesh) (marks : List ℕ) (z : ℕ) (l : z < length (m .
               clash (sym h′ ∙ e)
 
   -- a node that goes is noted with its pair
-  pub take-pair : any (eqb z) (taken n0 m marks) ≡ true → takeNo n0 m marks z ≡ pairNo (span m z)
+  take-pair : any (eqb z) (taken n0 m marks) ≡ true → takeNo n0 m marks z ≡ pairNo (span m z)
   unfolding takeNo
   take-pair e =
       let h : marked marks z && good n0 m z ≡ true = sym gone-is ∙ e in
       let g = and-right (marked marks z) (good n0 m z) h in
       rw h (meets-sign n0 m z (good-added n0 m z g) (good-meets n0 m z g))
 
-  pub take-none : any (eqb z) (taken n0 m marks) ≡ false → takeNo n0 m marks z ≡ 0
+  take-none : any (eqb z) (taken n0 m marks) ≡ false → takeNo n0 m marks z ≡ 0
   unfolding takeNo
   take-none e = rw (sym gone-is ∙ e)
 
@@ -96,13 +92,13 @@ module _ (n0 : ℕ) (m : Mesh) (marks : List ℕ) (z : ℕ) (l : z < length (m .
 
 -- ---- new numbers
 
-pub number-is : (zs : List ℕ) (gone : ℕ → Bool) (n : ℕ) → ((z : ℕ) → z < n → gone z ≡ any (eqb z) zs) → (k : ℕ) → k ≤ n → numberBelow gone k ≡ renumber zs k
+pub number-renumber : (zs : List ℕ) (gone : ℕ → Bool) (n : ℕ) → ((z : ℕ) → z < n → gone z ≡ any (eqb z) zs) → (k : ℕ) → k ≤ n → numberBelow gone k ≡ renumber zs k
 unfolding numberBelow
-number-is zs gone n h zero l = refl
-number-is zs gone n h (suc k) l =
+number-renumber zs gone n h zero l = refl
+number-renumber zs gone n h (suc k) l =
     let e : 0 + k ≡ k = omega arith in
     let a : renumber zs (suc k) ≡ renumber zs k + bit (stays zs k) = rw e at (stayed-more zs 0 k) in
-    step (gone k) (any (eqb k) zs) (h k (omega arith)) (number-is zs gone n h k (omega arith)) a
+    step (gone k) (any (eqb k) zs) (h k (omega arith)) (number-renumber zs gone n h k (omega arith)) a
   where
     step : (x y : Bool) → x ≡ y → numberBelow gone k ≡ renumber zs k → renumber zs (suc k) ≡ renumber zs k + bit (not y) →
         nextNumber x (numberBelow gone k) ≡ renumber zs (suc k)

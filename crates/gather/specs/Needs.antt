@@ -1,29 +1,20 @@
 -- Laws in the form of needs. Assumes nothing.
 use mathlib.Core.Path.{_≡_, refl, sym, ap, _∙_}
-use mathlib.Core.Logic.{_≢_}
-use mathlib.Core.Bool.{Bool, true, false, not, _&&_}
-use mathlib.Core.List.{List, [], _∷_, _++_}
-use Prim.Native.Nat.{ℕ, zero, suc, _+_, _-_, _*_, _/_, _%_, _≤_, _<_}
+use mathlib.Core.Bool.{Bool, true, false, _&&_}
+use mathlib.Core.List.{List}
+use Prim.Native.Nat.{ℕ, suc, _+_, _-_, _*_, _/_, _%_, _≤_, _<_}
 use native.Mathlib.Omega.{arith}
-use native.Mathlib.Numerals.{add-one}
 use borrow.Author.Tests.{lt-ltb, le-ltb, eq-eqb, ne-eqb}
-use lib.Dec.{eqb, ltb}
-use lib.IntN.{ℤ, pos}
-use lib.ListN.{length, getD, set, length-set, List·getD-eq-default}
-use Rattle.lists.specs.Lists.{cases}
-use Rattle.lists.specs.Search.{items}
-use Rattle.lists.specs.IterLaw.{length-items}
-use Rattle.lists.specs.Loops.{noted, kept}
-use Rattle.lists.specs.LoopsLaw.{noted-turn, noted-below, noted-above, noted-length, kept-gone, kept-put, kept-done, kept-start}
-use Rattle.meaning.specs.declared.Place.{Place}
+use lib.Dec.{eqb}
+use lib.ListN.{length, getD, set, List·getD-eq-default}
+use Rattle.lists.specs.Loops.{noted}
+use Rattle.lists.specs.LoopsLaw.{noted-turn, noted-below, noted-above}
 use Rattle.meaning.specs.declared.Tri.{Tri}
 use Rattle.meaning.specs.Mesh.{tri}
 use Rattle.meaning.specs.Coarsen.{marked}
-use Rattle.meaning.specs.Tables.{rowAt, placeAt, flatRows, flatNodes, filled}
-use Rattle.tables.specs.Put.{setRow, setPlace}
-use Rattle.tables.specs.PutLaw.{row-set-same, row-set-other, place-set-same, place-set-other}
+use Rattle.meaning.specs.Tables.{rowAt}
 use Rattle.good.specs.Meshes.{Fair}
-use Rattle.gather.specs.Goes.{Small, takeAt, fateNo, fateAt, goneNode, nextNumber, numberBelow, goneRow, fatherBy, renamedBy, newRow}
+use Rattle.gather.specs.Goes.{Small, takeAt, fateNo, fateAt, goneNode, nextNumber, numberBelow, fatherBy, renamedBy, newRow}
 
 -- ---- which nodes go
 
@@ -146,97 +137,10 @@ pub renamed-made : (s : List ℕ) (w : Tri) (p q r : ℕ) → p ≡ getD s (w .p
 unfolding renamedBy
 renamed-made s w p q r a b c = rw (a, b, c)
 
-pub row-made : (l s : List ℕ) (nc i f : ℕ) (w x y : Tri) → w ≡ rowAt l i → f ≡ getD s (2 * nc + i) 0 → x ≡ fatherBy w f → y ≡ renamedBy s x → y ≡ newRow l s nc i
+pub row-made : (l s : List ℕ) (nc i f : ℕ) (w x y : Tri) → w ≡ rowAt l i → f ≡ getD s (2 * nc + i) 0 → x ≡ fatherBy w f → y ≡ renamedBy s x → y ≡ newRow s nc l i
 unfolding newRow
 row-made l s nc i f w x y a b c d = d ∙ rw (c, b, a)
 
--- rows from i on are as they were
-pub record Rest (l₀ l : List ℕ) (i : ℕ) : Type 0 where
-  pub long : length l ≡ length l₀
-  pub rows : (j : ℕ) → i ≤ j → rowAt l j ≡ rowAt l₀ j
-
-pub rest-start : (l : List ℕ) → Rest l l 0
-rest-start l = record { long = refl; rows = λ j h. refl }
-
-pub rest-on : (l₀ l : List ℕ) (i : ℕ) → Rest l₀ l i → Rest l₀ l (i + 1)
-rest-on l₀ l i r = record { long = r .long; rows = λ j h. r .rows j (omega arith) }
-
-pub rest-put : (l₀ l l′ : List ℕ) (i k : ℕ) (w : Tri) → Rest l₀ l i → k ≤ i → l′ ≡ setRow l k w → length l′ ≡ length l → Rest l₀ l′ (i + 1)
-rest-put l₀ l l′ i k w r h e q = record {
-  long = q ∙ r .long;
-  rows = λ j a. (let o : j ≢ k = omega arith in let p : rowAt l′ j ≡ rowAt l j = rw e (row-set-other l k j w o) in p ∙ r .rows j (omega arith));
-}
-
-new-same : (l₀ l s : List ℕ) (nc i : ℕ) → rowAt l i ≡ rowAt l₀ i → newRow l s nc i ≡ newRow l₀ s nc i
+pub new-same : (s : List ℕ) (nc : ℕ) (l l′ : List ℕ) (i : ℕ) → rowAt l i ≡ rowAt l′ i → newRow s nc l i ≡ newRow s nc l′ i
 unfolding newRow
-new-same l₀ l s nc i q = rw q
-
--- W is the whole list, k rows of it are written
-module _ (l₀ l s : List ℕ) (nc k i t : ℕ) (b : Bool) (r : Rest l₀ l i) (room : 3 * t ≤ length l₀) (h : i < t) (a : k ≤ i)
-    (inv : items (rowAt l) 0 k ++ kept (goneRow s nc) (newRow l₀ s nc) i t ≡ kept (goneRow s nc) (newRow l₀ s nc) 0 t) (f : b ≡ goneRow s nc i) where
-  pub rows-skip : b ≡ true → items (rowAt l) 0 k ++ kept (goneRow s nc) (newRow l₀ s nc) (i + 1) t ≡ kept (goneRow s nc) (newRow l₀ s nc) 0 t
-  rows-skip y = kept-gone (goneRow s nc) (newRow l₀ s nc) (rowAt l) k i t _ inv h (sym f ∙ y)
-
-  pub rows-put : (l′ : List ℕ) → b ≡ false → l′ ≡ setRow l k (newRow l s nc i) →
-      items (rowAt l′) 0 (k + 1) ++ kept (goneRow s nc) (newRow l₀ s nc) (i + 1) t ≡ kept (goneRow s nc) (newRow l₀ s nc) 0 t
-  rows-put l′ y e =
-      let q = r .long in
-      kept-put (goneRow s nc) (newRow l₀ s nc) (rowAt l) k i t _ inv (rowAt l′) h (sym f ∙ y)
-      (rw e (row-set-same l k (newRow l s nc i) (omega arith)) ∙ new-same l₀ l s nc i (r .rows i (omega arith)))
-      (λ j u. (let o : j ≢ k = omega arith in rw e (row-set-other l k j (newRow l s nc i) o)))
-
-pub rows-start : (l s : List ℕ) (nc t : ℕ) → items (rowAt l) 0 0 ++ kept (goneRow s nc) (newRow l s nc) 0 t ≡ kept (goneRow s nc) (newRow l s nc) 0 t
-rows-start l s nc t = kept-start (goneRow s nc) (newRow l s nc) (rowAt l) t
-
-pub rows-done : (l₀ l s : List ℕ) (nc k i t : ℕ) → t ≤ i →
-    items (rowAt l) 0 k ++ kept (goneRow s nc) (newRow l₀ s nc) i t ≡ kept (goneRow s nc) (newRow l₀ s nc) 0 t → items (rowAt l) 0 k ≡ kept (goneRow s nc) (newRow l₀ s nc) 0 t
-rows-done l₀ l s nc k i t h inv = kept-done (goneRow s nc) (newRow l₀ s nc) (rowAt l) k i t _ inv h
-
-pub items-count : {R : Type 0} (a : ℕ → R) (k : ℕ) (ws : List R) → items a 0 k ≡ ws → k ≡ length ws
-items-count a k ws e = sym (length-items a k) ∙ ap length e
-
-pub rows-closed : (l₀ l l′ : List ℕ) (k : ℕ) (ws : List Tri) → length l ≡ length l₀ → items (rowAt l) 0 k ≡ ws → l′ ≡ filled 0 (length l) (flatRows (items (rowAt l) 0 k)) →
-    l′ ≡ filled 0 (length l₀) (flatRows ws)
-rows-closed l₀ l l′ k ws q e f = f ∙ rw (e, q)
-
--- ---- nodes
-
-pub record Others (l₀ l : List ℤ) (i : ℕ) : Type 0 where
-  pub long : length l ≡ length l₀
-  pub places : (j : ℕ) → i ≤ j → placeAt l j ≡ placeAt l₀ j
-
-pub others-start : (l : List ℤ) → Others l l 0
-others-start l = record { long = refl; places = λ j h. refl }
-
-pub others-on : (l₀ l : List ℤ) (i : ℕ) → Others l₀ l i → Others l₀ l (i + 1)
-others-on l₀ l i r = record { long = r .long; places = λ j h. r .places j (omega arith) }
-
-pub others-put : (l₀ l l′ : List ℤ) (i k : ℕ) (a : Place) → Others l₀ l i → k ≤ i → l′ ≡ setPlace l k a → length l′ ≡ length l → Others l₀ l′ (i + 1)
-others-put l₀ l l′ i k a r h e q = record {
-  long = q ∙ r .long;
-  places = λ j x. (let o : j ≢ k = omega arith in let p : placeAt l′ j ≡ placeAt l j = rw e (place-set-other l k j a o) in p ∙ r .places j (omega arith));
-}
-
-module _ (l₀ l : List ℤ) (s : List ℕ) (nc k i n : ℕ) (b : Bool) (r : Others l₀ l i) (room : 2 * n ≤ length l₀) (h : i < n) (a : k ≤ i)
-    (inv : items (placeAt l) 0 k ++ kept (goneNode s nc) (placeAt l₀) i n ≡ kept (goneNode s nc) (placeAt l₀) 0 n) (f : b ≡ goneNode s nc i) where
-  pub nodes-skip : b ≡ true → items (placeAt l) 0 k ++ kept (goneNode s nc) (placeAt l₀) (i + 1) n ≡ kept (goneNode s nc) (placeAt l₀) 0 n
-  nodes-skip y = kept-gone (goneNode s nc) (placeAt l₀) (placeAt l) k i n _ inv h (sym f ∙ y)
-
-  pub nodes-put : (l′ : List ℤ) → b ≡ false → l′ ≡ setPlace l k (placeAt l i) →
-      items (placeAt l′) 0 (k + 1) ++ kept (goneNode s nc) (placeAt l₀) (i + 1) n ≡ kept (goneNode s nc) (placeAt l₀) 0 n
-  nodes-put l′ y e =
-      let q = r .long in
-      kept-put (goneNode s nc) (placeAt l₀) (placeAt l) k i n _ inv (placeAt l′) h (sym f ∙ y)
-      (rw e (place-set-same l k (placeAt l i) (omega arith)) ∙ r .places i (omega arith))
-      (λ j u. (let o : j ≢ k = omega arith in rw e (place-set-other l k j (placeAt l i) o)))
-
-pub nodes-start : (l : List ℤ) (s : List ℕ) (nc n : ℕ) → items (placeAt l) 0 0 ++ kept (goneNode s nc) (placeAt l) 0 n ≡ kept (goneNode s nc) (placeAt l) 0 n
-nodes-start l s nc n = kept-start (goneNode s nc) (placeAt l) (placeAt l) n
-
-pub nodes-done : (l₀ l : List ℤ) (s : List ℕ) (nc k i n : ℕ) → n ≤ i →
-    items (placeAt l) 0 k ++ kept (goneNode s nc) (placeAt l₀) i n ≡ kept (goneNode s nc) (placeAt l₀) 0 n → items (placeAt l) 0 k ≡ kept (goneNode s nc) (placeAt l₀) 0 n
-nodes-done l₀ l s nc k i n h inv = kept-done (goneNode s nc) (placeAt l₀) (placeAt l) k i n _ inv h
-
-pub nodes-closed : (l₀ l l′ : List ℤ) (k : ℕ) (ps : List Place) → length l ≡ length l₀ → items (placeAt l) 0 k ≡ ps → l′ ≡ filled (pos 0) (length l) (flatNodes (items (placeAt l) 0 k)) →
-    l′ ≡ filled (pos 0) (length l₀) (flatNodes ps)
-nodes-closed l₀ l l′ k ps q e f = f ∙ rw (e, q)
+new-same s nc l l′ i q = rw q

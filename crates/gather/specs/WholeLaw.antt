@@ -1,35 +1,32 @@
 -- The tables that close up hold the coarsened mesh. Assumes nothing.
-use mathlib.Core.Path.{_≡_, refl, sym, subst, ap, ap₂, _∙_}
-use mathlib.Core.Logic.{_≢_}
+use mathlib.Core.Path.{_≡_, refl, sym, subst, ap, _∙_}
 use mathlib.Core.Bool.{Bool, true, false, not, _&&_}
 use mathlib.Core.List.{List, [], _∷_, _++_, map, map-append, List·Memᴰ}
-use Prim.Native.Nat.{ℕ, zero, suc, _+_, _-_, _*_, _/_, _≤_, _<_}
+use Prim.Native.Nat.{ℕ, zero, suc, _+_, _-_, _*_, _≤_, _<_}
 use native.Mathlib.Omega.{arith}
-use native.Mathlib.Numerals.{add-one}
 use lib.Dec.{eqb}
 use lib.IntN.{ℤ, pos}
 use lib.ListN.{length, getD}
 use Rattle.lists.specs.Lists.{cases, any, joined, consIf}
 use Rattle.lists.specs.Search.{items, itemsFrom}
 use Rattle.lists.specs.ByNumberLaw.{items-in}
-use Rattle.lists.specs.Loops.{noted, kept, keptFrom}
+use Rattle.lists.specs.Loops.{noted, remaining, remainingFrom}
 use Rattle.lists.specs.LoopsLaw.{noted-length, noted-at, noted-below, noted-above}
 use Rattle.meaning.specs.declared.Place.{Place}
 use Rattle.meaning.specs.declared.Tri.{Tri}
-use Rattle.meaning.specs.Mesh.{Mesh, tri, mesh}
+use Rattle.meaning.specs.Mesh.{Mesh}
 use Rattle.meaning.specs.Lawful.{Lawful, Named}
 use Rattle.meaning.specs.Good.{good}
-use Rattle.meaning.specs.Coarsen.{marked, taken, fate, stays, renumber, renamed, staying, without, coarsened}
+use Rattle.meaning.specs.Coarsen.{marked, taken, fate, renumber, renamed, staying, without, coarsened}
 use Rattle.meaning.specs.Tables.{rowAt, placeAt, flatNodes, flatRows, filled}
 use Rattle.laws.specs.CoarsenRows.{brood}
-use Rattle.good.specs.Meshes.{meshAt, count-nodes, named-at, Fair, fair}
+use Rattle.good.specs.Meshes.{meshAt, count-nodes, named-at}
 use Rattle.good.specs.Sign.{signFrom}
 use Rattle.good.specs.Rival.{judged}
 use Rattle.good.specs.RivalLaw.{sign-few}
 use Rattle.gather.specs.Goes.{Small, takeAt, fateNo, fateAt, goneNode, numberBelow, goneRow, fatherBy, renamedBy, newRow}
-use Rattle.gather.specs.GoneLaw.{takeNo, take-is, gone-is, stays-is, number-is, fate-note, father-in}
-use Rattle.gather.specs.Whole.{Going, Settled, Left, left, counts, leftOf}
-use Rattle.gather.specs.declared.Counts.{Counts}
+use Rattle.gather.specs.GoneLaw.{takeNo, take-is, stays-is, number-renumber, fate-note, father-in}
+use Rattle.gather.specs.Whole.{Going, Settled, left, counts, leftOf}
 
 -- ---- lists that close up
 
@@ -38,39 +35,39 @@ map-joined h f [] = refl
 map-joined h f (x ∷ l) = map-append h (f x) (joined f l) ∙ ap (λ r. map h (f x) ++ r) (map-joined h f l)
 
 module _ {A B : Type 0} (g : A → List B) (a : ℕ → A) (gone : ℕ → Bool) (new : ℕ → B) where
-  from-joined : (i k : ℕ) → ((j : ℕ) → i ≤ j → j < i + k → g (a j) ≡ cases (gone j) [] (new j ∷ [])) → joined g (itemsFrom a i k) ≡ keptFrom gone new i k
-  unfolding itemsFrom keptFrom
+  from-joined : (i k : ℕ) → ((j : ℕ) → i ≤ j → j < i + k → g (a j) ≡ cases (gone j) [] (new j ∷ [])) → joined g (itemsFrom a i k) ≡ remainingFrom gone new i k
+  unfolding itemsFrom remainingFrom
   from-joined i zero h = refl
   from-joined i (suc k) h =
       rw (h i (omega arith) (omega arith)) (go (gone i) (from-joined (i + 1) k (λ j l u. h j (omega arith) (omega arith))))
     where
-      go : (b : Bool) → joined g (itemsFrom a (i + 1) k) ≡ keptFrom gone new (i + 1) k →
-          cases b [] (new i ∷ []) ++ joined g (itemsFrom a (i + 1) k) ≡ cases b (keptFrom gone new (i + 1) k) (new i ∷ keptFrom gone new (i + 1) k)
+      go : (b : Bool) → joined g (itemsFrom a (i + 1) k) ≡ remainingFrom gone new (i + 1) k →
+          cases b [] (new i ∷ []) ++ joined g (itemsFrom a (i + 1) k) ≡ cases b (remainingFrom gone new (i + 1) k) (new i ∷ remainingFrom gone new (i + 1) k)
       go true e = e
       go false e = ap (λ r. new i ∷ r) e
 
-  pub joined-kept : (t : ℕ) → ((j : ℕ) → j < t → g (a j) ≡ cases (gone j) [] (new j ∷ [])) → joined g (items a 0 t) ≡ kept gone new 0 t
-  unfolding items kept
-  joined-kept t h = from-joined 0 (t - 0) (λ j l u. h j (omega arith))
+  joined-remaining : (t : ℕ) → ((j : ℕ) → j < t → g (a j) ≡ cases (gone j) [] (new j ∷ [])) → joined g (items a 0 t) ≡ remaining gone new 0 t
+  unfolding items remaining
+  joined-remaining t h = from-joined 0 (t - 0) (λ j l u. h j (omega arith))
 
 module _ (zs : List ℕ) (a : ℕ → Place) (gone : ℕ → Bool) where
-  from-staying : (i k : ℕ) → ((j : ℕ) → i ≤ j → j < i + k → gone j ≡ any (eqb j) zs) → staying zs i (itemsFrom a i k) ≡ keptFrom gone a i k
-  unfolding itemsFrom keptFrom
+  from-staying : (i k : ℕ) → ((j : ℕ) → i ≤ j → j < i + k → gone j ≡ any (eqb j) zs) → staying zs i (itemsFrom a i k) ≡ remainingFrom gone a i k
+  unfolding itemsFrom remainingFrom
   from-staying i zero h = refl
   from-staying i (suc k) h =
       let e : i + 1 ≡ suc i = omega arith in
-      let ih : staying zs (suc i) (itemsFrom a (i + 1) k) ≡ keptFrom gone a (i + 1) k =
-      subst (λ (x : ℕ). staying zs x (itemsFrom a (i + 1) k) ≡ keptFrom gone a (i + 1) k) e (from-staying (i + 1) k (λ j l u. h j (omega arith) (omega arith))) in
+      let ih : staying zs (suc i) (itemsFrom a (i + 1) k) ≡ remainingFrom gone a (i + 1) k =
+      subst (λ (x : ℕ). staying zs x (itemsFrom a (i + 1) k) ≡ remainingFrom gone a (i + 1) k) e (from-staying (i + 1) k (λ j l u. h j (omega arith) (omega arith))) in
       rw (h i (omega arith) (omega arith)) (go (any (eqb i) zs) ih)
     where
-      go : (b : Bool) → staying zs (suc i) (itemsFrom a (i + 1) k) ≡ keptFrom gone a (i + 1) k →
-          consIf (not b) (a i) (staying zs (suc i) (itemsFrom a (i + 1) k)) ≡ cases b (keptFrom gone a (i + 1) k) (a i ∷ keptFrom gone a (i + 1) k)
+      go : (b : Bool) → staying zs (suc i) (itemsFrom a (i + 1) k) ≡ remainingFrom gone a (i + 1) k →
+          consIf (not b) (a i) (staying zs (suc i) (itemsFrom a (i + 1) k)) ≡ cases b (remainingFrom gone a (i + 1) k) (a i ∷ remainingFrom gone a (i + 1) k)
       go true e = e
       go false e = ap (λ r. a i ∷ r) e
 
-  pub staying-kept : (n : ℕ) → ((j : ℕ) → j < n → gone j ≡ any (eqb j) zs) → staying zs 0 (items a 0 n) ≡ kept gone a 0 n
-  unfolding items kept
-  staying-kept n h = from-staying 0 (n - 0) (λ j l u. h j (omega arith))
+  staying-remaining : (n : ℕ) → ((j : ℕ) → j < n → gone j ≡ any (eqb j) zs) → staying zs 0 (items a 0 n) ≡ remaining gone a 0 n
+  unfolding items remaining
+  staying-remaining n h = from-staying 0 (n - 0) (λ j l u. h j (omega arith))
 
 -- ---- the notes, one after the other: s₁ after the judging, s₂ who goes, s₃ fates, s₄ numbers
 
@@ -138,7 +135,7 @@ module _ (nodes : List ℤ) (l : List ℕ) (n0 n t nc : ℕ) (marks : List ℕ) 
         let q = len₃ in
         let e : 0 + z ≡ z = omega arith in
         let b : getD s₄ (0 + z) 0 ≡ numberBelow (goneNode s₃ nc) z = rw e₄ (noted-at 0 (numberBelow (goneNode s₃ nc)) n s₃ z 0 h (omega arith)) in
-        (rw e at b) ∙ number-is (taken n0 (meshAt nodes l n t) marks) (goneNode s₃ nc) n gone₃ z (omega arith)
+        (rw e at b) ∙ number-renumber (taken n0 (meshAt nodes l n t) marks) (goneNode s₃ nc) n gone₃ z (omega arith)
 
     pub settled : Settled s₄ nc n0 (meshAt nodes l n t) marks l n t
     settled = record { numbers = numbers₄; pairs = pairs₄; fates = fates₄ }
@@ -157,9 +154,9 @@ module _ (nodes : List ℤ) (l s : List ℕ) (n0 n t nc : ℕ) (marks : List ℕ
   unfolding goneNode
   gone-node z h = rw (d .pairs z h) (stays-is n0 (meshAt nodes l n t) marks z (below z h))
 
-  pub nodes-left : kept (goneNode s nc) (placeAt nodes) 0 n ≡ coarsened n0 (meshAt nodes l n t) marks .nodes
+  nodes-left : remaining (goneNode s nc) (placeAt nodes) 0 n ≡ coarsened n0 (meshAt nodes l n t) marks .nodes
   unfolding coarsened without meshAt
-  nodes-left = sym (staying-kept (taken n0 (meshAt nodes l n t) marks) (placeAt nodes) (goneNode s nc) n gone-node)
+  nodes-left = sym (staying-remaining (taken n0 (meshAt nodes l n t) marks) (placeAt nodes) (goneNode s nc) n gone-node)
 
   in-rows : (i : ℕ) → i < t → List·Memᴰ (rowAt l i) (meshAt nodes l n t .tris)
   unfolding meshAt
@@ -176,7 +173,7 @@ module _ (nodes : List ℤ) (l s : List ℕ) (n0 n t nc : ℕ) (marks : List ℕ
 
   row-left : (i : ℕ) → i < t →
       map (renamed (taken n0 (meshAt nodes l n t) marks)) (fate (brood (meshAt nodes l n t) (taken n0 (meshAt nodes l n t) marks)) (rowAt l i)) ≡
-      cases (goneRow s nc i) [] (newRow l s nc i ∷ [])
+      cases (goneRow s nc i) [] (newRow s nc l i ∷ [])
   unfolding goneRow newRow
   row-left i h =
       let m = meshAt nodes l n t in
@@ -192,16 +189,16 @@ module _ (nodes : List ℤ) (l s : List ℕ) (n0 n t nc : ℕ) (marks : List ℕ
       go true e = refl
       go false e = ap (λ x. x ∷ []) (renamed-by (fatherBy (rowAt l i) (fateNo (takeNo n0 (meshAt nodes l n t) marks (rowAt l i .p)) (rowAt l i))) (father-in n0 (meshAt nodes l n t) marks law few (rowAt l i) (in-rows i h) e))
 
-  pub rows-left : kept (goneRow s nc) (newRow l s nc) 0 t ≡ coarsened n0 (meshAt nodes l n t) marks .tris
+  rows-left : remaining (goneRow s nc) (newRow s nc l) 0 t ≡ coarsened n0 (meshAt nodes l n t) marks .tris
   unfolding coarsened without meshAt
   rows-left =
       let m = meshAt nodes l n t in
       sym (map-joined (renamed (taken n0 m marks)) (fate (brood m (taken n0 m marks))) (items (rowAt l) 0 t)
-      ∙ joined-kept (λ w. map (renamed (taken n0 m marks)) (fate (brood m (taken n0 m marks)) w)) (rowAt l) (goneRow s nc) (newRow l s nc) t row-left)
+      ∙ joined-remaining (λ w. map (renamed (taken n0 m marks)) (fate (brood m (taken n0 m marks)) w)) (rowAt l) (goneRow s nc) (newRow s nc l) t row-left)
 
   pub all-left : (rows places : ℕ) (l′ : List ℕ) (nodes′ : List ℤ) →
-      rows ≡ length (kept (goneRow s nc) (newRow l s nc) 0 t) → l′ ≡ filled 0 (length l) (flatRows (kept (goneRow s nc) (newRow l s nc) 0 t)) →
-      places ≡ length (kept (goneNode s nc) (placeAt nodes) 0 n) → nodes′ ≡ filled (pos 0) (length nodes) (flatNodes (kept (goneNode s nc) (placeAt nodes) 0 n)) →
+      rows ≡ length (remaining (goneRow s nc) (newRow s nc l) 0 t) → l′ ≡ filled 0 (length l) (flatRows (remaining (goneRow s nc) (newRow s nc l) 0 t)) →
+      places ≡ length (remaining (goneNode s nc) (placeAt nodes) 0 n) → nodes′ ≡ filled (pos 0) (length nodes) (flatNodes (remaining (goneNode s nc) (placeAt nodes) 0 n)) →
       left (counts places rows) nodes′ l′ ≡ leftOf (length nodes) (length l) (coarsened n0 (meshAt nodes l n t) marks)
   unfolding leftOf
   all-left rows places l′ nodes′ a b c e = rw (a, b, c, e, rows-left, nodes-left)

@@ -9,7 +9,7 @@ ghost use Prim.Native.Nat.{ℕ, _+_, _*_, _/_, _%_, _≤_, _<_};
 ghost use lib.IntN.{pos};
 ghost use lib.ListN.{length, getD, set, take, replicate};
 ghost use Rattle.lists.specs.Search.{items};
-ghost use Rattle.lists.specs.Loops.{noted, kept};
+ghost use Rattle.lists.specs.Loops.{noted, remaining};
 ghost use Rattle.meaning.specs.Lawful.{Lawful};
 ghost use Rattle.meaning.specs.Coarsen.{marked, coarsened};
 ghost use Rattle.meaning.specs.Tables.{rowAt, placeAt, flatRows, flatNodes, filled};
@@ -31,27 +31,27 @@ fn is_marked(marks: &[u8], z: usize) -> bool
     marks[z] == 1
 }
 
-fn taken(s: &[u32], marks: &[u8], nc: usize, z: usize) -> u32
-    requires { ⌜ nc + z < length (now s) ⌝ }
+fn taken(scratch: &[u32], marks: &[u8], nc: usize, z: usize) -> u32
+    requires { ⌜ nc + z < length (now scratch) ⌝ }
     requires { ⌜ z < length (now marks) ⌝ }
-    ensures { λ r. ⌜ r ≡ takeAt (now (marks .entry)) (now (s .entry)) nc z ⌝ }
+    ensures { λ r. ⌜ r ≡ takeAt (now (marks .entry)) (now (scratch .entry)) nc z ⌝ }
 {
-    let v = tables::note_at(s, nc + z);
+    let v = tables::note_at(scratch, nc + z);
     if is_marked(marks, z) & (v % 2 == 1) {
         return v / 2;
     }
     0
 }
 
-fn take_nodes(s: &mut [u32], marks: &[u8], nc: usize, n: usize)
-    requires { ⌜ nc + n ≤ length (now s) ⌝ }
+fn take_nodes(scratch: &mut [u32], marks: &[u8], nc: usize, n: usize)
+    requires { ⌜ nc + n ≤ length (now scratch) ⌝ }
     requires { ⌜ n ≤ length (now marks) ⌝ }
-    ensures { λ _. ⌜ now (s .exit) ≡ noted nc (takeAt (now (marks .entry)) (now (s .entry)) nc) n (now (s .entry)) ⌝ }
+    ensures { λ _. ⌜ now (scratch .exit) ≡ noted nc (takeAt (now (marks .entry)) (now (scratch .entry)) nc) n (now (scratch .entry)) ⌝ }
 {
     let mut z = 0;
     while z < n {
-        let v = taken(s, marks, nc, z);
-        tables::put_note(s, nc + z, v);
+        let v = taken(scratch, marks, nc, z);
+        tables::put_note(scratch, nc + z, v);
         z += 1;
     }
 }
@@ -77,98 +77,98 @@ fn fate(w: Tri, v: u32) -> u32
     1
 }
 
-fn at_node(s: &[u32], nc: usize, k: u32) -> u32
-    requires { ⌜ nc + k < length (now s) ⌝ }
-    ensures { λ r. ⌜ r ≡ getD (now (s .entry)) (nc + k) 0 ⌝ }
+fn at_node(scratch: &[u32], nc: usize, k: u32) -> u32
+    requires { ⌜ nc + k < length (now scratch) ⌝ }
+    ensures { λ r. ⌜ r ≡ getD (now (scratch .entry)) (nc + k) 0 ⌝ }
 {
-    tables::note_at(s, nc + k as usize)
+    tables::note_at(scratch, nc + k as usize)
 }
 
-fn fate_at(tri: &[u32], s: &[u32], nc: usize, n: usize, t: usize, i: usize) -> u32
-    requires { ⌜ Fair (now tri) n t ⌝ }
+fn fate_at(rows: &[u32], scratch: &[u32], nc: usize, n: usize, t: usize, i: usize) -> u32
+    requires { ⌜ Fair (now rows) n t ⌝ }
     requires { ⌜ i < t ⌝ }
-    requires { ⌜ nc + n ≤ length (now s) ⌝ }
-    requires { ⌜ Small (now s) nc n ⌝ }
-    ensures { λ r. ⌜ r ≡ fateAt (now (tri .entry)) (now (s .entry)) nc i ⌝ }
+    requires { ⌜ nc + n ≤ length (now scratch) ⌝ }
+    requires { ⌜ Small (now scratch) nc n ⌝ }
+    ensures { λ r. ⌜ r ≡ fateAt (now (rows .entry)) (now (scratch .entry)) nc i ⌝ }
 {
-    let w = tables::row_at(tri, i);
-    let v = at_node(s, nc, w.p);
+    let w = tables::row_at(rows, i);
+    let v = at_node(scratch, nc, w.p);
     fate(w, v)
 }
 
-fn fates(tri: &[u32], s: &mut [u32], nc: usize, n: usize, t: usize)
-    requires { ⌜ Fair (now tri) n t ⌝ }
+fn fates(rows: &[u32], scratch: &mut [u32], nc: usize, n: usize, t: usize)
+    requires { ⌜ Fair (now rows) n t ⌝ }
     requires { ⌜ n ≤ nc ⌝ }
-    requires { ⌜ 2 * nc + t ≤ length (now s) ⌝ }
-    requires { ⌜ Small (now s) nc n ⌝ }
-    ensures { λ _. ⌜ now (s .exit) ≡ noted (2 * nc) (fateAt (now (tri .entry)) (now (s .entry)) nc) t (now (s .entry)) ⌝ }
+    requires { ⌜ 2 * nc + t ≤ length (now scratch) ⌝ }
+    requires { ⌜ Small (now scratch) nc n ⌝ }
+    ensures { λ _. ⌜ now (scratch .exit) ≡ noted (2 * nc) (fateAt (now (rows .entry)) (now (scratch .entry)) nc) t (now (scratch .entry)) ⌝ }
 {
     let mut i = 0;
     while i < t {
-        let f = fate_at(tri, s, nc, n, t, i);
-        tables::put_note(s, 2 * nc + i, f);
+        let f = fate_at(rows, scratch, nc, n, t, i);
+        tables::put_note(scratch, 2 * nc + i, f);
         i += 1;
     }
 }
 
 // ---- new numbers
 
-fn gone_node(s: &[u32], nc: usize, z: usize) -> bool
-    requires { ⌜ nc + z < length (now s) ⌝ }
-    ensures { λ r. ⌜ r ≡ goneNode (now (s .entry)) nc z ⌝ }
+fn gone_node(scratch: &[u32], nc: usize, z: usize) -> bool
+    requires { ⌜ nc + z < length (now scratch) ⌝ }
+    ensures { λ r. ⌜ r ≡ goneNode (now (scratch .entry)) nc z ⌝ }
 {
-    tables::note_at(s, nc + z) != 0
+    tables::note_at(scratch, nc + z) != 0
 }
 
 // Node z gets the number k; the next number is returned.
-fn number_node(s: &mut [u32], nc: usize, z: usize, k: u32) -> u32
+fn number_node(scratch: &mut [u32], nc: usize, z: usize, k: u32) -> u32
     requires { ⌜ z < nc ⌝ }
     requires { ⌜ k ≤ 65_536 ⌝ }
-    requires { ⌜ nc + z < length (now s) ⌝ }
-    ensures put { λ _. ⌜ now (s .exit) ≡ set (now (s .entry)) z k ⌝ }
-    ensures next { λ r. ⌜ r ≡ nextNumber (goneNode (now (s .entry)) nc z) k ⌝ }
+    requires { ⌜ nc + z < length (now scratch) ⌝ }
+    ensures put { λ _. ⌜ now (scratch .exit) ≡ set (now (scratch .entry)) z k ⌝ }
+    ensures next { λ r. ⌜ r ≡ nextNumber (goneNode (now (scratch .entry)) nc z) k ⌝ }
 {
-    let g = gone_node(s, nc, z);
-    tables::put_note(s, z, k);
+    let g = gone_node(scratch, nc, z);
+    tables::put_note(scratch, z, k);
     if g {
         return k;
     }
     k + 1
 }
 
-// Each node's number is how many nodes below it stay.
-fn numbers(s: &mut [u32], nc: usize, n: usize)
+// Each node'scratch number is how many nodes below it stay.
+fn numbers(scratch: &mut [u32], nc: usize, n: usize)
     requires { ⌜ n ≤ nc ⌝ }
     requires { ⌜ nc ≤ 65_536 ⌝ }
-    requires { ⌜ nc + n ≤ length (now s) ⌝ }
-    ensures { λ _. ⌜ now (s .exit) ≡ noted 0 (numberBelow (goneNode (now (s .entry)) nc)) n (now (s .entry)) ⌝ }
+    requires { ⌜ nc + n ≤ length (now scratch) ⌝ }
+    ensures { λ _. ⌜ now (scratch .exit) ≡ noted 0 (numberBelow (goneNode (now (scratch .entry)) nc)) n (now (scratch .entry)) ⌝ }
 {
     let mut k = 0;
     let mut z = 0;
     while z < n {
-        k = number_node(s, nc, z, k);
+        k = number_node(scratch, nc, z, k);
         z += 1;
     }
 }
 
 // ---- rows close up
 
-fn number(s: &[u32], k: u32) -> u32
-    ensures { λ r. ⌜ r ≡ getD (now (s .entry)) k 0 ⌝ }
+fn number(scratch: &[u32], k: u32) -> u32
+    ensures { λ r. ⌜ r ≡ getD (now (scratch .entry)) k 0 ⌝ }
 {
     let i = k as usize;
-    if i < s.len() {
-        return tables::note_at(s, i);
+    if i < scratch.len() {
+        return tables::note_at(scratch, i);
     }
     0
 }
 
-fn renamed(s: &[u32], w: Tri) -> Tri
-    ensures { λ r. ⌜ r ≡ renamedBy (now (s .entry)) w ⌝ }
+fn renamed(scratch: &[u32], w: Tri) -> Tri
+    ensures { λ r. ⌜ r ≡ renamedBy (now (scratch .entry)) w ⌝ }
 {
-    let p = number(s, w.p);
-    let q = number(s, w.q);
-    let r = number(s, w.r);
+    let p = number(scratch, w.p);
+    let q = number(scratch, w.q);
+    let r = number(scratch, w.r);
     Tri { p, q, r }
 }
 
@@ -186,47 +186,47 @@ fn father(w: Tri, f: u32) -> Tri
     }
 }
 
-fn gone_row(s: &[u32], nc: usize, i: usize) -> bool
-    requires { ⌜ 2 * nc + i < length (now s) ⌝ }
-    ensures { λ r. ⌜ r ≡ goneRow (now (s .entry)) nc i ⌝ }
+fn gone_row(scratch: &[u32], nc: usize, i: usize) -> bool
+    requires { ⌜ 2 * nc + i < length (now scratch) ⌝ }
+    ensures { λ r. ⌜ r ≡ goneRow (now (scratch .entry)) nc i ⌝ }
 {
-    tables::note_at(s, 2 * nc + i) == 1
+    tables::note_at(scratch, 2 * nc + i) == 1
 }
 
-fn new_row(tri: &[u32], s: &[u32], nc: usize, i: usize) -> Tri
-    requires { ⌜ 3 * i + 3 ≤ length (now tri) ⌝ }
-    requires { ⌜ 2 * nc + i < length (now s) ⌝ }
-    ensures { λ r. ⌜ r ≡ newRow (now (tri .entry)) (now (s .entry)) nc i ⌝ }
+fn new_row(rows: &[u32], scratch: &[u32], nc: usize, i: usize) -> Tri
+    requires { ⌜ 3 * i + 3 ≤ length (now rows) ⌝ }
+    requires { ⌜ 2 * nc + i < length (now scratch) ⌝ }
+    ensures { λ r. ⌜ r ≡ newRow (now (scratch .entry)) nc (now (rows .entry)) i ⌝ }
 {
-    let w = tables::row_at(tri, i);
-    let f = tables::note_at(s, 2 * nc + i);
-    renamed(s, father(w, f))
+    let w = tables::row_at(rows, i);
+    let f = tables::note_at(scratch, 2 * nc + i);
+    renamed(scratch, father(w, f))
 }
 
-fn renew_row(tri: &mut [u32], s: &[u32], nc: usize, i: usize, k: usize)
-    requires { ⌜ 3 * i + 3 ≤ length (now tri) ⌝ }
-    requires { ⌜ 3 * k + 3 ≤ length (now tri) ⌝ }
-    requires { ⌜ 2 * nc + i < length (now s) ⌝ }
-    ensures { λ _. ⌜ now (tri .exit) ≡ setRow (now (tri .entry)) k (newRow (now (tri .entry)) (now (s .entry)) nc i) ⌝ }
+fn renew_row(rows: &mut [u32], scratch: &[u32], nc: usize, i: usize, k: usize)
+    requires { ⌜ 3 * i + 3 ≤ length (now rows) ⌝ }
+    requires { ⌜ 3 * k + 3 ≤ length (now rows) ⌝ }
+    requires { ⌜ 2 * nc + i < length (now scratch) ⌝ }
+    ensures { λ _. ⌜ now (rows .exit) ≡ setRow (now (rows .entry)) k (newRow (now (scratch .entry)) nc (now (rows .entry)) i) ⌝ }
 {
-    let w = new_row(tri, s, nc, i);
-    tables::put_row(tri, k, w);
+    let w = new_row(rows, scratch, nc, i);
+    tables::put_row(rows, k, w);
 }
 
 // Rows that do not go, renewed and moved to the front in order; returns their number.
-fn keep_rows(tri: &mut [u32], s: &[u32], nc: usize, t: usize) -> usize
-    requires { ⌜ 3 * t ≤ length (now tri) ⌝ }
-    requires { ⌜ 2 * nc + t ≤ length (now s) ⌝ }
+fn keep_rows(rows: &mut [u32], scratch: &[u32], nc: usize, t: usize) -> usize
+    requires { ⌜ 3 * t ≤ length (now rows) ⌝ }
+    requires { ⌜ 2 * nc + t ≤ length (now scratch) ⌝ }
     ensures few { λ r. ⌜ r ≤ t ⌝ }
-    ensures rows { λ r. ⌜ items (rowAt (now (tri .exit))) 0 r ≡ kept (goneRow (now (s .entry)) nc) (newRow (now (tri .entry)) (now (s .entry)) nc) 0 t ⌝ }
+    ensures rows { λ r. ⌜ items (rowAt (now (rows .exit))) 0 r ≡ remaining (goneRow (now (scratch .entry)) nc) (newRow (now (scratch .entry)) nc (now (rows .entry))) 0 t ⌝ }
 {
     let mut i = 0;
     let mut k = 0;
     while i < t {
-        if gone_row(s, nc, i) {
+        if gone_row(scratch, nc, i) {
             i += 1;
         } else {
-            renew_row(tri, s, nc, i, k);
+            renew_row(rows, scratch, nc, i, k);
             k += 1;
             i += 1;
         }
@@ -235,14 +235,14 @@ fn keep_rows(tri: &mut [u32], s: &[u32], nc: usize, t: usize) -> usize
 }
 
 // The table after, and the number of its rows.
-fn close_rows(tri: &mut [u32], s: &[u32], nc: usize, t: usize) -> usize
-    requires { ⌜ 3 * t ≤ length (now tri) ⌝ }
-    requires { ⌜ 2 * nc + t ≤ length (now s) ⌝ }
-    ensures count { λ r. ⌜ r ≡ length (kept (goneRow (now (s .entry)) nc) (newRow (now (tri .entry)) (now (s .entry)) nc) 0 t) ⌝ }
-    ensures rows { λ _. ⌜ now (tri .exit) ≡ filled 0 (length (now (tri .entry))) (flatRows (kept (goneRow (now (s .entry)) nc) (newRow (now (tri .entry)) (now (s .entry)) nc) 0 t)) ⌝ }
+fn close_rows(rows: &mut [u32], scratch: &[u32], nc: usize, t: usize) -> usize
+    requires { ⌜ 3 * t ≤ length (now rows) ⌝ }
+    requires { ⌜ 2 * nc + t ≤ length (now scratch) ⌝ }
+    ensures count { λ r. ⌜ r ≡ length (remaining (goneRow (now (scratch .entry)) nc) (newRow (now (scratch .entry)) nc (now (rows .entry))) 0 t) ⌝ }
+    ensures rows { λ _. ⌜ now (rows .exit) ≡ filled 0 (length (now (rows .entry))) (flatRows (remaining (goneRow (now (scratch .entry)) nc) (newRow (now (scratch .entry)) nc (now (rows .entry))) 0 t)) ⌝ }
 {
-    let k = keep_rows(tri, s, nc, t);
-    tables::clear_rows_from(tri, k);
+    let k = keep_rows(rows, scratch, nc, t);
+    tables::clear_rows_from(rows, k);
     k
 }
 
@@ -257,16 +257,16 @@ fn move_place(nodes: &mut [i32], i: usize, k: usize)
     tables::put_place(nodes, k, a);
 }
 
-fn keep_nodes(nodes: &mut [i32], s: &[u32], nc: usize, n: usize) -> usize
+fn keep_nodes(nodes: &mut [i32], scratch: &[u32], nc: usize, n: usize) -> usize
     requires { ⌜ 2 * n ≤ length (now nodes) ⌝ }
-    requires { ⌜ nc + n ≤ length (now s) ⌝ }
+    requires { ⌜ nc + n ≤ length (now scratch) ⌝ }
     ensures few { λ r. ⌜ r ≤ n ⌝ }
-    ensures nodes { λ r. ⌜ items (placeAt (now (nodes .exit))) 0 r ≡ kept (goneNode (now (s .entry)) nc) (placeAt (now (nodes .entry))) 0 n ⌝ }
+    ensures nodes { λ r. ⌜ items (placeAt (now (nodes .exit))) 0 r ≡ remaining (goneNode (now (scratch .entry)) nc) (placeAt (now (nodes .entry))) 0 n ⌝ }
 {
     let mut z = 0;
     let mut k = 0;
     while z < n {
-        if gone_node(s, nc, z) {
+        if gone_node(scratch, nc, z) {
             z += 1;
         } else {
             move_place(nodes, z, k);
@@ -278,13 +278,13 @@ fn keep_nodes(nodes: &mut [i32], s: &[u32], nc: usize, n: usize) -> usize
 }
 
 // The table after, and the number of its nodes.
-fn close_nodes(nodes: &mut [i32], s: &[u32], nc: usize, n: usize) -> usize
+fn close_nodes(nodes: &mut [i32], scratch: &[u32], nc: usize, n: usize) -> usize
     requires { ⌜ 2 * n ≤ length (now nodes) ⌝ }
-    requires { ⌜ nc + n ≤ length (now s) ⌝ }
-    ensures count { λ r. ⌜ r ≡ length (kept (goneNode (now (s .entry)) nc) (placeAt (now (nodes .entry))) 0 n) ⌝ }
-    ensures nodes { λ _. ⌜ now (nodes .exit) ≡ filled (pos 0) (length (now (nodes .entry))) (flatNodes (kept (goneNode (now (s .entry)) nc) (placeAt (now (nodes .entry))) 0 n)) ⌝ }
+    requires { ⌜ nc + n ≤ length (now scratch) ⌝ }
+    ensures count { λ r. ⌜ r ≡ length (remaining (goneNode (now (scratch .entry)) nc) (placeAt (now (nodes .entry))) 0 n) ⌝ }
+    ensures nodes { λ _. ⌜ now (nodes .exit) ≡ filled (pos 0) (length (now (nodes .entry))) (flatNodes (remaining (goneNode (now (scratch .entry)) nc) (placeAt (now (nodes .entry))) 0 n)) ⌝ }
 {
-    let k = keep_nodes(nodes, s, nc, n);
+    let k = keep_nodes(nodes, scratch, nc, n);
     tables::clear_places_from(nodes, k);
     k
 }
@@ -299,74 +299,77 @@ pub struct Counts {
 // Notes which nodes go, each with its pair.
 fn note_nodes(
     nodes: &[i32],
-    tri: &[u32],
-    s: &mut [u32],
+    rows: &[u32],
+    scratch: &mut [u32],
     marks: &[u8],
     nc: usize,
     n0: usize,
     n: usize,
     t: usize,
 )
-    requires { ⌜ Lawful (meshAt (now nodes) (now tri) n t) ⌝ }
-    requires { ⌜ Sized nc (length (now tri)) (length (now s)) ⌝ }
-    requires { ⌜ (2 * n ≤ length (now nodes)) × (3 * t ≤ length (now tri)) ⌝ }
+    requires { ⌜ Lawful (meshAt (now nodes) (now rows) n t) ⌝ }
+    requires { ⌜ Sized nc (length (now rows)) (length (now scratch)) ⌝ }
+    requires { ⌜ (2 * n ≤ length (now nodes)) × (3 * t ≤ length (now rows)) ⌝ }
     requires { ⌜ (n ≤ nc) × (nc ≤ 32_768) ⌝ }
     requires { ⌜ n ≤ length (now marks) ⌝ }
-    requires { ⌜ take (indexAt nc (length (now tri))) (now s) ≡ replicate (indexAt nc (length (now tri))) 0 ⌝ }
-    requires { ⌜ Ready (now s) nc (now tri) t ⌝ }
-    ensures { λ _. ⌜ Going (now (s .exit)) nc n0 (meshAt (now (nodes .entry)) (now (tri .entry)) n t) (now (marks .entry)) n ⌝ }
+    requires { ⌜ take (indexAt nc (length (now rows))) (now scratch) ≡ replicate (indexAt nc (length (now rows))) 0 ⌝ }
+    requires { ⌜ Ready (now scratch) nc (now rows) t ⌝ }
+    ensures { λ _. ⌜ Going (now (scratch .exit)) nc n0 (meshAt (now (nodes .entry)) (now (rows .entry)) n t) (now (marks .entry)) n ⌝ }
 {
-    good::judge(nodes, tri, s, nc, n0, n, t);
-    take_nodes(s, marks, nc, n);
+    good::judge(nodes, rows, scratch, nc, n0, n, t);
+    take_nodes(scratch, marks, nc, n);
 }
 
 // Notes which nodes go, what becomes of each row, and the new numbers.
 fn note(
     nodes: &[i32],
-    tri: &[u32],
-    s: &mut [u32],
+    rows: &[u32],
+    scratch: &mut [u32],
     marks: &[u8],
     nc: usize,
     n0: usize,
     n: usize,
     t: usize,
 )
-    requires { ⌜ Lawful (meshAt (now nodes) (now tri) n t) ⌝ }
-    requires { ⌜ Sized nc (length (now tri)) (length (now s)) ⌝ }
-    requires { ⌜ (2 * n ≤ length (now nodes)) × (3 * t ≤ length (now tri)) ⌝ }
+    requires { ⌜ Lawful (meshAt (now nodes) (now rows) n t) ⌝ }
+    requires { ⌜ Sized nc (length (now rows)) (length (now scratch)) ⌝ }
+    requires { ⌜ (2 * n ≤ length (now nodes)) × (3 * t ≤ length (now rows)) ⌝ }
     requires { ⌜ (n ≤ nc) × (nc ≤ 32_768) ⌝ }
     requires { ⌜ n ≤ length (now marks) ⌝ }
-    requires { ⌜ take (indexAt nc (length (now tri))) (now s) ≡ replicate (indexAt nc (length (now tri))) 0 ⌝ }
-    requires { ⌜ Ready (now s) nc (now tri) t ⌝ }
-    ensures { λ _. ⌜ Settled (now (s .exit)) nc n0 (meshAt (now (nodes .entry)) (now (tri .entry)) n t) (now (marks .entry)) (now (tri .entry)) n t ⌝ }
+    requires { ⌜ take (indexAt nc (length (now rows))) (now scratch) ≡ replicate (indexAt nc (length (now rows))) 0 ⌝ }
+    requires { ⌜ Ready (now scratch) nc (now rows) t ⌝ }
+    ensures { λ _. ⌜ Settled (now (scratch .exit)) nc n0 (meshAt (now (nodes .entry)) (now (rows .entry)) n t) (now (marks .entry)) (now (rows .entry)) n t ⌝ }
 {
-    note_nodes(nodes, tri, s, marks, nc, n0, n, t);
-    fates(tri, s, nc, n, t);
-    numbers(s, nc, n);
+    note_nodes(nodes, rows, scratch, marks, nc, n0, n, t);
+    fates(rows, scratch, nc, n, t);
+    numbers(scratch, nc, n);
 }
 
 // Takes the marked good nodes out of a lawful mesh all of whose rows are in the index.
 pub fn take_out(
     nodes: &mut [i32],
-    tri: &mut [u32],
-    s: &mut [u32],
+    rows: &mut [u32],
+    scratch: &mut [u32],
     marks: &[u8],
     nc: usize,
     n0: usize,
     n: usize,
     t: usize,
 ) -> Counts
-    requires { ⌜ Lawful (meshAt (now nodes) (now tri) n t) ⌝ }
-    requires { ⌜ Sized nc (length (now tri)) (length (now s)) ⌝ }
-    requires { ⌜ (2 * n ≤ length (now nodes)) × (3 * t ≤ length (now tri)) ⌝ }
+    requires { ⌜ Lawful (meshAt (now nodes) (now rows) n t) ⌝ }
+    requires { ⌜ Sized nc (length (now rows)) (length (now scratch)) ⌝ }
+    requires { ⌜ (2 * n ≤ length (now nodes)) × (3 * t ≤ length (now rows)) ⌝ }
     requires { ⌜ (n ≤ nc) × (nc ≤ 32_768) ⌝ }
     requires { ⌜ n ≤ length (now marks) ⌝ }
-    requires { ⌜ take (indexAt nc (length (now tri))) (now s) ≡ replicate (indexAt nc (length (now tri))) 0 ⌝ }
-    requires { ⌜ Ready (now s) nc (now tri) t ⌝ }
-    ensures { λ r. ⌜ left r (now (nodes .exit)) (now (tri .exit)) ≡ leftOf (length (now (nodes .entry))) (length (now (tri .entry))) (coarsened n0 (meshAt (now (nodes .entry)) (now (tri .entry)) n t) (now (marks .entry))) ⌝ }
+    requires { ⌜ take (indexAt nc (length (now rows))) (now scratch) ≡ replicate (indexAt nc (length (now rows))) 0 ⌝ }
+    requires { ⌜ Ready (now scratch) nc (now rows) t ⌝ }
+    ensures { λ r. ⌜ left r (now (nodes .exit)) (now (rows .exit)) ≡ leftOf (length (now (nodes .entry))) (length (now (rows .entry))) (coarsened n0 (meshAt (now (nodes .entry)) (now (rows .entry)) n t) (now (marks .entry))) ⌝ }
 {
-    note(nodes, tri, s, marks, nc, n0, n, t);
-    let rows = close_rows(tri, s, nc, t);
-    let places = close_nodes(nodes, s, nc, n);
-    Counts { n: places, t: rows }
+    note(nodes, rows, scratch, marks, nc, n0, n, t);
+    let t_left = close_rows(rows, scratch, nc, t);
+    let n_left = close_nodes(nodes, scratch, nc, n);
+    Counts {
+        n: n_left,
+        t: t_left,
+    }
 }

@@ -52,11 +52,11 @@ module _ (f : ℕ → Bool) where
       go false g (no d) ih = ih (rw g at e) (omega arith) b
 
   -- below what is found, the test says no
-  pub lowest-lower : (t j m : ℕ) → lowest f 0 t ≡ At j → m < j → f m ≡ false
+  lowest-lower : (t j m : ℕ) → lowest f 0 t ≡ At j → m < j → f m ≡ false
   unfolding lowest
   lowest-lower t j m e h = from-lower 0 (t - 0) j m e (omega arith) h
 
-  pub lowest-at : (t j : ℕ) → j < t → f j ≡ true → ((k : ℕ) → k < j → f k ≡ false) → lowest f 0 t ≡ At j
+  lowest-at : (t j : ℕ) → j < t → f j ≡ true → ((k : ℕ) → k < j → f k ≡ false) → lowest f 0 t ≡ At j
   lowest-at t j h e n = go (lowest f 0 t) refl
     where
       go : (r : Found) → lowest f 0 t ≡ r → r ≡ At j

@@ -7,7 +7,7 @@ use mathlib.Core.List.{List, [], _∷_}
 use Prim.Native.Nat.{ℕ, zero, suc, _+_, _-_, _≤_, _<_}
 use native.Mathlib.Omega.{arith}
 use native.Mathlib.Decide.{ℕ-discrete}
-use borrow.Author.Tests.{eqb-true, eq-eqb, ne-eqb}
+use borrow.Author.Tests.{eq-eqb, ne-eqb}
 use lib.Dec.{eqb}
 use lib.ListN.{length, getD, set, drop, length-set}
 use lib.Seq.{getD-set-same, getD-set-other, drop-set-lt}
@@ -16,7 +16,7 @@ use Rattle.lists.specs.declared.Found.the-variants.{At, Nothing}
 use Rattle.lists.specs.Lists.{cases, only, consIf}
 use Rattle.lists.specs.ListsLaw.{clash}
 use Rattle.lists.specs.PartsLaw.{not-so}
-use Rattle.lists.specs.Search.{lowest, lowestFrom, items, itemsFrom}
+use Rattle.lists.specs.Search.{lowest, lowestFrom, items}
 use Rattle.lists.specs.SearchLaw.{lowest-here, lowest-on, lowest-none, at-some}
 use Rattle.lists.specs.ItemsLaw.{items-cons, items-none}
 use Rattle.lists.specs.Loops.{code}
@@ -26,11 +26,11 @@ use Rattle.lists.specs.Loops.{code}
 pub from-yes : (f : ℕ → Bool) (i t : ℕ) → i < t → f i ≡ true → lowest f i t ≡ At i
 from-yes f i t h e = sym (lowest-here f i t (lowest f i t) true h (sym e) refl refl)
 
-pub from-no : (f : ℕ → Bool) (i t : ℕ) → i < t → f i ≡ false → lowest f i t ≡ lowest f (i + 1) t
+from-no : (f : ℕ → Bool) (i t : ℕ) → i < t → f i ≡ false → lowest f i t ≡ lowest f (i + 1) t
 from-no f i t h e = sym (lowest-on f i t (lowest f i t) false h (sym e) refl refl)
 
-pub from-end : (f : ℕ → Bool) (i t : ℕ) → t ≤ i → lowest f i t ≡ Nothing
-from-end f i t h = sym (lowest-none f i t (lowest f i t) h refl)
+none-from : (f : ℕ → Bool) (i t : ℕ) → t ≤ i → lowest f i t ≡ Nothing
+none-from f i t h = sym (lowest-none f i t (lowest f i t) h refl)
 
 -- what a search from i on tells
 pub data From (f : ℕ → Bool) (i t : ℕ) : Found → Type 0 where
@@ -60,7 +60,7 @@ unfolding lowest
 search-is f i t h = from-is f i (t - i) t (omega arith)
 
 -- from i on to a later start
-pub from-later : (f : ℕ → Bool) (t i j : ℕ) → i ≤ j → j ≤ t → ((k : ℕ) → i ≤ k → k < j → f k ≡ false) → lowest f i t ≡ lowest f j t
+from-later : (f : ℕ → Bool) (t i j : ℕ) → i ≤ j → j ≤ t → ((k : ℕ) → i ≤ k → k < j → f k ≡ false) → lowest f i t ≡ lowest f j t
 from-later f t i j a b h = go (j - i) i a (omega arith) h
   where
     go : (d i : ℕ) → i ≤ j → d ≡ j - i → ((k : ℕ) → i ≤ k → k < j → f k ≡ false) → lowest f i t ≡ lowest f j t
@@ -131,7 +131,7 @@ linked-next g y i s a l = getD-set-other (set s y (getD s g 0)) g y (i + 1) 0 a 
 module _ (key : ℕ → ℕ) (top h x t : ℕ) where
   pub chain-start : (s : List ℕ) → ((k : ℕ) → k < top → getD s (h + k) 0 ≡ 0) → Chain key top h x t t s
   chain-start s z = record {
-    heads = λ k l. (rw (from-end (λ j. eqb (key j) k) t t (omega arith)) (z k l));
+    heads = λ k l. (rw (none-from (λ j. eqb (key j) k) t t (omega arith)) (z k l));
     nexts = λ j a b l. absurd (omega arith);
   }
 
@@ -211,7 +211,7 @@ module _ (f g : ℕ → Bool) (t : ℕ) (fg : (j : ℕ) → f j ≡ true → g j
   on-from i h e = go (search-is g i t h)
     where
       go : {r : Found} → From g i t r → On f g t (code r)
-      go (nowhere n) = over (e ∙ from-later f t i t h (omega arith) (λ k a b. no-f k (n k a b)) ∙ from-end f t t (omega arith))
+      go (nowhere n) = over (e ∙ from-later f t i t h (omega arith) (λ k a b. no-f k (n k a b)) ∙ none-from f t t (omega arith))
       go (there j a b y n) = at j b y (e ∙ from-later f t i j a (omega arith) (λ k c d. no-f k (n k c d)))
 
   pub on-start : On f g t (code (lowest g 0 t))

@@ -67,7 +67,7 @@ module _ {R : Type 0} (f : ℕ → R) where
   unfolding items
   items-agree g i t h = from-agree g i (t - i) (λ j a b. h j a (omega arith))
 
-  from-count : (i k : ℕ) → length (itemsFrom f i k) ≡ k
+  pub from-count : (i k : ℕ) → length (itemsFrom f i k) ≡ k
   unfolding itemsFrom
   from-count i zero = refl
   from-count i (suc k) = ap suc (from-count (i + 1) k)

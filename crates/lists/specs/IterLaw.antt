@@ -5,6 +5,7 @@ use Prim.Native.Nat.{ℕ, zero, suc, _+_, _-_, _≤_, _<_}
 use native.Mathlib.Omega.{arith}
 use lib.ListN.{length, getD, take}
 use Rattle.lists.specs.Search.{items, itemsFrom, iter, iterFrom}
+use Rattle.lists.specs.ItemsLaw.{items-length}
 
 -- ---- w is what the whole loop gives, s the state now, s′ after the turn
 
@@ -37,14 +38,8 @@ module _ {S : Type 0} (f : ℕ → S → S) (P : S → Type 0) where
 -- ---- items
 
 module _ {R : Type 0} (f : ℕ → R) where
-  from-length : (i k : ℕ) → length (itemsFrom f i k) ≡ k
-  unfolding itemsFrom
-  from-length i zero = refl
-  from-length i (suc k) = ap suc (from-length (i + 1) k)
-
   pub length-items : (t : ℕ) → length (items f 0 t) ≡ t
-  unfolding items
-  length-items t = from-length 0 (t - 0) ∙ omega arith
+  length-items t = items-length f 0 t ∙ omega arith
 
   from-getD : (i k n : ℕ) (d : R) → n < k → getD (itemsFrom f i k) n d ≡ f (i + n)
   unfolding itemsFrom

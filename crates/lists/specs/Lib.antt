@@ -3,6 +3,8 @@ pub mod ListsLaw
 pub mod MembersLaw
 pub mod Tally
 pub mod Search
+pub mod Table
+pub mod TableLaw
 pub mod SearchLaw
 pub mod IterLaw
 pub mod FillLaw

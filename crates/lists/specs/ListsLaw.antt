@@ -1,14 +1,14 @@
 -- Laws of lists. A test's outcome is an equation, `f x ≡ true`, so that `rw` can use it. Assumes nothing.
-use mathlib.Core.Bool.{Bool, true, false, not, _&&_, _||_, true≢false}
+use mathlib.Core.Bool.{Bool, true, false, _&&_, _||_, true≢false}
 use mathlib.Core.List.{List, [], _∷_, _++_, map, List·Memᴰ, List·Memᴰ·head, List·Memᴰ·tail}
 use mathlib.Core.Option.{Option, none, some}
-use mathlib.Core.Path.{_≡_, refl, sym, subst, subst⁻¹, ap, _∙_}
+use mathlib.Core.Path.{_≡_, refl, sym, subst⁻¹, ap, _∙_}
 use Prim.Native.Nat.{ℕ, zero, suc, _+_, _≤_, _<_}
 use native.Mathlib.Omega.{arith}
 use lib.ListN.{length, getD}
 use Rattle.lists.specs.declared.Found.{Found}
 use Rattle.lists.specs.declared.Found.the-variants.{At, Nothing}
-use Rattle.lists.specs.Lists.{all, any, only, consIf, once, count, sucIf, first, firstOr, whereFirst, next, joined, All, nil, cons}
+use Rattle.lists.specs.Lists.{all, any, count, sucIf, first, firstOr, whereFirst, next, joined, All, nil, cons}
 
 -- ---- tests
 
@@ -42,7 +42,7 @@ both-ways true b f g = sym (f refl)
 both-ways false true f g = g refl
 both-ways false false f g = refl
 
-pub sucIf-le : (a b : Bool) {j k : ℕ} → (a ≡ true → b ≡ true) → j ≤ k → sucIf a j ≤ sucIf b k
+sucIf-le : (a b : Bool) {j k : ℕ} → (a ≡ true → b ≡ true) → j ≤ k → sucIf a j ≤ sucIf b k
 sucIf-le true true i h = omega arith
 sucIf-le true false i h = clash (sym (i refl))
 sucIf-le false true i h = omega arith
@@ -164,7 +164,7 @@ module _ {A : Type 0} where
   count-append f [] ys = omega arith
   count-append f (x ∷ xs) ys = sucIf-add (f x) _ _ _ (count-append f xs ys)
 
-  pub count-le : (f g : A → Bool) → ((x : A) → f x ≡ true → g x ≡ true) → (l : List A) → count f l ≤ count g l
+  count-le : (f g : A → Bool) → ((x : A) → f x ≡ true → g x ≡ true) → (l : List A) → count f l ≤ count g l
   count-le f g i [] = omega arith
   count-le f g i (x ∷ xs) = sucIf-le (f x) (g x) (i x) (count-le f g i xs)
 

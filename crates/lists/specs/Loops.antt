@@ -1,6 +1,6 @@
 -- What loops leave: notes put one after the other, a count downwards, a table that closes up; and a search's answer as one number.
 -- Assumes nothing.
-use mathlib.Core.Bool.{Bool, true, false}
+use mathlib.Core.Bool.{Bool}
 use mathlib.Core.List.{List, [], _∷_}
 use Prim.Native.Nat.{ℕ, zero, suc, _+_, _-_}
 use lib.ListN.{set}
@@ -18,13 +18,13 @@ unfoldable pub noted : {A : Type 0} → ℕ → (ℕ → A) → ℕ → List A �
 noted o g zero s = s
 noted o g (suc n) s = set (noted o g n s) (o + n) (g n)
 
-unfoldable pub keptFrom : {R : Type 0} → (ℕ → Bool) → (ℕ → R) → ℕ → ℕ → List R
-keptFrom f a i zero = []
-keptFrom f a i (suc k) = cases (f i) (keptFrom f a (i + 1) k) (a i ∷ keptFrom f a (i + 1) k)
+unfoldable pub remainingFrom : {R : Type 0} → (ℕ → Bool) → (ℕ → R) → ℕ → ℕ → List R
+remainingFrom f a i zero = []
+remainingFrom f a i (suc k) = cases (f i) (remainingFrom f a (i + 1) k) (a i ∷ remainingFrom f a (i + 1) k)
 
 -- a i, a (i + 1), .. below t, without those of which a test says yes
-unfoldable pub kept : {R : Type 0} → (ℕ → Bool) → (ℕ → R) → ℕ → ℕ → List R
-kept f a i t = keptFrom f a i (t - i)
+unfoldable pub remaining : {R : Type 0} → (ℕ → Bool) → (ℕ → R) → ℕ → ℕ → List R
+remaining f a i t = remainingFrom f a i (t - i)
 
 -- where a search ended, as one number: 0 nowhere
 abbrev pub code : Found → ℕ

@@ -1,6 +1,5 @@
--- Laws of `down`, `noted` and `kept`: the turns of a loop in the form of its needs, and what can be read after. Assumes nothing.
-use mathlib.Core.Path.{_≡_, refl, sym, ap, _∙_}
-use mathlib.Core.Logic.{_≢_}
+-- Laws of `down`, `noted` and `remaining`: the turns of a loop in the form of its needs, and what can be read after. Assumes nothing.
+use mathlib.Core.Path.{_≡_, refl, _∙_}
 use mathlib.Core.Bool.{Bool, true, false}
 use mathlib.Core.List.{List, [], _∷_, _++_, append-assoc, append-nil}
 use Prim.Native.Nat.{ℕ, zero, suc, _+_, _-_, _≤_, _<_}
@@ -10,10 +9,9 @@ use native.Mathlib.Decide.{ℕ-discrete}
 use lib.ListN.{length, getD, set, drop, length-set}
 use lib.Seq.{getD-set-same, getD-set-other, drop-set-lt}
 use Rattle.lists.specs.Lists.{cases}
-use Rattle.lists.specs.Search.{items, itemsFrom}
-use Rattle.lists.specs.IterLaw.{length-items}
+use Rattle.lists.specs.Search.{items}
 use Rattle.lists.specs.ItemsLaw.{items-none, items-snoc, items-agree}
-use Rattle.lists.specs.Loops.{down, noted, kept, keptFrom}
+use Rattle.lists.specs.Loops.{down, noted, remaining, remainingFrom}
 
 -- ---- down: w is what the whole loop gives, s the state now, s′ after the turn
 
@@ -81,52 +79,31 @@ module _ {A : Type 0} (o : ℕ) (g : ℕ → A) where
   noted-drop zero k s h = refl
   noted-drop (suc n) k s h = drop-set-lt k (noted o g n s) (o + n) (g n) (omega arith) ∙ noted-drop n k s (omega arith)
 
-pub noted-agree : {A : Type 0} (o : ℕ) (g h : ℕ → A) (n : ℕ) (s : List A) → ((j : ℕ) → j < n → g j ≡ h j) → noted o g n s ≡ noted o h n s
-unfolding noted
-noted-agree o g h zero s e = refl
-noted-agree o g h (suc n) s e = rw (e n (omega arith), noted-agree o g h n s (λ j l. e j (omega arith)))
-
 pub ruleset noting = (noted-turn, noted-end)
 
--- ---- kept: those below k are done, those from i on are to do, w is the whole. `a` and `a′` are the table before and after a turn
+-- ---- remaining: those below k are done, those from i on are to do, w is the whole. `a` and `a′` are the table before and after a turn
 
-from-agree : {R : Type 0} (f g : ℕ → Bool) (a b : ℕ → R) (i k : ℕ) → ((j : ℕ) → i ≤ j → j < i + k → f j ≡ g j) → ((j : ℕ) → i ≤ j → j < i + k → a j ≡ b j) →
-    keptFrom f a i k ≡ keptFrom g b i k
-unfolding keptFrom
-from-agree f g a b i zero h e = refl
-from-agree f g a b i (suc k) h e =
-    rw (
-      h i (omega arith) (omega arith),
-      e i (omega arith) (omega arith),
-      from-agree f g a b (i + 1) k (λ j l u. h j (omega arith) (omega arith)) (λ j l u. e j (omega arith) (omega arith)),
-    )
+remaining-cons : {R : Type 0} (f : ℕ → Bool) (a : ℕ → R) (i t : ℕ) → i < t → remaining f a i t ≡ cases (f i) (remaining f a (i + 1) t) (a i ∷ remaining f a (i + 1) t)
+unfolding remaining remainingFrom
+remaining-cons f a i t h = let e : t - i ≡ suc (t - (i + 1)) = omega arith in rw e
 
-pub kept-agree : {R : Type 0} (f g : ℕ → Bool) (a b : ℕ → R) (i t : ℕ) → ((j : ℕ) → i ≤ j → j < t → f j ≡ g j) → ((j : ℕ) → i ≤ j → j < t → a j ≡ b j) →
-    kept f a i t ≡ kept g b i t
-unfolding kept
-kept-agree f g a b i t h e = from-agree f g a b i (t - i) (λ j l u. h j l (omega arith)) (λ j l u. e j l (omega arith))
-
-kept-cons : {R : Type 0} (f : ℕ → Bool) (a : ℕ → R) (i t : ℕ) → i < t → kept f a i t ≡ cases (f i) (kept f a (i + 1) t) (a i ∷ kept f a (i + 1) t)
-unfolding kept keptFrom
-kept-cons f a i t h = let e : t - i ≡ suc (t - (i + 1)) = omega arith in rw e
-
-kept-none : {R : Type 0} (f : ℕ → Bool) (a : ℕ → R) (i t : ℕ) → t ≤ i → kept f a i t ≡ []
-unfolding kept keptFrom
-kept-none f a i t h = let e : t - i ≡ 0 = omega arith in rw e
+remaining-none : {R : Type 0} (f : ℕ → Bool) (a : ℕ → R) (i t : ℕ) → t ≤ i → remaining f a i t ≡ []
+unfolding remaining remainingFrom
+remaining-none f a i t h = let e : t - i ≡ 0 = omega arith in rw e
 
 -- `r` reads what is written, `b` is what is to be written for i
-module _ {R : Type 0} (f : ℕ → Bool) (b : ℕ → R) (r : ℕ → R) (k i t : ℕ) (w : List R) (inv : items r 0 k ++ kept f b i t ≡ w) where
-  pub kept-gone : i < t → f i ≡ true → items r 0 k ++ kept f b (i + 1) t ≡ w
-  kept-gone h e = rw (kept-cons f b i t h, e) at inv
+module _ {R : Type 0} (f : ℕ → Bool) (b : ℕ → R) (r : ℕ → R) (k i t : ℕ) (w : List R) (inv : items r 0 k ++ remaining f b i t ≡ w) where
+  pub remaining-gone : i < t → f i ≡ true → items r 0 k ++ remaining f b (i + 1) t ≡ w
+  remaining-gone h e = rw (remaining-cons f b i t h, e) at inv
 
-  pub kept-put : (r′ : ℕ → R) → i < t → f i ≡ false → r′ k ≡ b i → ((j : ℕ) → j < k → r′ j ≡ r j) → items r′ 0 (k + 1) ++ kept f b (i + 1) t ≡ w
-  kept-put r′ h e here else =
-      let n : items r 0 k ++ (b i ∷ kept f b (i + 1) t) ≡ w = rw (kept-cons f b i t h, e) at inv in
+  pub remaining-put : (r′ : ℕ → R) → i < t → f i ≡ false → r′ k ≡ b i → ((j : ℕ) → j < k → r′ j ≡ r j) → items r′ 0 (k + 1) ++ remaining f b (i + 1) t ≡ w
+  remaining-put r′ h e here else =
+      let n : items r 0 k ++ (b i ∷ remaining f b (i + 1) t) ≡ w = rw (remaining-cons f b i t h, e) at inv in
       let z : 0 ≤ k = omega arith in
       rw (items-snoc r′ 0 k z, items-agree r′ r 0 k (λ j l u. else j u), here, append-assoc) n
 
-  pub kept-done : t ≤ i → items r 0 k ≡ w
-  kept-done h = rw (kept-none f b i t h, append-nil) at inv
+  pub remaining-done : t ≤ i → items r 0 k ≡ w
+  remaining-done h = rw (remaining-none f b i t h, append-nil) at inv
 
-pub kept-start : {R : Type 0} (f : ℕ → Bool) (b r : ℕ → R) (t : ℕ) → items r 0 0 ++ kept f b 0 t ≡ kept f b 0 t
-kept-start f b r t = let z : 0 ≤ 0 = omega arith in rw (items-none r 0 0 z)
+pub remaining-start : {R : Type 0} (f : ℕ → Bool) (b r : ℕ → R) (t : ℕ) → items r 0 0 ++ remaining f b 0 t ≡ remaining f b 0 t
+remaining-start f b r t = let z : 0 ≤ 0 = omega arith in rw (items-none r 0 0 z)

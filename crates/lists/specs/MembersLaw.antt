@@ -98,7 +98,7 @@ module _ {A : Type 0} where
   none-any f nil = refl
   none-any f (cons h hs) = rw (h, none-any f hs)
 
-  pub none-count : (f : A → Bool) {l : List A} → All (λ x. f x ≡ false) l → count f l ≡ 0
+  none-count : (f : A → Bool) {l : List A} → All (λ x. f x ≡ false) l → count f l ≡ 0
   none-count f nil = refl
   none-count f (cons h hs) = rw (h, none-count f hs)
 

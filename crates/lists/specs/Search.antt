@@ -1,5 +1,5 @@
 -- Searches and lists by number: from i up to, not including, t. Assumes nothing.
-use mathlib.Core.Bool.{Bool, true, false}
+use mathlib.Core.Bool.{Bool}
 use mathlib.Core.List.{List, [], _∷_}
 use Prim.Native.Nat.{ℕ, zero, suc, _+_, _-_}
 use Rattle.lists.specs.declared.Found.{Found}

@@ -17,7 +17,7 @@ if-so false k = 0
 abbrev pub bit : Bool → ℕ
 bit b = if-so b 1
 
-pub if-split : (b : Bool) (k : ℕ) → if-so b k + if-so (not b) k ≡ k
+if-split : (b : Bool) (k : ℕ) → if-so b k + if-so (not b) k ≡ k
 if-split true k = omega arith
 if-split false k = omega arith
 
@@ -155,11 +155,7 @@ module _ {A : Type 0} where
       go : (b : Bool) → bit b + tally (λ x. bit (p x)) xs ≤ 1 → (tally (λ x. bit (p x)) xs ≤ 1 → tally (λ x. if-so (p x) (g x)) xs ≡ g t) → 1 ≤ tally (λ x. bit (p x)) xs → if-so b (g x) + tally (λ x. if-so (p x) (g x)) xs ≡ g t
       go true h below s = absurd (omega arith)
       go false h below s = let g = below (omega arith) in omega arith
-
-  -- a test that no longer depends on the row
-  pub tally-if : (b : Bool) (f : A → ℕ) (ts : List A) → tally (λ t. if-so b (f t)) ts ≡ if-so b (tally f ts)
-  tally-if true f ts = refl
-  tally-if false f ts = tally-zero (λ t. 0) (All-of ts (λ t i. refl))
+      -- a test that no longer depends on the row
 
 module _ {A B : Type 0} where
   pub tally-map : (f : B → ℕ) (k : A → B) (ts : List A) → tally f (map k ts) ≡ tally (λ t. f (k t)) ts

@@ -1,10 +1,12 @@
 -- Document 01, 'Sizes': a mesh in the tables that a caller lends. Assumes nothing.
 use mathlib.Core.List.{List, [], _∷_, _++_}
-use Prim.Native.Nat.{ℕ, _+_, _-_, _*_, _/_}
+use mathlib.Core.Path.{_≡_, refl}
+use Prim.Native.Nat.{ℕ, _+_, _-_, _/_}
+use native.Mathlib.Omega.{arith}
 use lib.IntN.{ℤ, pos}
-use lib.ListN.{length, getD, replicate}
-use Rattle.lists.specs.Lists.{joined}
-use Rattle.lists.specs.Search.{items}
+use lib.ListN.{length, replicate}
+use Rattle.lists.specs.Search.{items, itemsFrom}
+use Rattle.lists.specs.Table.{Form, readAt, flatten, Faithful}
 use Rattle.meaning.specs.declared.Answer.{Answer}
 use Rattle.meaning.specs.Mesh.{Place, Tri, Mesh, place, tri, mesh}
 
@@ -34,15 +36,25 @@ outcome a ns rs s = record { answer = a; nodes = ns; rows = rs; scratch = s }
 abbrev pub answer : ℕ → ℕ → ℕ → ℕ → Answer
 answer k n t p = record { number = k; n = n; t = t; passes = p }
 
--- ---- reading
+-- ---- how a node and a row stand in their tables
 
 -- "Node table: two numbers a node"
-unfoldable pub placeAt : List ℤ → ℕ → Place
-placeAt l k = place (getD l (2 * k) (pos 0)) (getD l (2 * k + 1) (pos 0))
+abbrev pub nodeForm : Form ℤ Place
+nodeForm = record { width = 2; blank = pos 0; fields = λ a. a .x ∷ a .y ∷ []; from = λ f b. place (f b) (f (b + 1)) }
 
 -- "Triangle table: three numbers a row"
+abbrev pub rowForm : Form ℕ Tri
+rowForm = record { width = 3; blank = 0; fields = λ t. t .p ∷ t .q ∷ t .r ∷ []; from = λ f b. tri (f b) (f (b + 1)) (f (b + 2)) }
+
+-- ---- reading
+
+-- node k of a node table
+unfoldable pub placeAt : List ℤ → ℕ → Place
+placeAt = readAt nodeForm
+
+-- row i of a triangle table
 unfoldable pub rowAt : List ℕ → ℕ → Tri
-rowAt l i = tri (getD l (3 * i) 0) (getD l (3 * i + 1) 0) (getD l (3 * i + 2) 0)
+rowAt = readAt rowForm
 
 -- the mesh in the tables: its first n nodes and t rows
 unfoldable pub meshOf : Given → Mesh
@@ -54,15 +66,24 @@ pub record Room : Type 0 where
 
 -- "The rooms are the table lengths divided by 2 and by 3."
 abbrev pub roomOf : Given → Room
-roomOf g = record { nodes = length (g .nodes) / 2; rows = length (g .rows) / 3 }
+roomOf g = record { nodes = length (g .nodes) / nodeForm .width; rows = length (g .rows) / rowForm .width }
 
 -- ---- writing
 
 abbrev pub flatNodes : List Place → List ℤ
-flatNodes = joined (λ a. a .x ∷ a .y ∷ [])
+flatNodes = flatten nodeForm
 
 abbrev pub flatRows : List Tri → List ℕ
-flatRows = joined (λ t. t .p ∷ t .q ∷ t .r ∷ [])
+flatRows = flatten rowForm
+
+-- reading and writing agree
+pub nodes-faithful : Faithful nodeForm
+unfolding itemsFrom
+nodes-faithful = record { fields-from = λ f b. refl; from-fields = λ a more. refl }
+
+pub rows-faithful : Faithful rowForm
+unfolding itemsFrom
+rows-faithful = record { fields-from = λ f b. (let e : b + 1 + 1 ≡ b + 2 = omega arith in rw e); from-fields = λ t more. refl }
 
 -- a table's content, then zeros to the table's length
 abbrev pub filled : {A : Type 0} → A → ℕ → List A → List A

@@ -1,5 +1,4 @@
 pub mod Nodes
-pub mod Exact
 pub mod NodesLaw
 pub mod PlacedLaw
 pub mod OddLaw

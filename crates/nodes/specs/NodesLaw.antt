@@ -2,7 +2,7 @@
 use mathlib.Core.Path.{_≡_, refl, sym, ap, _∙_, subst}
 use mathlib.Core.Bool.{Bool, true, false, not, _&&_, _||_}
 use mathlib.Core.List.{List}
-use Prim.Native.Nat.{ℕ, suc, _+_, _*_, _≤_, _/_}
+use Prim.Native.Nat.{ℕ, suc, _*_, _≤_, _/_}
 use native.Mathlib.Omega.{arith}
 use native.Mathlib.Decide.{ℕ-discrete}
 use borrow.Author.Tests.{eq-eqb, ne-eqb}
@@ -17,7 +17,7 @@ use Rattle.meaning.specs.Lawful.{InRange}
 use Rattle.meaning.specs.Split.{even, half}
 use Rattle.meaning.specs.Tables.{placeAt, rowAt}
 use Rattle.tables.specs.Put.{setPlace}
-use Rattle.tables.specs.PutLaw.{length-setPlace, place-set-same, place-set-other}
+use Rattle.tables.specs.PutLaw.{nodes-table}
 use Rattle.notes.specs.declared.Note.{Note}
 use Rattle.notes.specs.Notes.{noteAt, ownM, ownU, ownV}
 use Rattle.notes.specs.Met.{after}
@@ -29,16 +29,16 @@ pub even-is : (a b : Place) (r s : Bool) → r ≡ even (a .x +ℤ b .x) → s �
 unfolding evenBetween
 even-is a b r s p q = rw (p, q)
 
-pub middle-is : (a b : Place) (x y : ℤ) → x ≡ half (a .x +ℤ b .x) → y ≡ half (a .y +ℤ b .y) → place x y ≡ middleOf a b
+pub middle-made : (a b : Place) (x y : ℤ) → x ≡ half (a .x +ℤ b .x) → y ≡ half (a .y +ℤ b .y) → place x y ≡ middleOf a b
 unfolding middleOf
-middle-is a b x y p q = rw (p, q)
+middle-made a b x y p q = rw (p, q)
 
 -- the midpoint of two places in range is in range
 half-near : (z : ℤ) → natAbs z ≤ 2_097_152 → natAbs (half z) ≤ 1_048_576
 half-near (pos n) h = omega arith
 half-near (negsuc n) h = rw (abs-neg (pos (suc n / 2))) (omega arith)
 
-pub middle-range : (a b : Place) → InRange a → InRange b → InRange (middleOf a b)
+middle-range : (a b : Place) → InRange a → InRange b → InRange (middleOf a b)
 unfolding middleOf
 middle-range a b p q = record {
   x-near = half-near (a .x +ℤ b .x) (abs-add (a .x) (b .x) (p .x-near) (q .x-near));
@@ -55,13 +55,13 @@ standing-of nodes l i w e c = subst (Standing nodes) (sym e) c
 
 -- a place in range that is put keeps every corner
 stands-put : (nodes : List ℤ) (k j : ℕ) (a : Place) → InRange a → Stands nodes j → Stands (setPlace nodes k a) j
-stands-put nodes k j a r c = record { inside = rw length-setPlace (c .inside); range = go (ℕ-discrete j k) }
+stands-put nodes k j a r c = record { inside = rw (nodes-table .long nodes k a) (c .inside); range = go (ℕ-discrete j k) }
   where
     go : Dec (j ≡ k) → InRange (placeAt (setPlace nodes k a) j)
-    go (yes e) = subst InRange (sym (ap (placeAt (setPlace nodes k a)) e ∙ place-set-same nodes k a (let d = c .inside in omega arith))) r
-    go (no o) = subst InRange (sym (place-set-other nodes k j a o)) (c .range)
+    go (yes e) = subst InRange (sym (ap (placeAt (setPlace nodes k a)) e ∙ nodes-table .same nodes k a (let d = c .inside in omega arith))) r
+    go (no o) = subst InRange (sym (nodes-table .other nodes k j a o)) (c .range)
 
-pub edge-stands : (nodes : List ℤ) (fst k x y j : ℕ) → Stands nodes x → Stands nodes y → Stands nodes j → Stands (placeEdge fst k x y nodes) j
+edge-stands : (nodes : List ℤ) (fst k x y j : ℕ) → Stands nodes x → Stands nodes y → Stands nodes j → Stands (placeEdge fst k x y nodes) j
 unfolding placeEdge
 edge-stands nodes fst k x y j p q c = go (eqb fst 1)
   where

@@ -1,6 +1,6 @@
 -- A row with an odd split edge is found exactly where a split edge has no exact midpoint: document 01's number 8. Assumes nothing.
 use mathlib.Core.Path.{_≡_, refl, sym, _∙_}
-use mathlib.Core.Bool.{Bool, true, false, not, _&&_, _||_}
+use mathlib.Core.Bool.{Bool, true, false, not, _&&_}
 use mathlib.Core.List.{List}
 use Prim.Native.Nat.{ℕ, _*_, _≤_, _<_}
 use native.Mathlib.Omega.{arith}
@@ -11,7 +11,7 @@ use lib.ListN.{length}
 use Rattle.lists.specs.Lists.{isFound, all, any, only, once, joined}
 use Rattle.lists.specs.ListsLaw.{and-left, and-right}
 use Rattle.lists.specs.Search.{lowest, items}
-use Rattle.lists.specs.SearchLaw.{lowest-any}
+use Rattle.lists.specs.SearchLaw.{or-three, lowest-any}
 use Rattle.lists.specs.AnyLaw.{any-only, any-not, any-once, any-joined}
 use Rattle.lists.specs.Tally.{bit}
 use Rattle.meaning.specs.declared.Tri.{Tri}
@@ -32,12 +32,6 @@ standing-at nodes n w b r c =
     let on : (k : ℕ) → k < n → Stands nodes k = λ k h. record { inside = omega arith; range = r k h } in
     record { at-p = on (w .p) (c .p-in); at-q = on (w .q) (c .q-in); at-r = on (w .r) (c .r-in) }
 
-or-end : (a b c : Bool) → a || b || c ≡ a || (b || (c || false))
-or-end true b c = refl
-or-end false true c = refl
-or-end false false true = refl
-or-end false false false = refl
-
 bit-on : (b : Bool) → not (eqb (bit b) 0) ≡ b
 bit-on true = refl
 bit-on false = refl
@@ -55,7 +49,7 @@ module _ (nodes : List ℤ) (n : ℕ) (m : Mesh) (same : (k : ℕ) → k < n →
   unfolding oddRow
   row-odd w c o d =
       rw (d .m-said, d .u-said, d .v-said, edge-odd (w .q) (w .r) (o .q-in) (o .r-in), edge-odd (w .p) (w .q) (o .p-in) (o .q-in), edge-odd (w .r) (w .p) (o .r-in) (o .p-in))
-      (or-end (bad (base w)) (bad (edge (w .p) (w .q))) (bad (edge (w .r) (w .p))))
+      (or-three (bad (base w)) (bad (edge (w .p) (w .q))) (bad (edge (w .r) (w .p))))
 
   like : (d e : Edge) → sameEdge d e ≡ true → not (halves m d) ≡ not (halves m e)
   like d e h =

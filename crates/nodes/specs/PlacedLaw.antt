@@ -1,26 +1,25 @@
 -- After place_nodes the table holds document 01's nodes: the old ones, then the midpoints of the split edges in order. Assumes nothing.
 use mathlib.Core.Path.{_≡_, refl, sym, ap, _∙_}
-use mathlib.Core.Bool.{Bool, true, false, _&&_}
+use mathlib.Core.Bool.{Bool, true, false}
 use mathlib.Core.List.{List, [], _∷_, _++_, map, map-append, append-assoc, append-nil}
 use Prim.Native.Nat.{ℕ, zero, suc, _+_, _*_, _≤_, _<_, min, max}
 use native.Mathlib.Omega.{arith}
 use borrow.Author.Tests.{eqb-true, ltb-true, ltb-false}
 use lib.Dec.{eqb, ltb}
-use lib.IntN.{ℤ, _+ℤ_, +ℤ-comm}
-use lib.ListN.{length, getD, length-append, List·getD-append, List·getD-map}
-use lib.Seq.{getD-append-add}
+use lib.IntN.{ℤ, +ℤ-comm}
+use lib.ListN.{length, getD, length-append, List·getD-append}
 use Rattle.lists.specs.Lists.{cases, consIf}
 use Rattle.lists.specs.Search.{items, iter}
 use Rattle.lists.specs.IterLaw.{length-items, getD-items}
 use Rattle.lists.specs.ItemsLaw.{items-snoc, items-agree, iter-carries}
 use Rattle.meaning.specs.declared.Place.{Place}
 use Rattle.meaning.specs.declared.Tri.{Tri}
-use Rattle.meaning.specs.Mesh.{Mesh, Edge, at, edge, base, origin, place}
-use Rattle.meaning.specs.Split.{Cutting, even, half, halves, midpoint, splitAt}
+use Rattle.meaning.specs.Mesh.{Mesh, Edge, at, edge, base, origin}
+use Rattle.meaning.specs.Split.{Cutting, halves, midpoint, splitAt}
 use Rattle.meaning.specs.Tables.{placeAt, rowAt}
 use Rattle.tables.specs.Sized.{Corners}
 use Rattle.tables.specs.Put.{setPlace}
-use Rattle.tables.specs.PutLaw.{length-setPlace, place-set-same, place-set-other}
+use Rattle.tables.specs.PutLaw.{nodes-table}
 use Rattle.notes.specs.declared.Note.{Note}
 use Rattle.notes.specs.Notes.{noteAt, ownM, ownU, ownV}
 use Rattle.notes.specs.NotesLaw.{note-bits}
@@ -40,43 +39,30 @@ middle-comm a b = rw (+ℤ-comm (a .x) (b .x), +ℤ-comm (a .y) (b .y))
 
 -- m is a mesh whose first n places are the table's
 module _ (nodes : List ℤ) (n : ℕ) (m : Mesh) (same : (k : ℕ) → k < n → at m k ≡ placeAt nodes k) where
-  halves-lower : (x y : ℕ) → x < n → y < n → even (at m x .x +ℤ at m y .x) && even (at m x .y +ℤ at m y .y) ≡ evenBetween (placeAt nodes x) (placeAt nodes y)
-  unfolding evenBetween
-  halves-lower x y a b = rw (same x a, same y b)
+  -- a function of two places, either way round, at the ends of an edge
+  either-way : {B : Type 0} (f : Place → Place → B) → ((a b : Place) → f a b ≡ f b a) → (x y : ℕ) → x < n → y < n →
+      f (at m (min x y)) (at m (max x y)) ≡ f (placeAt nodes x) (placeAt nodes y)
+  either-way f comm x y a b = go (ltb y x) refl
+    where
+      go : (t : Bool) → ltb y x ≡ t → f (at m (min x y)) (at m (max x y)) ≡ f (placeAt nodes x) (placeAt nodes y)
+      go true e =
+          let k = ltb-true y x e in
+          let p : min x y ≡ y = omega arith in
+          let q : max x y ≡ x = omega arith in
+          rw (p, q, same y b, same x a) (comm (placeAt nodes y) (placeAt nodes x))
+      go false e =
+          let k = ltb-false y x e in
+          let p : min x y ≡ x = omega arith in
+          let q : max x y ≡ y = omega arith in
+          rw (p, q, same x a, same y b)
 
   pub halves-is : (x y : ℕ) → x < n → y < n → halves m (edge x y) ≡ evenBetween (placeAt nodes x) (placeAt nodes y)
-  halves-is x y a b = go (ltb y x) refl
-    where
-      go : (t : Bool) → ltb y x ≡ t → halves m (edge x y) ≡ evenBetween (placeAt nodes x) (placeAt nodes y)
-      go true e =
-          let k = ltb-true y x e in
-          let p : min x y ≡ y = omega arith in
-          let q : max x y ≡ x = omega arith in
-          rw (p, q) (halves-lower y x b a ∙ even-comm (placeAt nodes y) (placeAt nodes x))
-      go false e =
-          let k = ltb-false y x e in
-          let p : min x y ≡ x = omega arith in
-          let q : max x y ≡ y = omega arith in
-          rw (p, q) (halves-lower x y a b)
+  unfolding evenBetween
+  halves-is = either-way evenBetween even-comm
 
-  middle-lower : (x y : ℕ) → x < n → y < n → place (half (at m x .x +ℤ at m y .x)) (half (at m x .y +ℤ at m y .y)) ≡ middleOf (placeAt nodes x) (placeAt nodes y)
+  midpoint-is : (x y : ℕ) → x < n → y < n → midpoint m (edge x y) ≡ middleOf (placeAt nodes x) (placeAt nodes y)
   unfolding middleOf
-  middle-lower x y a b = rw (same x a, same y b)
-
-  pub midpoint-is : (x y : ℕ) → x < n → y < n → midpoint m (edge x y) ≡ middleOf (placeAt nodes x) (placeAt nodes y)
-  midpoint-is x y a b = go (ltb y x) refl
-    where
-      go : (t : Bool) → ltb y x ≡ t → midpoint m (edge x y) ≡ middleOf (placeAt nodes x) (placeAt nodes y)
-      go true e =
-          let k = ltb-true y x e in
-          let p : min x y ≡ y = omega arith in
-          let q : max x y ≡ x = omega arith in
-          rw (p, q) (middle-lower y x b a ∙ middle-comm (placeAt nodes y) (placeAt nodes x))
-      go false e =
-          let k = ltb-false y x e in
-          let p : min x y ≡ x = omega arith in
-          let q : max x y ≡ y = omega arith in
-          rw (p, q) (middle-lower x y a b)
+  midpoint-is = either-way middleOf middle-comm
 
   -- ---- nodes is the table at first; now it holds the midpoints of es after the old nodes
 
@@ -84,11 +70,11 @@ module _ (nodes : List ℤ) (n : ℕ) (m : Mesh) (same : (k : ℕ) → k < n →
     pub long : length now ≡ length nodes
     pub list : items (placeAt now) 0 (n + length es) ≡ items (placeAt nodes) 0 n ++ map (midpoint m) es
 
-  pub holds-none : Holds [] nodes
+  holds-none : Holds [] nodes
   holds-none = record { long = refl; list = let e : n + 0 ≡ n = omega arith in rw (e, append-nil) }
 
   -- an old node is where it was
-  pub old-place : (es : List Edge) (now : List ℤ) (k : ℕ) → k < n → Holds es now → placeAt now k ≡ placeAt nodes k
+  old-place : (es : List Edge) (now : List ℤ) (k : ℕ) → k < n → Holds es now → placeAt now k ≡ placeAt nodes k
   old-place es now k h d =
       let a : k < n + length es = omega arith in
       let b : k < length (items (placeAt nodes) 0 n) = rw (length-items (placeAt nodes) n) h in
@@ -105,14 +91,14 @@ module _ (nodes : List ℤ) (n : ℕ) (m : Mesh) (same : (k : ℕ) → k < n →
       let g : n + length (es ++ (edge x y ∷ [])) ≡ n + length es + 1 = rw length-append (omega arith) in
       let o = d .long in
       record {
-        long = length-setPlace now k p ∙ d .long;
+        long = nodes-table .long now k p ∙ d .long;
         list =
             rw g
             (items-snoc (placeAt (setPlace now k p)) 0 (n + length es) (omega arith)
             ∙ rw (
-              items-agree (placeAt (setPlace now k p)) (placeAt now) 0 (n + length es) (λ j u v. place-set-other now k j p (omega arith)),
+              items-agree (placeAt (setPlace now k p)) (placeAt now) 0 (n + length es) (λ j u v. nodes-table .other now k j p (omega arith)),
               ← e,
-              place-set-same now k p (omega arith),
+              nodes-table .same now k p (omega arith),
             )
             (ap (λ l. l ++ (p ∷ [])) (ap (items (placeAt now) 0) e ∙ d .list)
             ∙ rw (f, map-append (midpoint m) es (edge x y ∷ [])) (append-assoc (items (placeAt nodes) 0 n) (map (midpoint m) es) (midpoint m (edge x y) ∷ []))));
@@ -174,7 +160,7 @@ module _ (nodes : List ℤ) (n : ℕ) (m : Mesh) (same : (k : ℕ) → k < n →
       rw (met-more l s i)
       (holds-row nodes n m same (metTo l s i) now (rowAt l i) (noteAt s i) (corners i h) (b .fm-bit) (b .fu-bit) (counted i h) (rooms i h) d)
 
-  pub placed-all : Holds nodes n m same (metTo l s t) (iter (placeRow n l s) 0 t nodes)
+  placed-all : Holds nodes n m same (metTo l s t) (iter (placeRow n l s) 0 t nodes)
   placed-all =
       iter-carries (placeRow n l s) (λ i now. Holds nodes n m same (metTo l s i) now) t nodes turn
       (rw (met-none l s) (holds-none nodes n m same))
@@ -189,14 +175,3 @@ placed-mesh nodes n m es c l s t e corners counted f room =
     let same : (k : ℕ) → k < n → at m k ≡ placeAt nodes k = λ k h. ap (λ q. getD q k origin) e ∙ getD-items (placeAt nodes) n k origin h in
     let d = placed-all nodes n m same l s t corners counted (rw f room) in
     rw (← f) (d .list ∙ ap (λ q. q ++ map (midpoint m) (metTo l s t)) (sym e))
-
--- node n + k is the midpoint of the k-th split edge
-pub placed-node : (nodes : List ℤ) (n : ℕ) (m : Mesh) (es : List Edge) (now : List ℤ) (same : (k : ℕ) → k < n → at m k ≡ placeAt nodes k) (k : ℕ) (d : Edge) →
-    Holds nodes n m same es now → k < length es → placeAt now (n + k) ≡ midpoint m (getD es k d)
-placed-node nodes n m es now same k d h b =
-    let a : n + k < n + length es = omega arith in
-    let z : length (items (placeAt nodes) 0 n) + k ≡ n + k = rw (length-items (placeAt nodes) n) in
-    sym (getD-items (placeAt now) (n + length es) (n + k) (midpoint m d) a)
-    ∙ ap (λ q. getD q (n + k) (midpoint m d)) (h .list)
-    ∙ (rw z at (getD-append-add (items (placeAt nodes) 0 n) (map (midpoint m) es) k (midpoint m d)))
-    ∙ List·getD-map (midpoint m) es k d

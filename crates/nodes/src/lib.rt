@@ -36,7 +36,7 @@ fn half_sum(a: i32, b: i32) -> i32
 }
 
 // There is an exact midpoint.
-pub fn even_between(a: Place, b: Place) -> bool
+fn even_between(a: Place, b: Place) -> bool
     requires { ⌜ InRange a × InRange b ⌝ }
     ensures { λ r. ⌜ r ≡ evenBetween a b ⌝ }
 {
@@ -44,7 +44,7 @@ pub fn even_between(a: Place, b: Place) -> bool
 }
 
 // It is exact where there is one.
-pub fn middle(a: Place, b: Place) -> Place
+fn middle(a: Place, b: Place) -> Place
     requires { ⌜ InRange a × InRange b ⌝ }
     ensures { λ r. ⌜ r ≡ middleOf a b ⌝ }
 {
@@ -65,29 +65,29 @@ fn odd_split(nodes: &[i32], on: u32, x: u32, y: u32) -> bool
     (on != 0) & !even_between(a, b)
 }
 
-fn odd_at(nodes: &[i32], tri: &[u32], s: &[u32], i: usize) -> bool
-    requires { ⌜ 3 * i + 3 ≤ length (now tri) ⌝ }
-    requires { ⌜ i < length (now s) ⌝ }
-    requires { ⌜ Standing (now nodes) (rowAt (now tri) i) ⌝ }
-    ensures { λ r. ⌜ r ≡ oddAt (now (nodes .entry)) (now (tri .entry)) (now (s .entry)) i ⌝ }
+fn odd_at(nodes: &[i32], rows: &[u32], scratch: &[u32], i: usize) -> bool
+    requires { ⌜ 3 * i + 3 ≤ length (now rows) ⌝ }
+    requires { ⌜ i < length (now scratch) ⌝ }
+    requires { ⌜ Standing (now nodes) (rowAt (now rows) i) ⌝ }
+    ensures { λ r. ⌜ r ≡ oddAt (now (nodes .entry)) (now (rows .entry)) (now (scratch .entry)) i ⌝ }
 {
-    let w = tables::row_at(tri, i);
-    let c = notes::note_at(s, i);
+    let w = tables::row_at(rows, i);
+    let c = notes::note_at(scratch, i);
     odd_split(nodes, c.m, w.q, w.r)
         | odd_split(nodes, c.u, w.p, w.q)
         | odd_split(nodes, c.v, w.r, w.p)
 }
 
 // The lowest row with a split edge that has no exact midpoint.
-pub fn find_odd(nodes: &[i32], tri: &[u32], s: &[u32], t: usize) -> Found
-    requires { ⌜ 3 * t ≤ length (now tri) ⌝ }
-    requires { ⌜ t ≤ length (now s) ⌝ }
-    requires { ⌜ ((i : ℕ) → i < t → Standing (now nodes) (rowAt (now tri) i)) ⌝ }
-    ensures { λ r. ⌜ r ≡ lowest (oddAt (now (nodes .entry)) (now (tri .entry)) (now (s .entry))) 0 t ⌝ }
+pub fn find_odd(nodes: &[i32], rows: &[u32], scratch: &[u32], t: usize) -> Found
+    requires { ⌜ 3 * t ≤ length (now rows) ⌝ }
+    requires { ⌜ t ≤ length (now scratch) ⌝ }
+    requires { ⌜ ((i : ℕ) → i < t → Standing (now nodes) (rowAt (now rows) i)) ⌝ }
+    ensures { λ r. ⌜ r ≡ lowest (oddAt (now (nodes .entry)) (now (rows .entry)) (now (scratch .entry))) 0 t ⌝ }
 {
     let mut i = 0;
     while i < t {
-        if odd_at(nodes, tri, s, i) {
+        if odd_at(nodes, rows, scratch, i) {
             return Found::At(i);
         }
         i += 1;
@@ -123,31 +123,31 @@ fn place_three(nodes: &mut [i32], w: Tri, c: Note, n: u32)
     place_edge(nodes, c.fv, notes::own_v(n, c), w.r, w.p);
 }
 
-fn place_row(nodes: &mut [i32], tri: &[u32], s: &[u32], n: u32, i: usize)
+fn place_row(nodes: &mut [i32], rows: &[u32], scratch: &[u32], n: u32, i: usize)
     requires { ⌜ n ≤ 65_536 ⌝ }
-    requires { ⌜ 3 * i + 3 ≤ length (now tri) ⌝ }
-    requires { ⌜ i < length (now s) ⌝ }
-    requires { ⌜ Standing (now nodes) (rowAt (now tri) i) ⌝ }
-    requires { ⌜ 2 * after n (noteAt (now s) i) ≤ length (now nodes) ⌝ }
-    ensures { λ _. ⌜ now (nodes .exit) ≡ placeRow n (now (tri .entry)) (now (s .entry)) i (now (nodes .entry)) ⌝ }
+    requires { ⌜ 3 * i + 3 ≤ length (now rows) ⌝ }
+    requires { ⌜ i < length (now scratch) ⌝ }
+    requires { ⌜ Standing (now nodes) (rowAt (now rows) i) ⌝ }
+    requires { ⌜ 2 * after n (noteAt (now scratch) i) ≤ length (now nodes) ⌝ }
+    ensures { λ _. ⌜ now (nodes .exit) ≡ placeRow n (now (rows .entry)) (now (scratch .entry)) i (now (nodes .entry)) ⌝ }
 {
-    let w = tables::row_at(tri, i);
-    let c = notes::note_at(s, i);
+    let w = tables::row_at(rows, i);
+    let c = notes::note_at(scratch, i);
     place_three(nodes, w, c, n);
 }
 
 // Every new node gets its place.
-pub fn place_nodes(nodes: &mut [i32], tri: &[u32], s: &[u32], n: u32, t: usize)
+pub fn place_nodes(nodes: &mut [i32], rows: &[u32], scratch: &[u32], n: u32, t: usize)
     requires { ⌜ n ≤ 65_536 ⌝ }
-    requires { ⌜ 3 * t ≤ length (now tri) ⌝ }
-    requires { ⌜ t ≤ length (now s) ⌝ }
-    requires { ⌜ ((i : ℕ) → i < t → Standing (now nodes) (rowAt (now tri) i)) ⌝ }
-    requires { ⌜ ((i : ℕ) → i < t → 2 * after n (noteAt (now s) i) ≤ length (now nodes)) ⌝ }
-    ensures { λ _. ⌜ now (nodes .exit) ≡ iter (placeRow n (now (tri .entry)) (now (s .entry))) 0 t (now (nodes .entry)) ⌝ }
+    requires { ⌜ 3 * t ≤ length (now rows) ⌝ }
+    requires { ⌜ t ≤ length (now scratch) ⌝ }
+    requires { ⌜ ((i : ℕ) → i < t → Standing (now nodes) (rowAt (now rows) i)) ⌝ }
+    requires { ⌜ ((i : ℕ) → i < t → 2 * after n (noteAt (now scratch) i) ≤ length (now nodes)) ⌝ }
+    ensures { λ _. ⌜ now (nodes .exit) ≡ iter (placeRow n (now (rows .entry)) (now (scratch .entry))) 0 t (now (nodes .entry)) ⌝ }
 {
     let mut i = 0;
     while i < t {
-        place_row(nodes, tri, s, n, i);
+        place_row(nodes, rows, scratch, n, i);
         i += 1;
     }
 }

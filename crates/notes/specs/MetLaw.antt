@@ -29,13 +29,13 @@ length-consIf zero e es h = omega arith
 length-consIf (suc zero) e es h = omega arith
 length-consIf (suc (suc k)) e es h = absurd (omega arith)
 
-pub length-met : (w : Tri) (c : Note) → c .fm ≤ 1 → c .fu ≤ 1 → c .fv ≤ 1 → length (metOf w c) ≡ c .fm + c .fu + c .fv
+length-met : (w : Tri) (c : Note) → c .fm ≤ 1 → c .fu ≤ 1 → c .fv ≤ 1 → length (metOf w c) ≡ c .fm + c .fu + c .fv
 length-met w c x y z =
     length-consIf (c .fm) (base w) _ x
     ∙ ap (λ k. c .fm + k) (length-consIf (c .fu) (edge (w .p) (w .q)) _ y ∙ ap (λ k. c .fu + k) (length-consIf (c .fv) (edge (w .r) (w .p)) [] z))
     ∙ omega arith
 
-pub length-metAt : (l s : List ℕ) (i : ℕ) → length (metAt l s i) ≡ noteAt s i .fm + noteAt s i .fu + noteAt s i .fv
+length-metAt : (l s : List ℕ) (i : ℕ) → length (metAt l s i) ≡ noteAt s i .fm + noteAt s i .fu + noteAt s i .fv
 unfolding metAt
 length-metAt l s i = let b = note-bits s i in length-met (rowAt l i) (noteAt s i) (b .fm-bit) (b .fu-bit) (b .fv-bit)
 

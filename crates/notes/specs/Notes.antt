@@ -25,25 +25,23 @@ packed x = (((((x .before * 2 + x .fv) * 2 + x .fu) * 2 + x .fm) * 2 + x .v) * 2
 unfoldable pub unpacked : ℕ → Note
 unpacked c = note (c % 2) (c / 2 % 2) (c / 4 % 2) (c / 8 % 2) (c / 16 % 2) (c / 32 % 2) (c / 64)
 
--- six bits and a number that has room
-pub record Tight (x : Note) : Type 0 where
+-- six bits and a number
+pub record Bits (most : ℕ) (x : Note) : Type 0 where
   pub m-bit : x .m ≤ 1
   pub u-bit : x .u ≤ 1
   pub v-bit : x .v ≤ 1
   pub fm-bit : x .fm ≤ 1
   pub fu-bit : x .fu ≤ 1
   pub fv-bit : x .fv ≤ 1
-  pub few : x .before ≤ 16_777_216
+  pub few : x .before ≤ most
 
--- what a number of 32 bits unpacks to
-pub record Short (x : Note) : Type 0 where
-  pub m-bit : x .m ≤ 1
-  pub u-bit : x .u ≤ 1
-  pub v-bit : x .v ≤ 1
-  pub fm-bit : x .fm ≤ 1
-  pub fu-bit : x .fu ≤ 1
-  pub fv-bit : x .fv ≤ 1
-  pub few : x .before ≤ 67_108_864
+-- that has room
+abbrev pub Tight : Note → Type 0
+Tight = Bits 16_777_216
+
+-- that 32 bits unpack to
+abbrev pub Short : Note → Type 0
+Short = Bits 67_108_864
 
 -- the note of row i
 unfoldable pub noteAt : List ℕ → ℕ → Note

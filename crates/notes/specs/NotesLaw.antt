@@ -14,8 +14,8 @@ use Rattle.lists.specs.SearchLaw.{lowest-below}
 use Rattle.meaning.specs.declared.Tri.{Tri}
 use Rattle.meaning.specs.Tables.{rowAt}
 use Rattle.tables.specs.Arrow.{arrowAt}
-use Rattle.tables.specs.Ready.{Ready, ready-sized}
-use Rattle.notes.specs.Notes.{Note, note, packed, unpacked, Tight, noteAt, ownM, ownU, ownV, ownOn, across, midFor, mids, midsAt}
+use Rattle.tables.specs.Ready.{Ready, ready-sized, ready-rows}
+use Rattle.notes.specs.Notes.{Note, note, packed, unpacked, Bits, Tight, noteAt, ownM, ownU, ownV, ownOn, across, midFor, mids, midsAt}
 
 note-path : (x : Note) (a b c d e f k : ℕ) → a ≡ x .m → b ≡ x .u → c ≡ x .v → d ≡ x .fm → e ≡ x .fu → f ≡ x .fv → k ≡ x .before → note a b c d e f k ≡ x
 note-path x a b c d e f k p q r s t u v = rw (p, q, r, s, t, u, v)
@@ -27,9 +27,9 @@ unpacked-packed x h =
 
 -- ---- the parts of the code, in the form of their needs
 
-pub note-is : (s : List ℕ) (i v : ℕ) (r : Note) → v ≡ getD s i 0 → r ≡ unpacked v → r ≡ noteAt s i
+pub note-read : (s : List ℕ) (i v : ℕ) (r : Note) → v ≡ getD s i 0 → r ≡ unpacked v → r ≡ noteAt s i
 unfolding noteAt
-note-is s i v r e f = f ∙ ap unpacked e
+note-read s i v r e f = f ∙ ap unpacked e
 
 module _ (n : ℕ) (w : Tri) (c : Note) (x y r : ℕ) where
   pub on-m : eqb (w .q) x && eqb (w .r) y ≡ true → r ≡ ownM n c → r ≡ ownOn n w c x y
@@ -46,22 +46,21 @@ module _ (n : ℕ) (w : Tri) (c : Note) (x y r : ℕ) where
 
 pub ruleset owned = (on-m, on-u, on-v)
 
--- a row that was found below row i is in the table, and its note in scratch
-module _ (s l : List ℕ) (nc i j : ℕ) (f : Found) (x y : ℕ) (a : Ready s nc l i) (b : 3 * i + 3 ≤ length l)
-    (e : f ≡ lowest (arrowAt l x y) 0 i) (g : f ≡ At j) where
-  pub found-row : 3 * j + 3 ≤ length l
-  found-row = let h = lowest-below (arrowAt l x y) i j (sym e ∙ g) in omega arith
+-- a row that was found among the rows in the index is in the table, and its note in scratch
+module _ (s l : List ℕ) (nc t j : ℕ) (f : Found) (x y : ℕ) (a : Ready s nc l t) (e : f ≡ lowest (arrowAt l x y) 0 t) (g : f ≡ At j) where
+  pub row-found : 3 * j + 3 ≤ length l
+  row-found = let h = lowest-below (arrowAt l x y) t j (sym e ∙ g) in let k = ready-rows s l nc t a in omega arith
 
-  pub found-note : j < length s
-  found-note = let h = lowest-below (arrowAt l x y) i j (sym e ∙ g) in let z = ready-sized s l nc i a in omega arith
+  pub note-found : j < length s
+  note-found = let h = row-found in let z = ready-sized s l nc t a in omega arith
 
 pub row-note : (s l : List ℕ) (nc i : ℕ) → Ready s nc l i → 3 * i + 3 ≤ length l → i < length s
 row-note s l nc i a b = let z = ready-sized s l nc i a in omega arith
 
 module _ (n : ℕ) (l s : List ℕ) (i x y : ℕ) (f : Found) (e : f ≡ lowest (arrowAt l y x) 0 i) where
-  pub across-found : (j r : ℕ) (w : Tri) (c : Note) → f ≡ At j → w ≡ rowAt l j → c ≡ noteAt s j → r ≡ ownOn n w c y x → r ≡ across n l s i x y
+  pub across-at : (j r : ℕ) (w : Tri) (c : Note) → f ≡ At j → w ≡ rowAt l j → c ≡ noteAt s j → r ≡ ownOn n w c y x → r ≡ across n l s i x y
   unfolding across
-  across-found j r w c g p q h = h ∙ rw (p, q, ← e, g)
+  across-at j r w c g p q h = h ∙ rw (p, q, ← e, g)
 
   pub across-none : f ≡ Nothing → 0 ≡ across n l s i x y
   unfolding across
@@ -97,16 +96,6 @@ mids-are n l s i w c a b d m u v p q e f g h j k =
     (h ∙ ap (λ o. midFor n l s i (c .u) (c .fu) o (w .p) (w .q)) g)
     (k ∙ ap (λ o. midFor n l s i (c .v) (c .fv) o (w .r) (w .p)) j))
 
--- ---- six bits
-
-pub record Bits (x : Note) : Type 0 where
-  pub m-bit : x .m ≤ 1
-  pub u-bit : x .u ≤ 1
-  pub v-bit : x .v ≤ 1
-  pub fm-bit : x .fm ≤ 1
-  pub fu-bit : x .fu ≤ 1
-  pub fv-bit : x .fv ≤ 1
-
-pub note-bits : (s : List ℕ) (i : ℕ) → Bits (noteAt s i)
+pub note-bits : (s : List ℕ) (i : ℕ) → Bits (noteAt s i .before) (noteAt s i)
 unfolding noteAt unpacked
-note-bits s i = record { m-bit = omega arith; u-bit = omega arith; v-bit = omega arith; fm-bit = omega arith; fu-bit = omega arith; fv-bit = omega arith }
+note-bits s i = record { m-bit = omega arith; u-bit = omega arith; v-bit = omega arith; fm-bit = omega arith; fu-bit = omega arith; fv-bit = omega arith; few = omega arith }

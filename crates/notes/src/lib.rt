@@ -28,7 +28,7 @@ pub fn pack(x: Note) -> u32
     (((((x.before * 2 + x.fv) * 2 + x.fu) * 2 + x.fm) * 2 + x.v) * 2 + x.u) * 2 + x.m
 }
 
-pub fn unpack(c: u32) -> Note
+fn unpack(c: u32) -> Note
     ensures is { λ r. ⌜ r ≡ unpacked c ⌝ }
     ensures short { λ r. ⌜ Short r ⌝ }
 {
@@ -44,12 +44,12 @@ pub fn unpack(c: u32) -> Note
 }
 
 // The note of row i.
-pub fn note_at(s: &[u32], i: usize) -> Note
-    requires { ⌜ i < length (now s) ⌝ }
-    ensures is { λ r. ⌜ r ≡ noteAt (now (s .entry)) i ⌝ }
+pub fn note_at(scratch: &[u32], i: usize) -> Note
+    requires { ⌜ i < length (now scratch) ⌝ }
+    ensures is { λ r. ⌜ r ≡ noteAt (now (scratch .entry)) i ⌝ }
     ensures short { λ r. ⌜ Short r ⌝ }
 {
-    unpack(tables::note_at(s, i))
+    unpack(tables::note_at(scratch, i))
 }
 
 // ---- the numbers of the nodes that a row numbers itself, from n on
@@ -96,21 +96,21 @@ fn own_on(n: u32, w: Tri, c: Note, x: u32, y: u32) -> u32
 // ---- the numbers of all new nodes of a row
 
 // The node on the edge x-y of row i that a lower row numbered; 0 if there is no such row.
-fn across(tri: &[u32], s: &[u32], nc: usize, n: u32, i: usize, x: u32, y: u32) -> u32
+fn across(rows: &[u32], scratch: &[u32], nc: usize, n: u32, i: usize, x: u32, y: u32) -> u32
     requires { ⌜ n ≤ 65_536 ⌝ }
-    requires { ⌜ Ready (now s) nc (now tri) i ⌝ }
-    requires { ⌜ 3 * i + 3 ≤ length (now tri) ⌝ }
-    ensures { λ r. ⌜ r ≡ across n (now (tri .entry)) (now (s .entry)) i x y ⌝ }
+    requires { ⌜ Ready (now scratch) nc (now rows) i ⌝ }
+    requires { ⌜ 3 * i + 3 ≤ length (now rows) ⌝ }
+    ensures { λ r. ⌜ r ≡ across n (now (rows .entry)) (now (scratch .entry)) i x y ⌝ }
 {
-    match tables::find_edge(tri, s, nc, i, y, x) {
-        Found::At(j) => own_on(n, tables::row_at(tri, j), note_at(s, j), y, x),
+    match tables::find_edge(rows, scratch, nc, i, y, x) {
+        Found::At(j) => own_on(n, tables::row_at(rows, j), note_at(scratch, j), y, x),
         Found::Nothing => 0,
     }
 }
 
 fn mid_for(
-    tri: &[u32],
-    s: &[u32],
+    rows: &[u32],
+    scratch: &[u32],
     nc: usize,
     n: u32,
     i: usize,
@@ -121,9 +121,9 @@ fn mid_for(
     y: u32,
 ) -> u32
     requires { ⌜ n ≤ 65_536 ⌝ }
-    requires { ⌜ Ready (now s) nc (now tri) i ⌝ }
-    requires { ⌜ 3 * i + 3 ≤ length (now tri) ⌝ }
-    ensures { λ r. ⌜ r ≡ midFor n (now (tri .entry)) (now (s .entry)) i on first own x y ⌝ }
+    requires { ⌜ Ready (now scratch) nc (now rows) i ⌝ }
+    requires { ⌜ 3 * i + 3 ≤ length (now rows) ⌝ }
+    ensures { λ r. ⌜ r ≡ midFor n (now (rows .entry)) (now (scratch .entry)) i on first own x y ⌝ }
 {
     if on == 0 {
         return 0;
@@ -131,20 +131,20 @@ fn mid_for(
     if first == 1 {
         return own;
     }
-    across(tri, s, nc, n, i, x, y)
+    across(rows, scratch, nc, n, i, x, y)
 }
 
-// The numbers of the new nodes of row i. The index of the rows below it stands in s.
-pub fn mids_of(tri: &[u32], s: &[u32], nc: usize, n: u32, i: usize) -> Mids
+// The numbers of the new nodes of row i. The index of the rows below it stands in scratch.
+pub fn mids_of(rows: &[u32], scratch: &[u32], nc: usize, n: u32, i: usize) -> Mids
     requires { ⌜ n ≤ 65_536 ⌝ }
-    requires { ⌜ Ready (now s) nc (now tri) i ⌝ }
-    requires { ⌜ 3 * i + 3 ≤ length (now tri) ⌝ }
-    ensures { λ r. ⌜ r ≡ midsAt n (now (tri .entry)) (now (s .entry)) i ⌝ }
+    requires { ⌜ Ready (now scratch) nc (now rows) i ⌝ }
+    requires { ⌜ 3 * i + 3 ≤ length (now rows) ⌝ }
+    ensures { λ r. ⌜ r ≡ midsAt n (now (rows .entry)) (now (scratch .entry)) i ⌝ }
 {
-    let w = tables::row_at(tri, i);
-    let c = note_at(s, i);
-    let m = mid_for(tri, s, nc, n, i, c.m, c.fm, own_m(n, c), w.q, w.r);
-    let u = mid_for(tri, s, nc, n, i, c.u, c.fu, own_u(n, c), w.p, w.q);
-    let v = mid_for(tri, s, nc, n, i, c.v, c.fv, own_v(n, c), w.r, w.p);
+    let w = tables::row_at(rows, i);
+    let c = note_at(scratch, i);
+    let m = mid_for(rows, scratch, nc, n, i, c.m, c.fm, own_m(n, c), w.q, w.r);
+    let u = mid_for(rows, scratch, nc, n, i, c.u, c.fu, own_u(n, c), w.p, w.q);
+    let v = mid_for(rows, scratch, nc, n, i, c.v, c.fv, own_v(n, c), w.r, w.p);
     Mids { m, u, v }
 }

@@ -2,5 +2,4 @@ pub mod Arrow
 pub mod Sized
 pub mod Put
 pub mod PutLaw
-pub mod ClearLaw
 pub mod Ready

@@ -1,15 +1,16 @@
 -- A row or a place put into its table. Assumes nothing.
 use mathlib.Core.List.{List}
-use Prim.Native.Nat.{ℕ, _+_, _*_}
+use Prim.Native.Nat.{ℕ}
 use lib.IntN.{ℤ}
-use lib.ListN.{set}
+use Rattle.lists.specs.Table.{writeAt}
 use Rattle.meaning.specs.declared.Place.{Place}
 use Rattle.meaning.specs.declared.Tri.{Tri}
+use Rattle.meaning.specs.Tables.{nodeForm, rowForm}
 
 -- the table with row i replaced
 unfoldable pub setRow : List ℕ → ℕ → Tri → List ℕ
-setRow l i w = set (set (set l (3 * i) (w .p)) (3 * i + 1) (w .q)) (3 * i + 2) (w .r)
+setRow = writeAt rowForm
 
 -- the table with node k replaced
 unfoldable pub setPlace : List ℤ → ℕ → Place → List ℤ
-setPlace l k a = set (set l (2 * k) (a .x)) (2 * k + 1) (a .y)
+setPlace = writeAt nodeForm

@@ -1,64 +1,55 @@
 -- What the neighbour search asks of scratch: the index of the first t rows stands from `indexAt` on. Only this crate opens `Ready`;
 -- others know these laws, and what `add_row` ensures. The index is empty for now, so that `Ready` holds sizes alone. Assumes nothing.
-use mathlib.Core.Path.{_≡_, ap, _∙_}
-use mathlib.Core.List.{List, _++_}
-use Prim.Native.Nat.{ℕ, _+_, _-_, _*_, _≤_, _<_}
+use mathlib.Core.Path.{_≡_}
+use mathlib.Core.List.{List}
+use Prim.Native.Nat.{ℕ, _*_, _≤_, _<_}
 use native.Mathlib.Omega.{arith}
-use lib.ListN.{length, set, drop, replicate, length-set, length-append, length-drop, length-replicate}
-use lib.Seq.{drop-set-lt, drop-append-add, drop-drop}
+use lib.ListN.{length, set, drop, replicate, length-set}
+use lib.Seq.{drop-set-lt}
 use Rattle.meaning.specs.Tables.{rowAt}
 use Rattle.tables.specs.Sized.{Sized, indexAt}
 
-pub record Indexed (s : List ℕ) (nc : ℕ) (tri : List ℕ) (t : ℕ) : Type 0 where
-  pub sizes : Sized nc (length tri) (length s)
-  pub rows : 3 * t ≤ length tri
+pub record Indexed (scratch : List ℕ) (nc : ℕ) (rows : List ℕ) (t : ℕ) : Type 0 where
+  pub sizes : Sized nc (length rows) (length scratch)
+  pub in-table : 3 * t ≤ length rows
 
 unfoldable pub Ready : List ℕ → ℕ → List ℕ → ℕ → Type 0
-Ready s nc tri t = Indexed s nc tri t
+Ready scratch nc rows t = Indexed scratch nc rows t
 
 -- no row is in the index of a scratch that is all zero
-pub ready-start : (s tri : List ℕ) (nc : ℕ) → Sized nc (length tri) (length s) → s ≡ replicate (length s) 0 → Ready s nc tri 0
+pub ready-start : (scratch rows : List ℕ) (nc : ℕ) → Sized nc (length rows) (length scratch) → scratch ≡ replicate (length scratch) 0 → Ready scratch nc rows 0
 unfolding Ready
-ready-start s tri nc z e = record { sizes = z; rows = omega arith }
+ready-start scratch rows nc z e = record { sizes = z; in-table = omega arith }
 
 -- the sizes are as they were at the start
-pub ready-sized : (s tri : List ℕ) (nc t : ℕ) → Ready s nc tri t → Sized nc (length tri) (length s)
+pub ready-sized : (scratch rows : List ℕ) (nc t : ℕ) → Ready scratch nc rows t → Sized nc (length rows) (length scratch)
 unfolding Ready
-ready-sized s tri nc t r = r .sizes
+ready-sized scratch rows nc t r = r .sizes
+
+-- the rows are in the table
+pub ready-rows : (scratch rows : List ℕ) (nc t : ℕ) → Ready scratch nc rows t → 3 * t ≤ length rows
+unfolding Ready
+ready-rows scratch rows nc t r = r .in-table
 
 -- the notes do not matter
-pub ready-kept : (s s′ tri : List ℕ) (nc t : ℕ) → length s′ ≡ length s → drop (indexAt nc (length tri)) s′ ≡ drop (indexAt nc (length tri)) s →
-    Ready s nc tri t → Ready s′ nc tri t
+pub ready-kept : (scratch scratch′ rows : List ℕ) (nc t : ℕ) → length scratch′ ≡ length scratch → drop (indexAt nc (length rows)) scratch′ ≡ drop (indexAt nc (length rows)) scratch →
+    Ready scratch nc rows t → Ready scratch′ nc rows t
 unfolding Ready
-ready-kept s s′ tri nc t l d r = record { sizes = rw l (r .sizes); rows = r .rows }
+ready-kept scratch scratch′ rows nc t l d r = record { sizes = rw l (r .sizes); in-table = r .in-table }
 
 -- fewer rows: the search reads only these, so that the others may have changed
-pub ready-fewer : (s tri tri′ : List ℕ) (nc t i : ℕ) → i ≤ t → length tri′ ≡ length tri → ((j : ℕ) → j < i → rowAt tri′ j ≡ rowAt tri j) →
-    Ready s nc tri t → Ready s nc tri′ i
+pub ready-fewer : (scratch rows rows′ : List ℕ) (nc t i : ℕ) → i ≤ t → length rows′ ≡ length rows → ((j : ℕ) → j < i → rowAt rows′ j ≡ rowAt rows j) →
+    Ready scratch nc rows t → Ready scratch nc rows′ i
 unfolding Ready
-ready-fewer s tri tri′ nc t i h e a r = record { sizes = rw e (r .sizes); rows = let b = r .rows in omega arith }
+ready-fewer scratch rows rows′ nc t i h e a r = record { sizes = rw e (r .sizes); in-table = let b = r .in-table in omega arith }
 
 -- ---- from the laws above
 
 -- a note is put
-pub ready-put : (s s′ tri : List ℕ) (nc t k v : ℕ) → k < indexAt nc (length tri) → s′ ≡ set s k v → Ready s nc tri t → Ready s′ nc tri t
-ready-put s s′ tri nc t k v h e r =
-    ready-kept s s′ tri nc t (rw e (length-set s k v)) (rw e (drop-set-lt (indexAt nc (length tri)) s k v h)) r
-
-past-front : (m k : ℕ) (s : List ℕ) → k ≤ m → drop m (replicate k 0 ++ drop k s) ≡ drop m s
-past-front m k s h =
-    let z : List ℕ = replicate k 0 in
-    let e : length z + (m - k) ≡ m = omega (arith, length-replicate {A = ℕ} k 0) in
-    let f : k + (m - k) ≡ m = omega arith in
-    (rw e at (drop-append-add z (drop k s) (m - k))) ∙ drop-drop (m - k) k s ∙ ap (λ (j : ℕ). drop j s) f
-
--- the first notes are cleared
-pub ready-front : (s s′ tri : List ℕ) (nc t k : ℕ) → k ≤ indexAt nc (length tri) → k ≤ length s → s′ ≡ replicate k 0 ++ drop k s → Ready s nc tri t → Ready s′ nc tri t
-ready-front s s′ tri nc t k h b e r =
-    let l : length s′ ≡ length s = ap length e ∙ length-append (replicate k 0) (drop k s) ∙ omega (arith, length-replicate {A = ℕ} k 0, length-drop k s) in
-    let d : drop (indexAt nc (length tri)) s′ ≡ drop (indexAt nc (length tri)) s = ap (drop (indexAt nc (length tri))) e ∙ past-front (indexAt nc (length tri)) k s h in
-    ready-kept s s′ tri nc t l d r
+pub ready-put : (scratch scratch′ rows : List ℕ) (nc t k v : ℕ) → k < indexAt nc (length rows) → scratch′ ≡ set scratch k v → Ready scratch nc rows t → Ready scratch′ nc rows t
+ready-put scratch scratch′ rows nc t k v h e r =
+    ready-kept scratch scratch′ rows nc t (rw e (length-set scratch k v)) (rw e (drop-set-lt (indexAt nc (length rows)) scratch k v h)) r
 
 -- all rows are in
-pub ready-end : (s tri : List ℕ) (nc i t : ℕ) → i ≤ t → t ≤ i → Ready s nc tri i → Ready s nc tri t
-ready-end s tri nc i t a b r = let q : i ≡ t = omega arith in rw q at r
+pub ready-end : (scratch rows : List ℕ) (nc i t : ℕ) → i ≤ t → t ≤ i → Ready scratch nc rows i → Ready scratch nc rows t
+ready-end scratch rows nc i t a b r = let q : i ≡ t = omega arith in rw q at r

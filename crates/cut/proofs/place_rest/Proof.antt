@@ -9,10 +9,10 @@ use Rattle.cut.proofs.place_rest.Statement.{statement}
 use Rattle.cut.proofs.place_rest.Tie as tie
 
 abbrev Inv-loop : tie.InvT-loop
-Inv-loop tri₀ at count rows k₀ tri k = (1 ≤ k) × (k ≤ count) × (length tri ≡ length tri₀) × (iter (append rows at) k count tri ≡ iter (append rows at) 1 count tri₀)
+Inv-loop rows₀ at count numbers k₀ rows k = (1 ≤ k) × (k ≤ count) × (length rows ≡ length rows₀) × (iter (append numbers at) k count rows ≡ iter (append numbers at) 1 count rows₀)
 
 abbrev μ-loop : tie.MeasureT-loop
-μ-loop tri₀ at count rows k₀ tri k = count - k
+μ-loop rows₀ at count numbers k₀ rows k = count - k
 
 loop-again : tie.Need-loop-again Inv-loop μ-loop
 loop-again c = search (needs, iter-turn)

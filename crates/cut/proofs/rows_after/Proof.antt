@@ -8,10 +8,10 @@ use Rattle.cut.proofs.rows_after.Statement.{statement}
 use Rattle.cut.proofs.rows_after.Tie as tie
 
 abbrev Inv-loop : tie.InvT-loop
-Inv-loop s t r₀ i₀ r i = (i ≤ t) × (r ≡ t + sumTo (splits s) i)
+Inv-loop scratch t r₀ i₀ r i = (i ≤ t) × (r ≡ t + sumTo (splits scratch) i)
 
 abbrev μ-loop : tie.MeasureT-loop
-μ-loop s t r₀ i₀ r i = t - i
+μ-loop scratch t r₀ i₀ r i = t - i
 
 loop-holds : tie.Need-loop-holds Inv-loop μ-loop
 loop-holds c = search (needs, count-start)

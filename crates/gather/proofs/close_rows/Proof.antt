@@ -1,10 +1,11 @@
-use Rattle.gather.specs.Needs.{items-count, rows-closed}
+use Rattle.gather.specs.Closing.{items-count, table-closed}
+use Rattle.meaning.specs.Tables.{rowForm}
 use borrow.Author.Needs.{needs}
 use Rattle.gather.proofs.close_rows.Statement.{statement}
 use Rattle.gather.proofs.close_rows.Tie as tie
 
 returns : tie.Need-returns
-returns c = (search (needs, items-count), search (needs, rows-closed))
+returns c = (search (needs, items-count), search (needs, table-closed rowForm))
 
 pub close-rows-spec : {M : Type 1} → statement M
 close-rows-spec =

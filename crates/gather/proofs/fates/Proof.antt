@@ -10,10 +10,10 @@ use Rattle.gather.proofs.fates.Statement.{statement}
 use Rattle.gather.proofs.fates.Tie as tie
 
 abbrev Inv-loop : tie.InvT-loop
-Inv-loop tri s₀ nc n t i₀ s i = (i ≤ t) × (length s ≡ length s₀) × (s ≡ noted (2 * nc) (fateAt tri s₀ nc) i s₀)
+Inv-loop rows scratch₀ nc n t i₀ scratch i = (i ≤ t) × (length scratch ≡ length scratch₀) × (scratch ≡ noted (2 * nc) (fateAt rows scratch₀ nc) i scratch₀)
 
 abbrev μ-loop : tie.MeasureT-loop
-μ-loop tri s₀ nc n t i₀ s i = t - i
+μ-loop rows scratch₀ nc n t i₀ scratch i = t - i
 
 loop-holds : tie.Need-loop-holds Inv-loop μ-loop
 loop-holds c = (search needs, search needs, noted-start _ (fateAt _ _ _) _)

@@ -10,10 +10,10 @@ use Rattle.gather.proofs.numbers.Statement.{statement}
 use Rattle.gather.proofs.numbers.Tie as tie
 
 abbrev Inv-loop : tie.InvT-loop
-Inv-loop s₀ nc n k₀ z₀ s k z = (z ≤ n) × (length s ≡ length s₀) × (k ≤ z) × (s ≡ noted 0 (numberBelow (goneNode s₀ nc)) z s₀) × (k ≡ numberBelow (goneNode s₀ nc) z)
+Inv-loop scratch₀ nc n k₀ z₀ scratch k z = (z ≤ n) × (length scratch ≡ length scratch₀) × (k ≤ z) × (scratch ≡ noted 0 (numberBelow (goneNode scratch₀ nc)) z scratch₀) × (k ≡ numberBelow (goneNode scratch₀ nc) z)
 
 abbrev μ-loop : tie.MeasureT-loop
-μ-loop s₀ nc n k₀ z₀ s k z = n - z
+μ-loop scratch₀ nc n k₀ z₀ scratch k z = n - z
 
 loop-holds : tie.Need-loop-holds Inv-loop μ-loop
 loop-holds c = (search needs, search needs, search needs, noted-start _ (numberBelow _) _, number-start _)

@@ -10,10 +10,10 @@ use Rattle.gather.proofs.take_nodes.Statement.{statement}
 use Rattle.gather.proofs.take_nodes.Tie as tie
 
 abbrev Inv-loop : tie.InvT-loop
-Inv-loop s₀ marks nc n z₀ s z = (z ≤ n) × (length s ≡ length s₀) × (s ≡ noted nc (takeAt marks s₀ nc) z s₀)
+Inv-loop scratch₀ marks nc n z₀ scratch z = (z ≤ n) × (length scratch ≡ length scratch₀) × (scratch ≡ noted nc (takeAt marks scratch₀ nc) z scratch₀)
 
 abbrev μ-loop : tie.MeasureT-loop
-μ-loop s₀ marks nc n z₀ s z = n - z
+μ-loop scratch₀ marks nc n z₀ scratch z = n - z
 
 loop-holds : tie.Need-loop-holds Inv-loop μ-loop
 loop-holds c = (search needs, search needs, noted-start _ (takeAt _ _ _) _)

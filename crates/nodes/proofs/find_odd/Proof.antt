@@ -8,10 +8,10 @@ use Rattle.nodes.proofs.find_odd.Statement.{statement}
 use Rattle.nodes.proofs.find_odd.Tie as tie
 
 abbrev Inv-loop : tie.InvT-loop
-Inv-loop nodes tri s t i₀ i = (i ≤ t) × (lowest (oddAt nodes tri s) i t ≡ lowest (oddAt nodes tri s) 0 t)
+Inv-loop nodes rows scratch t i₀ i = (i ≤ t) × (lowest (oddAt nodes rows scratch) i t ≡ lowest (oddAt nodes rows scratch) 0 t)
 
 abbrev μ-loop : tie.MeasureT-loop
-μ-loop nodes tri s t i₀ i = t - i
+μ-loop nodes rows scratch t i₀ i = t - i
 
 odd-at-requires : tie.Need-odd-at-requires Inv-loop μ-loop
 odd-at-requires c κs = (search needs, (search needs, c .before .before .before .before .pre .1 .1 _ (c .loop-test .taken)))

@@ -1,4 +1,4 @@
-use Rattle.nodes.specs.NodesLaw.{middle-is}
+use Rattle.nodes.specs.NodesLaw.{middle-made}
 use Rattle.whole.specs.Room.{room}
 use Rattle.meaning.specs.Split.{half}
 use lib.IntN.{_+ℤ_}
@@ -21,7 +21,7 @@ returns c = let s = c .before .before .before .before .before .before in
     let ey : c .half-sum2 .result ≡ half (a .a .y +ℤ a .b .y) = simp (toZ-ofZ, ay, by) at (c .half-sum2 .ensures) in
     let fx : SFits w32 (c .before .before .before .half-sum .result) = record { sfits = c .before .before .before .half-sum .ok } in
     let fy : SFits w32 (c .half-sum2 .result) = record { sfits = c .half-sum2 .ok } in
-    simp (toZ-ofZ, fx, fy) (middle-is (a .a) (a .b) _ _ ex ey)
+    simp (toZ-ofZ, fx, fy) (middle-made (a .a) (a .b) _ _ ex ey)
 
 pub middle-spec : {M : Type 1} → statement M
 middle-spec = tie.close (tie.spec

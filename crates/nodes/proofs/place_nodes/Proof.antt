@@ -12,10 +12,10 @@ use Rattle.nodes.proofs.place_nodes.Statement.{statement}
 use Rattle.nodes.proofs.place_nodes.Tie as tie
 
 abbrev Inv-loop : tie.InvT-loop
-Inv-loop nodes₀ tri s n t i₀ nodes i = (i ≤ t) × (length nodes ≡ length nodes₀) × ((j : ℕ) → j < t → Standing nodes (rowAt tri j)) × (iter (placeRow n tri s) i t nodes ≡ iter (placeRow n tri s) 0 t nodes₀)
+Inv-loop nodes₀ rows scratch n t i₀ nodes i = (i ≤ t) × (length nodes ≡ length nodes₀) × ((j : ℕ) → j < t → Standing nodes (rowAt rows j)) × (iter (placeRow n rows scratch) i t nodes ≡ iter (placeRow n rows scratch) 0 t nodes₀)
 
 abbrev μ-loop : tie.MeasureT-loop
-μ-loop nodes₀ tri s n t i₀ nodes i = t - i
+μ-loop nodes₀ rows scratch n t i₀ nodes i = t - i
 
 place-row-requires : tie.Need-place-row-requires Inv-loop μ-loop
 place-row-requires c κs = let v = c .before .before .loop .inv in

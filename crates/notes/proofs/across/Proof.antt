@@ -1,16 +1,16 @@
-use Rattle.notes.specs.NotesLaw.{found-row, found-note, across-found, across-none}
+use Rattle.notes.specs.NotesLaw.{row-found, note-found, across-at, across-none}
 use borrow.Author.Needs.{needs}
 use Rattle.notes.proofs.across.Statement.{statement}
 use Rattle.notes.proofs.across.Tie as tie
 
 row-at-requires : tie.Need-row-at-requires
-row-at-requires c κs = search (needs, found-row)
+row-at-requires c κs = search (needs, row-found)
 
 note-at-requires : tie.Need-note-at-requires
-note-at-requires c κs = search (needs, found-note)
+note-at-requires c κs = search (needs, note-found)
 
 returns : tie.Need-returns
-returns c = search (needs, across-found)
+returns c = search (needs, across-at)
 
 returns-2 : tie.Need-returns-2
 returns-2 c = search (needs, across-none)

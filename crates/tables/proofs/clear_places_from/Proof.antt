@@ -1,4 +1,4 @@
-use Rattle.tables.specs.ClearLaw.{places-cleared}
+use Rattle.tables.specs.PutLaw.{places-cleared}
 use borrow.Author.Needs.{needs}
 use Rattle.tables.proofs.clear_places_from.Statement.{statement}
 use Rattle.tables.proofs.clear_places_from.Tie as tie

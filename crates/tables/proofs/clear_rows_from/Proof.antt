@@ -1,4 +1,4 @@
-use Rattle.tables.specs.ClearLaw.{rows-cleared}
+use Rattle.tables.specs.PutLaw.{rows-cleared}
 use borrow.Author.Needs.{needs}
 use Rattle.tables.proofs.clear_rows_from.Statement.{statement}
 use Rattle.tables.proofs.clear_rows_from.Tie as tie

@@ -1,4 +1,5 @@
 use lib.ListN.{length-set}
+use native.Mathlib.Numerals.{add-one}
 use native.Mathlib.Omega.{arith}
 use Rattle.tables.specs.Put.{setPlace}
 use borrow.Author.Needs.{needs}
@@ -13,7 +14,7 @@ same-length c = simp length-set
 
 returns : tie.Need-returns
 unfolding setPlace
-returns c = search needs
+returns c = search (needs, add-one)
 
 pub put-place-spec : {M : Type 1} → statement M
 put-place-spec =

@@ -1,4 +1,5 @@
 use lib.ListN.{length-set}
+use native.Mathlib.Numerals.{add-one, add-two}
 use native.Mathlib.Omega.{arith}
 use Rattle.tables.specs.Put.{setRow}
 use borrow.Author.Needs.{needs}
@@ -16,7 +17,7 @@ same-length c = simp length-set
 
 returns : tie.Need-returns
 unfolding setRow
-returns c = search needs
+returns c = search (needs, add-one, add-two)
 
 pub put-row-spec : {M : Type 1} → statement M
 put-row-spec =

@@ -143,6 +143,12 @@ passes-kept : {n0 : ℕ} {m : Mesh} {r : Restored} → Passes n0 m r → Lawful 
 passes-kept {n0} {m} (none-good e) law le = kept-self n0 m law le
 passes-kept {n0} {m} (one-pass z zs e p) law le = let k = pass-kept n0 m law le in kept-on k (passes-kept p (k .lawful) (k .base-there))
 
+-- and no pass adds a row
+passes-rows : {n0 : ℕ} {m : Mesh} {r : Restored} → Passes n0 m r → Lawful m → n0 ≤ length (m .nodes) → length (r .end .tris) ≤ length (m .tris)
+passes-rows (none-good e) law le = omega arith
+passes-rows {n0} {m} (one-pass z zs e p) law le =
+    let k = pass-kept n0 m law le in omega (arith, passes-rows p (k .lawful) (k .base-there), pass-gone n0 m law .row-count)
+
 module _ (n0 : ℕ) (m : Mesh) where
   -- no good node is left
   pub restored-ends : goodNodes n0 (restored n0 m .end) ≡ []
@@ -154,6 +160,9 @@ module _ (n0 : ℕ) (m : Mesh) where
   module _ (law : Lawful m) (le : n0 ≤ length (m .nodes)) where
     pub restored-kept : Kept n0 m (restored n0 m .end)
     restored-kept = passes-kept (restored-is n0 m) law le
+
+    pub restored-rows : length (restored n0 m .end .tris) ≤ length (m .tris)
+    restored-rows = passes-rows (restored-is n0 m) law le
 
     -- no more passes than nodes were added
     pub restored-passes : restored n0 m .passes + n0 ≤ length (m .nodes)

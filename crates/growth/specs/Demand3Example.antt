@@ -14,7 +14,7 @@ use Rattle.meaning.specs.Good.{pairs, span, G1-4, good}
 use Rattle.meaning.specs.Coarsen.{taken, without, coarsened, goodNodes, pass, restored}
 use Rattle.meaning.specs.Tables.{Given, given, outcome, answer, placeAt, rowAt, meshOf}
 use Rattle.meaning.specs.Calls.{checkNo, refineNo, coarsenNo, checks, refines, coarsens, restores, sizesFit, checkOut, refineOut, coarsenOut, restoreOut}
-use Rattle.growth.specs.Demand3.{Left, begin, lent, refined-by, coarsened-by, refused-by, checked-by, a-refine, a-coarsen, a-restore, demand3-tables, fullPass}
+use Rattle.growth.specs.Demand3.{TablesReached, begin, lent, refined-by, coarsened-by, refused-by, checked-by, a-refine, a-coarsen, a-restore, demand3-tables, fullPass}
 
 -- Tables in room for 9 nodes and 10 rows.
 tables : List ℕ → List ℕ → List ℕ → ℕ → ℕ → Given
@@ -53,14 +53,14 @@ not-0 k e = omega arith
 
 -- Row 0 is marked three times. Then a check with a count too low (4), a refine with a mark table of another length (2); node 6 is
 -- coarsened; a coarsen with n0 above n (1) and a restore with no scratch (1); other scratch.
-history : Left S S5
+history : TablesReached S S5
 unfolding tables square S S2 S3 S4 S5 lowest lowestFrom items itemsFrom placeAt rowAt meshOf twiceArea firstOutside firstMisnamed firstRepeat firstFlat firstUnused firstClash faultOf refusal compatible closure splitEdges splitAt split refined pairs span G1-4 good taken without coarsened goodNodes pass restored checkNo refineNo coarsenNo checks refines coarsens restores sizesFit checkOut refineOut coarsenOut restoreOut
 history =
-    let a : Left S S2 = refined-by begin newest refl (1 ∷ 0 ∷ []) refl in
-    let b : Left S S3 = refined-by a newest refl (1 ∷ 0 ∷ 0 ∷ 0 ∷ []) refl in
-    let c : Left S S4 = refined-by b newest refl (1 ∷ 0 ∷ 0 ∷ 0 ∷ 0 ∷ []) refl in
-    let d : Left S S4 = checked-by c (replicate 76 1) 7 8 in
-    let e : Left S S4 = refused-by d (replicate 76 0) 8 8 (a-refine newest 4 (1 ∷ [])) (not-0 1) in
+    let a : TablesReached S S2 = refined-by begin newest refl (1 ∷ 0 ∷ []) refl in
+    let b : TablesReached S S3 = refined-by a newest refl (1 ∷ 0 ∷ 0 ∷ 0 ∷ []) refl in
+    let c : TablesReached S S4 = refined-by b newest refl (1 ∷ 0 ∷ 0 ∷ 0 ∷ 0 ∷ []) refl in
+    let d : TablesReached S S4 = checked-by c (replicate 76 1) 7 8 in
+    let e : TablesReached S S4 = refused-by d (replicate 76 0) 8 8 (a-refine newest 4 (1 ∷ [])) (not-0 1) in
     let f = coarsened-by e (0 ∷ 0 ∷ 0 ∷ 0 ∷ 0 ∷ 0 ∷ 1 ∷ 0 ∷ []) refl in
     let g = refused-by f (replicate 76 0) 7 6 (a-coarsen 8 (replicate 7 1)) (not-0 0) in
     let h = refused-by g [] 7 6 (a-restore 4) (not-0 0) in
@@ -69,7 +69,7 @@ history =
 -- A full pass removes a node,
 passed : fullPass S5 4 .answer .n < 7
 unfolding tables square S S5 lowest lowestFrom items itemsFrom placeAt rowAt meshOf twiceArea firstOutside firstMisnamed firstRepeat firstFlat firstUnused firstClash faultOf refusal compatible closure splitEdges splitAt split refined pairs span G1-4 good taken without coarsened goodNodes pass restored checkNo refineNo coarsenNo checks refines coarsens restores sizesFit checkOut refineOut coarsenOut restoreOut
-passed = demand3-tables S checked history .pass-fewer (omega arith) refl .1
+passed = demand3-tables S checked history .pass-takes-one (omega arith) refl .1
 
 -- and restore leaves S, zeros after it, after 2 passes.
 again : restoreOut S5 4 ≡ outcome (answer 0 4 2 2) (map pos (square ++ replicate 10 0)) (1 ∷ 2 ∷ 0 ∷ 3 ∷ 0 ∷ 2 ∷ replicate 24 0) (replicate 80 0)

@@ -69,6 +69,20 @@ module _ (g : Given) (n0 : ℕ) where
   pub sizes-unfit : (sizesFit g n0 ≡ false) ↔ (¬ Sizes g n0)
   sizes-unfit = unfit (sizesFit g n0) sizes-exact
 
+-- other counts, n0 and scratch, in tables of the same lengths
+pub sizes-again : {g h : Given} {n0 m0 : ℕ} → Sizes g n0 → length (h .nodes) ≡ length (g .nodes) → length (h .rows) ≡ length (g .rows) →
+    2 * h .n ≤ length (h .nodes) → 3 * h .t ≤ length (h .rows) → m0 ≤ h .n → 4 * (length (g .nodes) / 2 + length (g .rows) / 3) ≤ length (h .scratch) → Sizes h m0
+sizes-again s a b n t m0 c = record {
+  nodes-even = rw a (s .nodes-even);
+  rows-three = rw b (s .rows-three);
+  few-nodes = rw a (s .few-nodes);
+  few-rows = rw b (s .few-rows);
+  n-fits = omega arith;
+  t-fits = omega arith;
+  n0-fits = m0;
+  scratch-fits = rw (a, b) c;
+}
+
 -- ---- the number
 
 -- what a call says of tables: 1 if the sizes do not fit, else what it says of the mesh

@@ -3,11 +3,12 @@ use mathlib.Core.Bool.{Bool, true, false}
 use mathlib.Core.List.{List}
 use mathlib.Core.Logic.{_↔_}
 use mathlib.Core.Path.{_≡_}
-use Prim.Native.Nat.{ℕ, _≤_}
+use Prim.Native.Nat.{ℕ, zero, suc, _≤_}
+use native.Mathlib.Omega.{arith}
 use lib.Dec.{eqb, leb}
-use lib.ListN.{length}
+use lib.ListN.{length, replicate, length-replicate}
 use borrow.Author.Tests.{eqb-true, eq-eqb, leb-true, le-leb}
-use Rattle.lists.specs.Lists.{all, All}
+use Rattle.lists.specs.Lists.{all, All, nil, cons}
 use Rattle.lists.specs.ListsLaw.{and-both, and-left, and-right, All-imp, all-yes, yes-all}
 use Rattle.meaning.specs.Calls.{marksFit}
 use Rattle.laws.specs.Exact.{unfit}
@@ -34,3 +35,11 @@ marks-exact k marks = (there, back)
 
 pub marks-unfit : (k : ℕ) (marks : List ℕ) → (marksFit k marks ≡ false) ↔ (¬ WellMarked k marks)
 marks-unfit k marks = unfit (marksFit k marks) (marks-exact k marks)
+
+-- all marked
+pub ones-fit : (k : ℕ) → WellMarked k (replicate k 1)
+ones-fit k = record { as-many = length-replicate k 1; zero-or-one = ones k }
+  where
+    ones : (k : ℕ) → All (λ b. b ≤ 1) (replicate k 1)
+    ones zero = nil
+    ones (suc k) = cons {x = 1} (omega arith) (ones k)

@@ -6,7 +6,7 @@ use mathlib.Core.Logic.{_↔_}
 use mathlib.Core.Path.{_≡_, refl, sym, subst, ap, _∙_}
 use Prim.Native.Nat.{ℕ, zero, suc, _+_, _≤_, _<_}
 use native.Mathlib.Omega.{arith}
-use lib.ListN.{length}
+use lib.ListN.{length, replicate}
 use Rattle.lists.specs.Lists.{upTo}
 use Rattle.lists.specs.ListsLaw.{All-imp, All-at}
 use Rattle.lists.specs.MembersLaw.{only-in, only-passes, only-keeps, only-cong, upTo-below, upTo-in}
@@ -31,6 +31,10 @@ all-marked : (ns : List Place) (z : ℕ) → z < length ns → marked (allMarked
 all-marked [] z h = absurd (omega arith)
 all-marked (a ∷ ns) zero h = refl
 all-marked (a ∷ ns) (suc z) h = all-marked ns z (omega arith)
+
+pub ones-mark-all : (ns : List Place) → replicate (length ns) 1 ≡ allMarked ns
+ones-mark-all [] = refl
+ones-mark-all (a ∷ ns) = ap (λ l. 1 ∷ l) (ones-mark-all ns)
 
 module _ (n0 : ℕ) (m : Mesh) where
   -- a full pass takes the good nodes

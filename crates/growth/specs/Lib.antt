@@ -9,4 +9,3 @@ pub mod Refining
 pub mod Restoring
 pub mod OnTables
 pub mod Demand3
-pub mod Demand3Example

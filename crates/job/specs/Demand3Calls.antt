@@ -29,13 +29,13 @@ pub data Made (g : Given) (o : Outcome) : Type 0 where
 pub data Held (g₀ : Given) : Given → Type 0 where
   base-held : Held g₀ g₀
   -- scratch may be another table at every call
-  scratch-anew : {g : Given} → Held g₀ g → (s : List ℕ) → Held g₀ (given (g .nodes) (g .rows) s (g .n) (g .t))
+  scratch-anew : {g : Given} → Held g₀ g → (scratch : List ℕ) → Held g₀ (given (g .nodes) (g .rows) scratch (g .n) (g .t))
   -- an accepted refine, coarsen or restore with the base's node count, on the tables and counts left by the accepted call before
   after-refine : {g : Given} → Held g₀ g → (marks : List ℕ) (o : Outcome) → o ≡ refineOut newest g (g₀ .n) marks → o .answer .number ≡ 0 → Held g₀ (left-by o)
   after-coarsen : {g : Given} → Held g₀ g → (marks : List ℕ) (o : Outcome) → o ≡ coarsenOut g (g₀ .n) marks → o .answer .number ≡ 0 → Held g₀ (left-by o)
   after-restore : {g : Given} → Held g₀ g → (o : Outcome) → o ≡ restoreOut g (g₀ .n) → o .answer .number ≡ 0 → Held g₀ (left-by o)
   -- a refused call of any kind, with whatever counts, n0, marks and scratch: the counts held stay
-  after-refusal : {g : Given} → Held g₀ g → (s : List ℕ) (n t : ℕ) (o : Outcome) → Made (given (g .nodes) (g .rows) s n t) o → o .answer .number ≢ 0 →
+  after-refusal : {g : Given} → Held g₀ g → (scratch : List ℕ) (n t : ℕ) (o : Outcome) → Made (given (g .nodes) (g .rows) scratch n t) o → o .answer .number ≢ 0 →
       Held g₀ (still g o)
 
 -- What the user then finds.
@@ -57,20 +57,20 @@ pub record Ends (g₀ g : Given) : Type 0 where
 
 held-reached : (g₀ : Given) {g : Given} → Held g₀ g → TablesReached g₀ g
 held-reached g₀ base-held = begin
-held-reached g₀ (scratch-anew h s) = lent (held-reached g₀ h) s
+held-reached g₀ (scratch-anew h scratch) = lent (held-reached g₀ h) scratch
 held-reached g₀ (after-refine {g = g} h marks o e z) =
     subst (λ x. TablesReached g₀ (left-by x)) (sym e) (refined-by (held-reached g₀ h) newest refl marks (ap (λ x. x .answer .number) (sym e) ∙ z))
 held-reached g₀ (after-coarsen {g = g} h marks o e z) =
     subst (λ x. TablesReached g₀ (left-by x)) (sym e) (coarsened-by (held-reached g₀ h) marks (ap (λ x. x .answer .number) (sym e) ∙ z))
 held-reached g₀ (after-restore {g = g} h o e z) =
     subst (λ x. TablesReached g₀ (left-by x)) (sym e) (restored-by (held-reached g₀ h) (ap (λ x. x .answer .number) (sym e) ∙ z))
-held-reached g₀ (after-refusal {g = g} h s n t o m z) = go m (held-reached g₀ h)
+held-reached g₀ (after-refusal {g = g} h scratch n t o m z) = go m (held-reached g₀ h)
   where
-    go : Made (given (g .nodes) (g .rows) s n t) o → TablesReached g₀ g → TablesReached g₀ (still g o)
-    go (check-made e) l = subst (λ x. TablesReached g₀ (still g x)) (sym e) (checked-by l s n t)
-    go (refine-made n0 marks e) l = subst (λ x. TablesReached g₀ (still g x)) (sym e) (refused-by l s n t (a-refine newest n0 marks) (λ y. z (ap (λ x. x .answer .number) e ∙ y)))
-    go (coarsen-made n0 marks e) l = subst (λ x. TablesReached g₀ (still g x)) (sym e) (refused-by l s n t (a-coarsen n0 marks) (λ y. z (ap (λ x. x .answer .number) e ∙ y)))
-    go (restore-made n0 e) l = subst (λ x. TablesReached g₀ (still g x)) (sym e) (refused-by l s n t (a-restore n0) (λ y. z (ap (λ x. x .answer .number) e ∙ y)))
+    go : Made (given (g .nodes) (g .rows) scratch n t) o → TablesReached g₀ g → TablesReached g₀ (still g o)
+    go (check-made e) l = subst (λ x. TablesReached g₀ (still g x)) (sym e) (checked-by l scratch n t)
+    go (refine-made n0 marks e) l = subst (λ x. TablesReached g₀ (still g x)) (sym e) (refused-by l scratch n t (a-refine newest n0 marks) (λ y. z (ap (λ x. x .answer .number) e ∙ y)))
+    go (coarsen-made n0 marks e) l = subst (λ x. TablesReached g₀ (still g x)) (sym e) (refused-by l scratch n t (a-coarsen n0 marks) (λ y. z (ap (λ x. x .answer .number) e ∙ y)))
+    go (restore-made n0 e) l = subst (λ x. TablesReached g₀ (still g x)) (sym e) (refused-by l scratch n t (a-restore n0) (λ y. z (ap (λ x. x .answer .number) e ∙ y)))
 
 -- DEMAND 3 OF THE CALLS: the base check, made on g₀, said 0; then any calls; then what is found.
 pub demand3-calls : (g₀ : Given) (c : Outcome) → c ≡ checkOut g₀ → c .answer .number ≡ 0 → {g : Given} → Held g₀ g → Ends g₀ g

@@ -36,10 +36,10 @@ take-ones (suc m) (suc k) h = ap (λ (l : List ℕ). 1 ∷ l) (take-ones m k (om
 pub ones-count : (m n : ℕ) → m ≡ min n 1024 → m ≡ length (take {A = ℕ} m (replicate 1024 1))
 ones-count m n e = rw (take-ones m 1024 (omega arith)) (sym (length-replicate m 1))
 
-pub pass-made : (o : Outcome) (nodes : List ℤ) (l s : List ℕ) (n0 n t m : ℕ) → m ≡ min n 1024 →
-    o ≡ coarsenOut (given nodes l s n t) n0 (take {A = ℕ} m (replicate 1024 1)) → o ≡ passOut (given nodes l s n t) n0
+pub pass-made : (o : Outcome) (nodes : List ℤ) (rows scratch : List ℕ) (n0 n t m : ℕ) → m ≡ min n 1024 →
+    o ≡ coarsenOut (given nodes rows scratch n t) n0 (take {A = ℕ} m (replicate 1024 1)) → o ≡ passOut (given nodes rows scratch n t) n0
 unfolding passOut
-pass-made o nodes l s n0 n t m e f = f ∙ ap (coarsenOut (given nodes l s n t) n0) (take-ones m 1024 (omega arith) ∙ ap (λ (x : ℕ). replicate {A = ℕ} x 1) e)
+pass-made o nodes rows scratch n0 n t m e f = f ∙ ap (coarsenOut (given nodes rows scratch n t) n0) (take-ones m 1024 (omega arith) ∙ ap (λ (x : ℕ). replicate {A = ℕ} x 1) e)
 
 -- ---- what a pass leaves, and what restore leaves, of the same tables
 
@@ -71,7 +71,7 @@ said g n0 = go (sizesFit g n0) refl
     go true e = let s = sizes-exact g n0 .0 e in rw (marks s, fit) (lawful s (refusal (meshOf g)) refl)
     go false e = refused 1 (omega arith)
 
--- ---- the turn: a is what the pass said, nodes′ l′ s′ what it left
+-- ---- the turn: a is what the pass said, nodes′ rows′ scratch′ what it left
 
 after-done : (p n t : ℕ) (g : Given) (m : Mesh) (k : ℕ) → after p n t (done g m k) ≡ done g m (p + k)
 unfolding after
@@ -149,20 +149,20 @@ module _ (g : Given) (n0 : ℕ) where
             let q : p + 1 + restored n0 (pass n0 (meshOf g)) .passes ≡ p + suc (restored n0 (pass n0 (meshOf g)) .passes) = omega arith in
             rw (restored-step n0 (meshOf g) z zs e, q)
 
-module _ (a : Answer) (g : Given) (nodes′ : List ℤ) (l′ s′ : List ℕ) (n0 n t p : ℕ) (w : Outcome) (e : outcome a nodes′ l′ s′ ≡ passOut g n0)
+module _ (a : Answer) (g : Given) (nodes′ : List ℤ) (rows′ scratch′ : List ℕ) (n0 n t p : ℕ) (w : Outcome) (e : outcome a nodes′ rows′ scratch′ ≡ passOut g n0)
     (inv : after p n t (restoreOut g n0) ≡ w) where
-  pub refuse : (a .number ≡ 0 → ⊥) → outcome (answer (a .number) n t 0) nodes′ l′ s′ ≡ w
+  pub refuse : (a .number ≡ 0 → ⊥) → outcome (answer (a .number) n t 0) nodes′ rows′ scratch′ ≡ w
   refuse o = go (said g n0) e inv
     where
-      go : {x y : Outcome} → Said g n0 x y → outcome a nodes′ l′ s′ ≡ x → after p n t y ≡ w → outcome (answer (a .number) n t 0) nodes′ l′ s′ ≡ w
+      go : {x y : Outcome} → Said g n0 x y → outcome a nodes′ rows′ scratch′ ≡ x → after p n t y ≡ w → outcome (answer (a .number) n t 0) nodes′ rows′ scratch′ ≡ w
       go (refused k z) e inv = ap (λ (o : Outcome). outcome (answer (o .answer .number) n t 0) (o .nodes) (o .rows) (o .scratch)) e ∙ sym (after-refused p n t g k z) ∙ inv
       go (passed s l) e inv = absurd (o (ap (λ (o : Outcome). o .answer .number) e))
 
   module _ (z : a .number ≡ 0) where
-    pub finish : a .n ≡ g .n → outcome (answer 0 (a .n) (a .t) p) nodes′ l′ s′ ≡ w
+    pub finish : a .n ≡ g .n → outcome (answer 0 (a .n) (a .t) p) nodes′ rows′ scratch′ ≡ w
     finish q = go (said g n0) e inv
       where
-        go : {x y : Outcome} → Said g n0 x y → outcome a nodes′ l′ s′ ≡ x → after p n t y ≡ w → outcome (answer 0 (a .n) (a .t) p) nodes′ l′ s′ ≡ w
+        go : {x y : Outcome} → Said g n0 x y → outcome a nodes′ rows′ scratch′ ≡ x → after p n t y ≡ w → outcome (answer 0 (a .n) (a .t) p) nodes′ rows′ scratch′ ≡ w
         go (refused k o) e inv = absurd (o (sym (ap (λ (o : Outcome). o .answer .number) e) ∙ z))
         go (passed s l) e inv =
             let b : length (pass n0 (meshOf g) .nodes) ≡ length (meshOf g .nodes) = sym (ap (λ (o : Outcome). o .answer .n) e) ∙ q ∙ sym (nodes-count g) in
@@ -174,7 +174,7 @@ module _ (a : Answer) (g : Given) (nodes′ : List ℤ) (l′ s′ : List ℕ) (
       pub fewer : a .n < g .n
       fewer = go (said g n0) e
         where
-          go : {x y : Outcome} → Said g n0 x y → outcome a nodes′ l′ s′ ≡ x → a .n < g .n
+          go : {x y : Outcome} → Said g n0 x y → outcome a nodes′ rows′ scratch′ ≡ x → a .n < g .n
           go (refused k r) e = absurd (r (sym (ap (λ (o : Outcome). o .answer .number) e) ∙ z))
           go (passed s l) e =
               let b = ap (λ (o : Outcome). o .answer .n) e in
@@ -188,10 +188,10 @@ module _ (a : Answer) (g : Given) (nodes′ : List ℤ) (l′ s′ : List ℕ) (
       pub passes-in : p + g .n ≤ n → p + 1 + a .n ≤ n
       passes-in h = let b = fewer in omega arith
 
-      pub on : after (p + 1) n t (restoreOut (given nodes′ l′ s′ (a .n) (a .t)) n0) ≡ w
+      pub on : after (p + 1) n t (restoreOut (given nodes′ rows′ scratch′ (a .n) (a .t)) n0) ≡ w
       on = go (said g n0) e inv
         where
-          go : {x y : Outcome} → Said g n0 x y → outcome a nodes′ l′ s′ ≡ x → after p n t y ≡ w → after (p + 1) n t (restoreOut (given nodes′ l′ s′ (a .n) (a .t)) n0) ≡ w
+          go : {x y : Outcome} → Said g n0 x y → outcome a nodes′ rows′ scratch′ ≡ x → after p n t y ≡ w → after (p + 1) n t (restoreOut (given nodes′ rows′ scratch′ (a .n) (a .t)) n0) ≡ w
           go (refused k r) e inv = absurd (r (sym (ap (λ (o : Outcome). o .answer .number) e) ∙ z))
           go (passed s l) e inv =
               let b : length (pass n0 (meshOf g) .nodes) ≢ length (meshOf g .nodes) = (λ q. o (ap (λ (o : Outcome). o .answer .n) e ∙ q ∙ nodes-count g)) in
@@ -201,6 +201,6 @@ module _ (a : Answer) (g : Given) (nodes′ : List ℤ) (l′ s′ : List ℕ) (
               ∙ stepped g n0 s l b p
               ∙ sym (after-done p n t g (restored n0 (meshOf g) .end) (restored n0 (meshOf g) .passes)) ∙ inv
 
-pub less : (a : Answer) (nodes nodes′ : List ℤ) (l l′ s s′ : List ℕ) (n0 k u : ℕ) → outcome a nodes′ l′ s′ ≡ passOut (given nodes l s k u) n0 → a .number ≡ 0 → (a .n ≡ k → ⊥) → a .n < k
-less a nodes nodes′ l l′ s s′ n0 k u e z o =
-    fewer a (given nodes l s k u) nodes′ l′ s′ n0 0 0 0 (after 0 0 0 (restoreOut (given nodes l s k u) n0)) e refl z o
+pub less : (a : Answer) (nodes nodes′ : List ℤ) (rows rows′ scratch scratch′ : List ℕ) (n0 k u : ℕ) → outcome a nodes′ rows′ scratch′ ≡ passOut (given nodes rows scratch k u) n0 → a .number ≡ 0 → (a .n ≡ k → ⊥) → a .n < k
+less a nodes nodes′ rows rows′ scratch scratch′ n0 k u e z o =
+    fewer a (given nodes rows scratch k u) nodes′ rows′ scratch′ n0 0 0 0 (after 0 0 0 (restoreOut (given nodes rows scratch k u) n0)) e refl z o

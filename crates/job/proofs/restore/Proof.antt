@@ -10,10 +10,10 @@ use Rattle.job.proofs.restore.Statement.{statement}
 use Rattle.job.proofs.restore.Tie as tie
 
 abbrev Inv-loop : tie.InvT-loop
-Inv-loop nodes₀ tri₀ scratch₀ n0 n t m₀ u₀ passes₀ nodes tri scratch m u passes = (length nodes ≡ length nodes₀) × (length tri ≡ length tri₀) × (length scratch ≡ length scratch₀) × (passes + m ≤ n) × (after passes n t (restoreOut (given nodes tri scratch m u) n0) ≡ restoreOut (given nodes₀ tri₀ scratch₀ n t) n0)
+Inv-loop nodes₀ rows₀ scratch₀ n0 n t m₀ u₀ passes₀ nodes rows scratch m u passes = (length nodes ≡ length nodes₀) × (length rows ≡ length rows₀) × (length scratch ≡ length scratch₀) × (passes + m ≤ n) × (after passes n t (restoreOut (given nodes rows scratch m u) n0) ≡ restoreOut (given nodes₀ rows₀ scratch₀ n t) n0)
 
 abbrev μ-loop : tie.MeasureT-loop
-μ-loop nodes₀ tri₀ scratch₀ n0 n t m₀ u₀ passes₀ nodes tri scratch m u passes = m
+μ-loop nodes₀ rows₀ scratch₀ n0 n t m₀ u₀ passes₀ nodes rows scratch m u passes = m
 
 loop-holds : tie.Need-loop-holds Inv-loop μ-loop
 loop-holds c = (search needs, search needs, search needs, search needs, after-start _ _)

@@ -5,6 +5,7 @@ pub mod Rows
 pub mod GrownFrom
 pub mod Goodness
 pub mod Coarsening
+pub mod SplitRows
 pub mod Refining
 pub mod Restoring
 pub mod OnTables

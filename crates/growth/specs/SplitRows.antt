@@ -10,10 +10,11 @@ use lib.Seq.{getD-append-add}
 use Rattle.lists.specs.Lists.{joined}
 use Rattle.meaning.specs.declared.Tri.{Tri}
 use Rattle.meaning.specs.Mesh.{Mesh, Edge, tri, edge, base}
-use Rattle.meaning.specs.Lawful.{rowOf}
+use Rattle.meaning.specs.Lawful.{Lawful, rowOf}
 use Rattle.meaning.specs.Split.{Cut, Cutting, bisected, numberOf, cutOf, splitAt}
 use Rattle.growth.specs.Labels.Groups.{total, owner-at, joined-length, joined-at, sizes}
 use Rattle.growth.specs.Labels.GrownRefined.{getD-default}
+use Rattle.growth.specs.Rows.{same-row}
 
 -- ---- any cut
 
@@ -151,3 +152,11 @@ left-stands-first m s i l k e =
     let n = length (m .nodes) in
     in-order t k (numberOf n s (edge (t .p) (t .q))) (numberOf n s (edge (t .r) (t .p)))
     (subst (λ (o : Option ℕ). Placed (splitAt bisected m s .tris) i (bisected t o (numberOf n s (edge (t .p) (t .q))) (numberOf n s (edge (t .r) (t .p))))) e (placed bisected m s i l))
+
+-- In a lawful mesh a row stands once, so that the numbers of the two rows, whatever they are, are in this order.
+pub left-row-below : (m : Mesh) → Lawful m → {i j : ℕ} {l r : Tri} → Before (m .tris) i j l r → (a b : ℕ) → a < length (m .tris) → b < length (m .tris) →
+    rowOf (m .tris) a ≡ l → rowOf (m .tris) b ≡ r → a < b
+left-row-below m law {i} {j} B a b la lb e f =
+    let x : a ≡ i = same-row m law a i la (omega (arith, B .before, B .inside)) (e ∙ sym (B .left-row)) in
+    let y : b ≡ j = same-row m law b j lb (B .inside) (f ∙ sym (B .brother-row)) in
+    omega (arith, B .before)

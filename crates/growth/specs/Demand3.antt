@@ -149,9 +149,9 @@ pub record Restores (g₀ g : Given) : Type 0 where
 
 -- A refused call leaves the tables as they were.
 call-refused : {g : Given} {o : Outcome} → Call g o → o .answer .number ≢ 0 → AsGiven g o
-call-refused {g} (a-refine w n0 marks) = refine-leaves g n0 w marks .refused
-call-refused {g} (a-coarsen n0 marks) = coarsen-leaves g n0 marks .refused
-call-refused {g} (a-restore n0) = restore-leaves g n0 .refused
+call-refused {g} (a-refine w n0 marks) = refine-leaves g n0 w marks .refusal-leaves
+call-refused {g} (a-coarsen n0 marks) = coarsen-leaves g n0 marks .refusal-leaves
+call-refused {g} (a-restore n0) = restore-leaves g n0 .refusal-leaves
 
 -- Tables that calls left hold a mesh grown from the base.
 reached-tables : (g₀ : Given) → checkOut g₀ .answer .number ≡ 0 → {g : Given} → TablesReached g₀ g → GrownTables g₀ g

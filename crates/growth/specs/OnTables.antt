@@ -130,7 +130,7 @@ module _ (g₀ : Given) (ok : checkOut g₀ .answer .number ≡ 0) where
 
     -- restore
     pub restore-number : restoreOut g (g₀ .n) .answer .number ≡ cases (sizesFit g (g₀ .n)) 0 1
-    restore-number = restore-leaves g (g₀ .n) .number-is ∙ rw lawful
+    restore-number = restore-leaves g (g₀ .n) .number-said ∙ rw lawful
 
     pub restore-leaves-base : sizesFit g (g₀ .n) ≡ true → restoreOut g (g₀ .n) ≡ done g (meshOf g₀) (restored (g₀ .n) (meshOf g) .passes)
     restore-leaves-base e = restore-leaves g (g₀ .n) .done-is (restore-number ∙ rw e) ∙ rw (end-here g H)
@@ -146,7 +146,7 @@ module _ (g₀ : Given) (ok : checkOut g₀ .answer .number ≡ 0) where
     pass-done e =
         let c = coarsen-leaves g (g₀ .n) (replicate (g .n) 1) in
         let z = coarsen-0 (meshOf g) (replicate (g .n) 1) .1 (rw (nodes-count g) (ones-fit (g .n)), H .grown .lawful) in
-        c .done-is (c .number-is ∙ rw e z)
+        c .done-is (c .number-said ∙ rw e z)
         ∙ ap₂ (λ (j : ℕ) (l : List ℕ). done g (coarsened j (meshOf g) l) 0) (sym (nodes-count g₀)) (ap (λ (n : ℕ). replicate n 1) (sym (nodes-count g)) ∙ ones-mark-all (meshOf g .nodes))
 
     pub pass-less : g₀ .n < g .n → length (pass (length (meshOf g₀ .nodes)) (meshOf g) .nodes) < g .n

@@ -31,9 +31,9 @@ use Rattle.growth.specs.Labels.Groups.{total, total-same}
 use Rattle.growth.specs.Labels.Pieces.{ask}
 use Rattle.growth.specs.Labels.RowCuts.{first-row, more-rows, ClosedRows}
 use Rattle.growth.specs.Labels.GrownRefined.{Halving, stays, appends, getD-default, grown-refined}
-use Rattle.growth.specs.Rows.{three, rows, edge-same, same-edge, edge-mem, mem-edge}
+use Rattle.growth.specs.Rows.{three, rows, same-of-edge, same-edge, edge-mem, mem-edge}
 use Rattle.growth.specs.GrownFrom.{GrownFrom}
-use Rattle.growth.specs.SplitRows.{cut-at, ahead, split-count, kept-row, added-row}
+use Rattle.growth.specs.SplitRows.{cut-at, rows-ahead, split-count, row-of-kept, row-of-added}
 
 -- ---- one triangle
 
@@ -142,20 +142,20 @@ module _ (m : Mesh) (s : List Edge) where
   abbrev past : ℕ → ℕ
   past k = total (λ j. length (appends split? num (rows m j))) k
 
-  sizes-are : (k : ℕ) → ahead bisected m s k ≡ past k
+  sizes-are : (k : ℕ) → rows-ahead bisected m s k ≡ past k
   sizes-are k = total-same _ _ k (λ j l. added-size j)
 
   count-is : length (after .tris) ≡ length (m .tris) + past (length (m .tris))
   count-is = split-count bisected m s ∙ ap (length (m .tris) +_) (sizes-are (length (m .tris)))
 
   stay-is : (k : ℕ) → k < length (m .tris) → rows after k ≡ stays split? num (rows m k)
-  stay-is k l = ap three (kept-row bisected m s k l) ∙ cut-kept (rowOf (m .tris) k)
+  stay-is k l = ap three (row-of-kept bisected m s k l) ∙ cut-kept (rowOf (m .tris) k)
 
   append-is : (j i : ℕ) → j < length (m .tris) → i < length (appends split? num (rows m j))
       → rows after (length (m .tris) + (past j + i)) ≡ getD (appends split? num (rows m j)) i (rows m j)
   append-is j i lj li =
       ap (λ (x : ℕ). rows after (length (m .tris) + (x + i))) (sym (sizes-are j))
-      ∙ ap three (added-row bisected m s j i lj (rw (added-size j) li))
+      ∙ ap three (row-of-added bisected m s j i lj (rw (added-size j) li))
       ∙ sym (List·getD-map three (cut-at bisected m s (rowOf (m .tris) j) .added) i (tri 0 0 0))
       ∙ ap (λ (rs : List (Corners ℕ)). getD rs i (three (tri 0 0 0))) (cut-added (rowOf (m .tris) j))
       ∙ getD-default (appends split? num (rows m j)) i (three (tri 0 0 0)) (rows m j) li
@@ -215,7 +215,7 @@ module _ (base m : Mesh) (G : GrownFrom base m) (start : List Edge) (even : all 
         let S = spot m s (edge a b) h in
         let T = spot m s (edge c d) k in
         let i : S .index ≡ T .index = omega (arith, num-at m s a b S, num-at m s c d T) in
-        edge-same a b c d (sym (S .is) ∙ ap (λ (x : ℕ). getD s x (edge 0 0)) i ∙ T .is);
+        same-of-edge a b c d (sym (S .is) ∙ ap (λ (x : ℕ). getD s x (edge 0 0)) i ∙ T .is);
     one-end = λ k. edge-of k .lo;
     other-end = λ k. edge-of k .hi;
     ends = ends-are;

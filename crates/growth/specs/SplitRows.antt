@@ -29,31 +29,31 @@ module _ (c : Cutting) (m : Mesh) (s : List Edge) where
   adds t = cut-at t .added
 
   -- How many rows are appended for the rows below j.
-  abbrev pub ahead : ℕ → ℕ
-  ahead j = total (sizes adds (tri 0 0 0) (tri 0 0 0) (m .tris)) j
+  abbrev pub rows-ahead : ℕ → ℕ
+  rows-ahead j = total (sizes adds (tri 0 0 0) (tri 0 0 0) (m .tris)) j
 
   tris-are : splitAt c m s .tris ≡ map keeps (m .tris) ++ joined adds (m .tris)
   unfolding splitAt
   tris-are = refl
 
-  pub split-count : length (splitAt c m s .tris) ≡ length (m .tris) + ahead (length (m .tris))
+  pub split-count : length (splitAt c m s .tris) ≡ length (m .tris) + rows-ahead (length (m .tris))
   split-count =
       ap length tris-are ∙ length-append (map keeps (m .tris)) (joined adds (m .tris))
       ∙ ap₂ _+_ (length-map (m .tris) keeps) (joined-length adds (tri 0 0 0) (tri 0 0 0) (m .tris))
 
-  pub kept-row : (k : ℕ) → k < length (m .tris) → rowOf (splitAt c m s .tris) k ≡ cut-at (rowOf (m .tris) k) .kept
-  kept-row k l =
+  pub row-of-kept : (k : ℕ) → k < length (m .tris) → rowOf (splitAt c m s .tris) k ≡ cut-at (rowOf (m .tris) k) .kept
+  row-of-kept k l =
       let l′ : k < length (map keeps (m .tris)) = rw (length-map (m .tris) keeps) l in
       ap (λ (ts : List Tri). getD ts k (tri 0 0 0)) tris-are
       ∙ List·getD-append (map keeps (m .tris)) (joined adds (m .tris)) (tri 0 0 0) k l′
       ∙ getD-default (map keeps (m .tris)) k (tri 0 0 0) (keeps (tri 0 0 0)) l′
       ∙ List·getD-map keeps (m .tris) k (tri 0 0 0)
 
-  pub added-row : (j i : ℕ) → j < length (m .tris) → i < length (cut-at (rowOf (m .tris) j) .added) →
-      rowOf (splitAt c m s .tris) (length (m .tris) + (ahead j + i)) ≡ getD (cut-at (rowOf (m .tris) j) .added) i (tri 0 0 0)
-  added-row j i lj li =
-      ap₂ (λ (ts : List Tri) (k : ℕ). getD ts (k + (ahead j + i)) (tri 0 0 0)) tris-are (sym (length-map (m .tris) keeps))
-      ∙ getD-append-add (map keeps (m .tris)) (joined adds (m .tris)) (ahead j + i) (tri 0 0 0)
+  pub row-of-added : (j i : ℕ) → j < length (m .tris) → i < length (cut-at (rowOf (m .tris) j) .added) →
+      rowOf (splitAt c m s .tris) (length (m .tris) + (rows-ahead j + i)) ≡ getD (cut-at (rowOf (m .tris) j) .added) i (tri 0 0 0)
+  row-of-added j i lj li =
+      ap₂ (λ (ts : List Tri) (k : ℕ). getD ts (k + (rows-ahead j + i)) (tri 0 0 0)) tris-are (sym (length-map (m .tris) keeps))
+      ∙ getD-append-add (map keeps (m .tris)) (joined adds (m .tris)) (rows-ahead j + i) (tri 0 0 0)
       ∙ joined-at adds (tri 0 0 0) (tri 0 0 0) (m .tris) j i lj li
 
 -- ---- bisection
@@ -66,9 +66,9 @@ abbrev pub rightChild : Tri → ℕ → Tri
 rightChild t m = tri m (t .r) (t .p)
 
 -- a child, "or its own left child" where its refinement edge is split too
-abbrev pub standing : Tri → Option ℕ → Tri
-standing t none = t
-standing t (some m) = leftChild t m
+abbrev pub stands-as : Tri → Option ℕ → Tri
+stands-as t none = t
+stands-as t (some m) = leftChild t m
 
 -- Row i holds a left child and row j, a later one, its brother.
 pub record Before (ts : List Tri) (i j : ℕ) (l r : Tri) : Type 0 where
@@ -80,7 +80,7 @@ pub record Before (ts : List Tri) (i j : ℕ) (l r : Tri) : Type 0 where
 -- The brothers of a father (p, q, r) that was in row i, its refinement edge split at k, p–q at u and r–p at v where these are split.
 pub record LeftFirst (ts : List Tri) (i : ℕ) (t : Tri) (k : ℕ) (u v : Option ℕ) : Type 0 where
   pub j : ℕ
-  pub children : Before ts i j (standing (leftChild t k) u) (standing (rightChild t k) v)
+  pub children : Before ts i j (stands-as (leftChild t k) u) (stands-as (rightChild t k) v)
   -- the children of a child that is split itself
   pub of-left : (a : ℕ) → u ≡ some a → (h : ℕ) × Before ts i h (leftChild (leftChild t k) a) (rightChild (leftChild t k) a)
   pub of-right : (b : ℕ) → v ≡ some b → (h : ℕ) × Before ts j h (leftChild (rightChild t k) b) (rightChild (rightChild t k) b)
@@ -92,15 +92,15 @@ record Placed (ts : List Tri) (i : ℕ) (x : Cut) : Type 0 where
   later : i < from
   then-there : (n : ℕ) → n < length (x .added) → (rowOf ts (from + n) ≡ getD (x .added) n (tri 0 0 0)) × (from + n < length ts)
 
-placed : (c : Cutting) (m : Mesh) (s : List Edge) (i : ℕ) → i < length (m .tris) → Placed (splitAt c m s .tris) i (cutOf c (length (m .nodes)) s (rowOf (m .tris) i))
-placed c m s i l = record {
-  first-there = kept-row c m s i l;
-  from = length (m .tris) + ahead c m s i;
+parts-placed : (c : Cutting) (m : Mesh) (s : List Edge) (i : ℕ) → i < length (m .tris) → Placed (splitAt c m s .tris) i (cutOf c (length (m .nodes)) s (rowOf (m .tris) i))
+parts-placed c m s i l = record {
+  first-there = row-of-kept c m s i l;
+  from = length (m .tris) + rows-ahead c m s i;
   later = omega arith;
   then-there = λ n h.
-      (let e : length (m .tris) + ahead c m s i + n ≡ length (m .tris) + (ahead c m s i + n) = omega arith in
+      (let e : length (m .tris) + rows-ahead c m s i + n ≡ length (m .tris) + (rows-ahead c m s i + n) = omega arith in
       let o = owner-at (sizes (adds c m s) (tri 0 0 0) (tri 0 0 0) (m .tris)) (length (m .tris)) i n l h .0 in
-      (rw e (added-row c m s i n l h), omega (arith, split-count c m s)));
+      (rw e (row-of-added c m s i n l h), omega (arith, split-count c m s)));
 }
 
 none-some : {A : Type 0} (a : ℕ) → none ≡ some a → A
@@ -151,7 +151,7 @@ left-stands-first m s i l k e =
     let t = rowOf (m .tris) i in
     let n = length (m .nodes) in
     in-order t k (numberOf n s (edge (t .p) (t .q))) (numberOf n s (edge (t .r) (t .p)))
-    (subst (λ (o : Option ℕ). Placed (splitAt bisected m s .tris) i (bisected t o (numberOf n s (edge (t .p) (t .q))) (numberOf n s (edge (t .r) (t .p))))) e (placed bisected m s i l))
+    (subst (λ (o : Option ℕ). Placed (splitAt bisected m s .tris) i (bisected t o (numberOf n s (edge (t .p) (t .q))) (numberOf n s (edge (t .r) (t .p))))) e (parts-placed bisected m s i l))
 
 -- In a lawful mesh a row stands once, so that the numbers of the two rows, whatever they are, are in this order.
 pub left-row-below : (m : Mesh) → Lawful m → {i j : ℕ} {l r : Tri} → Before (m .tris) i j l r → (a b : ℕ) → a < length (m .tris) → b < length (m .tris) →

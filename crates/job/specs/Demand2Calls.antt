@@ -24,7 +24,7 @@ use Rattle.laws.specs.Refine.{toSplit, Least, OddSum, Fits, TooMany, RefineSays
 use Rattle.laws.specs.CoarsenCalls.{Coarsened, CoarsenSays, well-marked, RestoreDone, coarsen-exact, coarsen-0, coarsen-done, restore-done}
 use Rattle.laws.specs.Restore.{restored-fewer, restored-rows}
 use Rattle.laws.specs.TableMesh.{nodes-count, rows-count, left-by}
-use Rattle.laws.specs.CallLaw.{Sizes, sizes-exact, AsGiven, Holds, Answers, CallLeaves, answers, done-holds, check-leaves, refine-leaves, coarsen-leaves, restore-leaves}
+use Rattle.laws.specs.CallLaw.{Sizes, sizes-exact, AsGiven, Holds, Answers, CallLeaves, call-answers, done-holds, check-leaves, refine-leaves, coarsen-leaves, restore-leaves}
 
 -- ---- what a user finds
 
@@ -94,7 +94,7 @@ check-call g o e =
     let c = check-leaves g in
     subst (CheckMade g) (sym e)
     (record {
-      answered = answers g 0 (checkNo (meshOf g)) (CheckSays (meshOf g)) (checkOut g) (c .check-number) (check-exact (meshOf g)) not-1 (λ n. c .all-as-given) (c .scratch-zero);
+      answered = call-answers g 0 (checkNo (meshOf g)) (CheckSays (meshOf g)) (checkOut g) (c .check-number) (check-exact (meshOf g)) not-1 (λ n. c .all-as-given) (c .scratch-zero);
       never-written = c .all-as-given;
     })
   where
@@ -111,7 +111,7 @@ module _ (w : Way) (laws : CutLaws (w .cutting)) (own : (t : Tri) → All (λ e.
     not-1 (unlawful k f above l) = no-1 (meshOf g) l
 
     sized-number : Sizes g n0 → refineOut w g n0 marks .answer .number ≡ refineNo w (roomOf g) (meshOf g) marks
-    sized-number s = refine-leaves g n0 w marks .number-is ∙ rw (sizes-exact g n0 .1 s)
+    sized-number s = refine-leaves g n0 w marks .number-said ∙ rw (sizes-exact g n0 .1 s)
 
     lawful-says : Sizes g n0 → WellMarked (g .t) marks → Lawful (meshOf g) → OfLawful w g marks (refineOut w g n0 marks .answer .number)
     lawful-says s f law =
@@ -142,7 +142,7 @@ module _ (w : Way) (laws : CutLaws (w .cutting)) (own : (t : Tri) → All (λ e.
       let c = refine-leaves g n0 w marks in
       subst (RefineMade w g n0 marks) (sym e)
       (record {
-        answered = answers g n0 (k g n0 marks) (RefineSays w (roomOf g) (meshOf g) marks) (refineOut w g n0 marks) (c .number-is) (refine-exact w (roomOf g) (meshOf g) marks) (not-1 g n0 marks) (c .refused) (c .scratch-zero);
+        answered = call-answers g n0 (k g n0 marks) (RefineSays w (roomOf g) (meshOf g) marks) (refineOut w g n0 marks) (c .number-said) (refine-exact w (roomOf g) (meshOf g) marks) (not-1 g n0 marks) (c .refusal-leaves) (c .scratch-zero);
         of-lawful = lawful-says g n0 marks;
         leaves-refined = made g n0 marks;
       })
@@ -156,8 +156,8 @@ coarsen-call g n0 marks o e =
     let c = coarsen-leaves g n0 marks in
     subst (CoarsenMade g n0 marks) (sym e)
     (record {
-      answered = answers g n0 (coarsenNo (meshOf g) marks) (CoarsenSays (meshOf g) marks) (coarsenOut g n0 marks) (c .number-is) (coarsen-exact (meshOf g) marks) not-1 (c .refused) (c .scratch-zero);
-      of-lawful = λ s f law. c .number-is ∙ rw (sizes-exact g n0 .1 s) (coarsen-0 (meshOf g) marks .1 (rw (nodes-count g) f, law));
+      answered = call-answers g n0 (coarsenNo (meshOf g) marks) (CoarsenSays (meshOf g) marks) (coarsenOut g n0 marks) (c .number-said) (coarsen-exact (meshOf g) marks) not-1 (c .refusal-leaves) (c .scratch-zero);
+      of-lawful = λ s f law. c .number-said ∙ rw (sizes-exact g n0 .1 s) (coarsen-0 (meshOf g) marks .1 (rw (nodes-count g) f, law));
       leaves-coarsened = made c;
     })
   where
@@ -177,7 +177,7 @@ restore-call g n0 o e =
     let c = restore-leaves g n0 in
     subst (RestoreMade g n0) (sym e)
     (record {
-      answered = answers g n0 (refusal (meshOf g)) (Lowest (meshOf g)) (restoreOut g n0) (c .number-is) (refusal-exact (meshOf g)) (no-1 (meshOf g)) (c .refused) (c .scratch-zero);
+      answered = call-answers g n0 (refusal (meshOf g)) (Lowest (meshOf g)) (restoreOut g n0) (c .number-said) (refusal-exact (meshOf g)) (no-1 (meshOf g)) (c .refusal-leaves) (c .scratch-zero);
       leaves-restored = made c;
     })
   where

@@ -63,9 +63,9 @@ S5 : Given
 S5 = given (map pos nodes5) rows5 (replicate 80 9) 7 6
 
 -- The base check says 0 of S.
-checked : leaving 0 4 2 0 (square ++ replicate 10 5) (two ++ replicate 24 6) 76 ≡ checkOut S
+S-checked : leaving 0 4 2 0 (square ++ replicate 10 5) (two ++ replicate 24 6) 76 ≡ checkOut S
 unfolding leaving square two S lowest lowestFrom items itemsFrom placeAt rowAt meshOf twiceArea firstOutside firstMisnamed firstRepeat firstFlat firstUnused firstClash faultOf refusal compatible checkNo sizesFit checkOut
-checked = refl
+S-checked = refl
 
 not-0 : (k : ℕ) → suc k ≡ 0 → ⊥
 not-0 k e = omega arith
@@ -97,7 +97,7 @@ coarsened-last = demand2-calls .of-coarsen _ 4 _ _ refl .leaves-coarsened refl
 -- A full pass that is made removes a node,
 passed : (o : Outcome) → o ≡ coarsenOut S5 4 (replicate 7 1) → o .answer .n < 7
 unfolding leaving square two nodes5 rows5 S S5 sizesFit
-passed o e = demand3-calls S _ checked refl history .pass-takes-one (omega arith) o e refl .1
+passed o e = demand3-calls S _ S-checked refl history .pass-takes-one (omega arith) o e refl .1
 
 -- and restore, which says 0 after 2 passes, has left S, zeros past it.
 restored-S : leaving 0 4 2 2 (square ++ replicate 10 0) (two ++ replicate 24 0) 80 ≡ restoreOut S5 4
@@ -106,4 +106,4 @@ restored-S = refl
 
 again : (o : Outcome) → o ≡ restoreOut S5 4 → o .answer .number ≡ 0 → o ≡ leaving 0 4 2 2 (square ++ replicate 10 0) (two ++ replicate 24 0) 80
 unfolding leaving square two nodes5 rows5 S S5 lowest lowestFrom items itemsFrom placeAt rowAt meshOf twiceArea pairs span G1-4 good taken without coarsened goodNodes pass restored
-again o e z = demand3-calls S _ checked refl history .base-again o e z
+again o e z = demand3-calls S _ S-checked refl history .base-again o e z

@@ -47,9 +47,9 @@ data Said (g : Given) (n0 : ℕ) : Outcome → Outcome → Type 0 where
   refused : (k : ℕ) → k ≢ 0 → Said g n0 (untouched g k) (untouched g k)
   passed : Sizes g n0 → Lawful (meshOf g) → Said g n0 (done g (pass n0 (meshOf g)) 0) (done g (restored n0 (meshOf g) .end) (restored n0 (meshOf g) .passes))
 
-said : (g : Given) (n0 : ℕ) → Said g n0 (passOut g n0) (restoreOut g n0)
+pass-and-restore : (g : Given) (n0 : ℕ) → Said g n0 (passOut g n0) (restoreOut g n0)
 unfolding passOut coarsenOut restoreOut coarsens restores coarsenNo pass
-said g n0 = go (sizesFit g n0) refl
+pass-and-restore g n0 = go (sizesFit g n0) refl
   where
     marks : Sizes g n0 → replicate {A = ℕ} (min (g .n) 1024) 1 ≡ allMarked (meshOf g .nodes)
     marks s =
@@ -82,7 +82,7 @@ unfolding after
 after-refused p n t g k o = rw (ne-eqb k 0 o)
 
 pub after-start : (g : Given) (n0 : ℕ) → after 0 (g .n) (g .t) (restoreOut g n0) ≡ restoreOut g n0
-after-start g n0 = go (said g n0)
+after-start g n0 = go (pass-and-restore g n0)
   where
     go : {x y : Outcome} → Said g n0 x y → after 0 (g .n) (g .t) y ≡ y
     go (refused k o) = after-refused 0 (g .n) (g .t) g k o
@@ -152,7 +152,7 @@ module _ (g : Given) (n0 : ℕ) where
 module _ (a : Answer) (g : Given) (nodes′ : List ℤ) (rows′ scratch′ : List ℕ) (n0 n t p : ℕ) (w : Outcome) (e : outcome a nodes′ rows′ scratch′ ≡ passOut g n0)
     (inv : after p n t (restoreOut g n0) ≡ w) where
   pub refuse : (a .number ≡ 0 → ⊥) → outcome (answer (a .number) n t 0) nodes′ rows′ scratch′ ≡ w
-  refuse o = go (said g n0) e inv
+  refuse o = go (pass-and-restore g n0) e inv
     where
       go : {x y : Outcome} → Said g n0 x y → outcome a nodes′ rows′ scratch′ ≡ x → after p n t y ≡ w → outcome (answer (a .number) n t 0) nodes′ rows′ scratch′ ≡ w
       go (refused k z) e inv = ap (λ (o : Outcome). outcome (answer (o .answer .number) n t 0) (o .nodes) (o .rows) (o .scratch)) e ∙ sym (after-refused p n t g k z) ∙ inv
@@ -160,7 +160,7 @@ module _ (a : Answer) (g : Given) (nodes′ : List ℤ) (rows′ scratch′ : Li
 
   module _ (z : a .number ≡ 0) where
     pub finish : a .n ≡ g .n → outcome (answer 0 (a .n) (a .t) p) nodes′ rows′ scratch′ ≡ w
-    finish q = go (said g n0) e inv
+    finish q = go (pass-and-restore g n0) e inv
       where
         go : {x y : Outcome} → Said g n0 x y → outcome a nodes′ rows′ scratch′ ≡ x → after p n t y ≡ w → outcome (answer 0 (a .n) (a .t) p) nodes′ rows′ scratch′ ≡ w
         go (refused k o) e inv = absurd (o (sym (ap (λ (o : Outcome). o .answer .number) e) ∙ z))
@@ -171,8 +171,8 @@ module _ (a : Answer) (g : Given) (nodes′ : List ℤ) (rows′ scratch′ : Li
             ∙ sym (after-done p n t g (restored n0 (meshOf g) .end) (restored n0 (meshOf g) .passes)) ∙ inv
 
     module _ (o : a .n ≡ g .n → ⊥) where
-      pub fewer : a .n < g .n
-      fewer = go (said g n0) e
+      pub pass-left-fewer : a .n < g .n
+      pass-left-fewer = go (pass-and-restore g n0) e
         where
           go : {x y : Outcome} → Said g n0 x y → outcome a nodes′ rows′ scratch′ ≡ x → a .n < g .n
           go (refused k r) e = absurd (r (sym (ap (λ (o : Outcome). o .answer .number) e) ∙ z))
@@ -183,13 +183,13 @@ module _ (a : Answer) (g : Given) (nodes′ : List ℤ) (rows′ scratch′ : Li
               omega arith
 
       pub passes-fit : p + g .n ≤ n → Fits w64 n → Fits w64 (p + 1)
-      passes-fit h f = let b = fewer in omega arith
+      passes-fit h f = let b = pass-left-fewer in omega arith
 
       pub passes-in : p + g .n ≤ n → p + 1 + a .n ≤ n
-      passes-in h = let b = fewer in omega arith
+      passes-in h = let b = pass-left-fewer in omega arith
 
-      pub on : after (p + 1) n t (restoreOut (given nodes′ rows′ scratch′ (a .n) (a .t)) n0) ≡ w
-      on = go (said g n0) e inv
+      pub goes-on : after (p + 1) n t (restoreOut (given nodes′ rows′ scratch′ (a .n) (a .t)) n0) ≡ w
+      goes-on = go (pass-and-restore g n0) e inv
         where
           go : {x y : Outcome} → Said g n0 x y → outcome a nodes′ rows′ scratch′ ≡ x → after p n t y ≡ w → after (p + 1) n t (restoreOut (given nodes′ rows′ scratch′ (a .n) (a .t)) n0) ≡ w
           go (refused k r) e inv = absurd (r (sym (ap (λ (o : Outcome). o .answer .number) e) ∙ z))
@@ -203,4 +203,4 @@ module _ (a : Answer) (g : Given) (nodes′ : List ℤ) (rows′ scratch′ : Li
 
 pub less : (a : Answer) (nodes nodes′ : List ℤ) (rows rows′ scratch scratch′ : List ℕ) (n0 k u : ℕ) → outcome a nodes′ rows′ scratch′ ≡ passOut (given nodes rows scratch k u) n0 → a .number ≡ 0 → (a .n ≡ k → ⊥) → a .n < k
 less a nodes nodes′ rows rows′ scratch scratch′ n0 k u e z o =
-    fewer a (given nodes rows scratch k u) nodes′ rows′ scratch′ n0 0 0 0 (after 0 0 0 (restoreOut (given nodes rows scratch k u) n0)) e refl z o
+    pass-left-fewer a (given nodes rows scratch k u) nodes′ rows′ scratch′ n0 0 0 0 (after 0 0 0 (restoreOut (given nodes rows scratch k u) n0)) e refl z o

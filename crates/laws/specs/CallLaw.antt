@@ -34,8 +34,8 @@ pub record Sizes (g : Given) (n0 : ℕ) : Type 0 where
   pub n0-fits : n0 ≤ g .n
   pub scratch-fits : 4 * (length (g .nodes) / 2 + length (g .rows) / 3) ≤ length (g .scratch)
 
-both : (a b : Bool) → a && b ≡ true → (a ≡ true) × (b ≡ true)
-both a b e = (and-left a b e, and-right a b e)
+and-parts : (a b : Bool) → a && b ≡ true → (a ≡ true) × (b ≡ true)
+and-parts a b e = (and-left a b e, and-right a b e)
 
 module _ (g : Given) (n0 : ℕ) where
   pub sizes-exact : (sizesFit g n0 ≡ true) ↔ Sizes g n0
@@ -48,13 +48,13 @@ module _ (g : Given) (n0 : ℕ) where
     where
       there : sizesFit g n0 ≡ true → Sizes g n0
       there e =
-          let (e7, h) = both _ _ e in
-          let (e6, g) = both _ _ e7 in
-          let (e5, f) = both _ _ e6 in
-          let (e4, e) = both _ _ e5 in
-          let (e3, d) = both _ _ e4 in
-          let (e2, c) = both _ _ e3 in
-          let (a, b) = both _ _ e2 in
+          let (e7, h) = and-parts _ _ e in
+          let (e6, g) = and-parts _ _ e7 in
+          let (e5, f) = and-parts _ _ e6 in
+          let (e4, e) = and-parts _ _ e5 in
+          let (e3, d) = and-parts _ _ e4 in
+          let (e2, c) = and-parts _ _ e3 in
+          let (a, b) = and-parts _ _ e2 in
           record {
             nodes-even = eqb-true _ _ a;
             rows-three = eqb-true _ _ b;
@@ -125,42 +125,42 @@ pub record Holds (g : Given) (new : Mesh) (o : Outcome) : Type 0 where
 
 -- a call's outcome, k being its number for the mesh, new the mesh that it makes, p its passes
 pub record CallLeaves (g : Given) (n0 k : ℕ) (new : Mesh) (p : ℕ) (o : Outcome) : Type 0 where
-  pub number-is : o .answer .number ≡ cases (sizesFit g n0) k 1
+  pub number-said : o .answer .number ≡ cases (sizesFit g n0) k 1
   pub sized-and-0 : o .answer .number ≡ 0 → Sizes g n0 × (k ≡ 0)
   pub done-is : o .answer .number ≡ 0 → o ≡ done g new p
-  pub refused : o .answer .number ≢ 0 → AsGiven g o
+  pub refusal-leaves : o .answer .number ≢ 0 → AsGiven g o
   pub scratch-zero : o .scratch ≡ cleared (g .scratch)
 
-zeros : {A : Type 0} (z : A) (k j : ℕ) → getD (replicate k z) j z ≡ z
-zeros z zero j = refl
-zeros z (suc k) zero = refl
-zeros z (suc k) (suc j) = zeros z k j
+replicate-reads : {A : Type 0} (z : A) (k j : ℕ) → getD (replicate k z) j z ≡ z
+replicate-reads z zero j = refl
+replicate-reads z (suc k) zero = refl
+replicate-reads z (suc k) (suc j) = replicate-reads z k j
 
-past : {A : Type 0} (z : A) (len : ℕ) (xs : List A) (i : ℕ) → length xs ≤ i → getD (filled z len xs) i z ≡ z
-past z len xs i h =
+filled-past : {A : Type 0} (z : A) (len : ℕ) (xs : List A) (i : ℕ) → length xs ≤ i → getD (filled z len xs) i z ≡ z
+filled-past z len xs i h =
     let e : i ≡ length xs + (i - length xs) = omega arith in
-    subst (λ (j : ℕ). getD (filled z len xs) j z ≡ z) (sym e) (getD-append-add xs (replicate (len - length xs) z) (i - length xs) z ∙ zeros z (len - length xs) (i - length xs))
+    subst (λ (j : ℕ). getD (filled z len xs) j z ≡ z) (sym e) (getD-append-add xs (replicate (len - length xs) z) (i - length xs) z ∙ replicate-reads z (len - length xs) (i - length xs))
 
 pub done-holds : (g : Given) (m : Mesh) (k : ℕ) → 2 * length (m .nodes) ≤ length (g .nodes) → 3 * length (m .tris) ≤ length (g .rows) → Holds g m (done g m k)
 done-holds g m k a b = record {
   mesh-is = done-mesh g m k;
   nodes-long = done-nodes g m k a b;
   rows-long = done-rows g m k a b;
-  nodes-past = λ i h. past (pos 0) (length (g .nodes)) (flatNodes (m .nodes)) i (omega (arith, flat-nodes-length (m .nodes)));
-  rows-past = λ i h. past 0 (length (g .rows)) (flatRows (m .tris)) i (omega (arith, flat-rows-length (m .tris)));
+  nodes-past = λ i h. filled-past (pos 0) (length (g .nodes)) (flatNodes (m .nodes)) i (omega (arith, flat-nodes-length (m .nodes)));
+  rows-past = λ i h. filled-past 0 (length (g .rows)) (flatRows (m .tris)) i (omega (arith, flat-rows-length (m .tris)));
 }
 
-same-as : (g : Given) (j : ℕ) → AsGiven g (untouched g j)
-same-as g j = record { nodes-same = refl; rows-same = refl; n-same = refl; t-same = refl; no-passes = refl }
+untouched-as-given : (g : Given) (j : ℕ) → AsGiven g (untouched g j)
+untouched-as-given g j = record { nodes-same = refl; rows-same = refl; n-same = refl; t-same = refl; no-passes = refl }
 
 -- WHAT A CALL LEAVES, whatever it is given.
 pub call-leaves : (g : Given) (n0 k : ℕ) (old new : Mesh) (p : ℕ) → CallLeaves g n0 k new p (sized g n0 (left g (says k old new p)))
 call-leaves g n0 k old new p = go (sizesFit g n0) refl k
   where
     go : (b : Bool) → sizesFit g n0 ≡ b → (k : ℕ) → CallLeaves g n0 k new p (cases b (left g (says k old new p)) (untouched g 1))
-    go true q zero = record { number-is = rw q; sized-and-0 = λ e. (sizes-exact g n0 .0 q, refl); done-is = λ e. refl; refused = λ n. absurd (n refl); scratch-zero = refl }
-    go true q (suc k) = record { number-is = rw q; sized-and-0 = λ e. absurd (omega arith); done-is = λ e. absurd (omega arith); refused = λ n. same-as g (suc k); scratch-zero = refl }
-    go false q k = record { number-is = rw q; sized-and-0 = λ e. absurd (omega arith); done-is = λ e. absurd (omega arith); refused = λ n. same-as g 1; scratch-zero = refl }
+    go true q zero = record { number-said = rw q; sized-and-0 = λ e. (sizes-exact g n0 .0 q, refl); done-is = λ e. refl; refusal-leaves = λ n. absurd (n refl); scratch-zero = refl }
+    go true q (suc k) = record { number-said = rw q; sized-and-0 = λ e. absurd (omega arith); done-is = λ e. absurd (omega arith); refusal-leaves = λ n. untouched-as-given g (suc k); scratch-zero = refl }
+    go false q k = record { number-said = rw q; sized-and-0 = λ e. absurd (omega arith); done-is = λ e. absurd (omega arith); refusal-leaves = λ n. untouched-as-given g 1; scratch-zero = refl }
 
 -- What every call says, and what a refusal leaves; Of k: the number k is due to the mesh.
 pub record Answers (g : Given) (n0 : ℕ) (Of : ℕ → Type 0) (o : Outcome) : Type 0 where
@@ -173,9 +173,9 @@ pub record Answers (g : Given) (n0 : ℕ) (Of : ℕ → Type 0) (o : Outcome) : 
   -- "It is all zero after every call, refused or not."
   pub scratch-all-zero : o .scratch ≡ cleared (g .scratch)
 
-pub answers : (g : Given) (n0 k : ℕ) (Of : ℕ → Type 0) (o : Outcome) → o .answer .number ≡ cases (sizesFit g n0) k 1 → ((j : ℕ) → (k ≡ j) ↔ Of j) → ¬ Of 1 →
+pub call-answers : (g : Given) (n0 k : ℕ) (Of : ℕ → Type 0) (o : Outcome) → o .answer .number ≡ cases (sizesFit g n0) k 1 → ((j : ℕ) → (k ≡ j) ↔ Of j) → ¬ Of 1 →
     (o .answer .number ≢ 0 → AsGiven g o) → o .scratch ≡ cleared (g .scratch) → Answers g n0 Of o
-answers g n0 k Of o e exact no1 same zeroed = record {
+call-answers g n0 k Of o e exact no1 same zeroed = record {
   says-1-exactly = rw e (says-1 g n0 k (λ z. no1 (exact 1 .0 z)));
   says-exactly = rw e (says-exact g n0 k Of exact);
   refused-as-given = same;
@@ -188,7 +188,7 @@ leaves-no-passes {o = o} c = go (o .answer .number) refl
   where
     go : (j : ℕ) → o .answer .number ≡ j → o .answer .passes ≡ 0
     go zero e = ap (λ (x : Outcome). x .answer .passes) (c .done-is e)
-    go (suc j) e = c .refused (λ z. omega arith) .no-passes
+    go (suc j) e = c .refusal-leaves (λ z. omega arith) .no-passes
 
 -- ---- the four calls
 
@@ -203,8 +203,8 @@ unfolding checkOut
 check-leaves g = go (sizesFit g 0) refl
   where
     go : (b : Bool) → sizesFit g 0 ≡ b → CheckLeaves g (cases b (untouched g (checkNo (meshOf g))) (untouched g 1))
-    go true q = record { check-number = rw q; all-as-given = same-as g (checkNo (meshOf g)); scratch-zero = refl }
-    go false q = record { check-number = rw q; all-as-given = same-as g 1; scratch-zero = refl }
+    go true q = record { check-number = rw q; all-as-given = untouched-as-given g (checkNo (meshOf g)); scratch-zero = refl }
+    go false q = record { check-number = rw q; all-as-given = untouched-as-given g 1; scratch-zero = refl }
 
 module _ (g : Given) (n0 : ℕ) where
   pub refine-leaves : (w : Way) (marks : List ℕ) → CallLeaves g n0 (refineNo w (roomOf g) (meshOf g) marks) (refined w (meshOf g) marks) 0 (refineOut w g n0 marks)

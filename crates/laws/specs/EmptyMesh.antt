@@ -37,10 +37,10 @@ module _ (g : Given) (no-node : g .n ≡ 0) (no-row : g .t ≡ 0) where
 
   module _ (n0 : ℕ) (s : Sizes g n0) where
     pub refine-of-empty : (w : Way) → refineOut w g n0 [] .answer .number ≡ 0
-    refine-of-empty w = refine-leaves g n0 w [] .number-is ∙ rw (sizes-exact g n0 .1 s, mesh-empty) (refine-empty w (roomOf g))
+    refine-of-empty w = refine-leaves g n0 w [] .number-said ∙ rw (sizes-exact g n0 .1 s, mesh-empty) (refine-empty w (roomOf g))
 
     pub coarsen-of-empty : coarsenOut g n0 [] .answer .number ≡ 0
-    coarsen-of-empty = coarsen-leaves g n0 [] .number-is ∙ rw (sizes-exact g n0 .1 s, mesh-empty) (coarsen-0 (mesh [] []) [] .1 (no-marks, empty-lawful))
+    coarsen-of-empty = coarsen-leaves g n0 [] .number-said ∙ rw (sizes-exact g n0 .1 s, mesh-empty) (coarsen-0 (mesh [] []) [] .1 (no-marks, empty-lawful))
 
     pub restore-of-empty : restoreOut g n0 .answer .number ≡ 0
-    restore-of-empty = restore-leaves g n0 .number-is ∙ rw (sizes-exact g n0 .1 s, mesh-empty) (lawful-refusal (mesh [] []) empty-lawful)
+    restore-of-empty = restore-leaves g n0 .number-said ∙ rw (sizes-exact g n0 .1 s, mesh-empty) (lawful-refusal (mesh [] []) empty-lawful)

@@ -69,10 +69,10 @@ module _ (n0 : ℕ) (m : Mesh) where
 
 -- ---- restore, pass by pass
 
-abbrev pub done : Mesh → ℕ → Restored
-done m k = record { end = m; passes = k }
+abbrev pub endsAt : Mesh → ℕ → Restored
+endsAt m k = record { end = m; passes = k }
 
-run-stop : (k n0 : ℕ) (m : Mesh) → goodNodes n0 m ≡ [] → run k n0 m ≡ done m 0
+run-stop : (k n0 : ℕ) (m : Mesh) → goodNodes n0 m ≡ [] → run k n0 m ≡ endsAt m 0
 run-stop zero n0 m e = refl
 run-stop (suc k) n0 m e = ap (λ l. more l m (run k n0 (pass n0 m))) e
 
@@ -89,16 +89,16 @@ run-enough (suc j) (suc k) n0 m h l = go (goodNodes n0 m) refl (run-enough j k n
 
 module _ (n0 : ℕ) (m : Mesh) where
   -- no good node: nothing is done
-  pub restored-stop : goodNodes n0 m ≡ [] → restored n0 m ≡ done m 0
+  pub restored-stop : goodNodes n0 m ≡ [] → restored n0 m ≡ endsAt m 0
   unfolding restored
   restored-stop e = run-stop (length (m .nodes)) n0 m e
 
   -- a good node: one pass, and on from there
-  pub restored-step : (z : ℕ) (zs : List ℕ) → goodNodes n0 m ≡ z ∷ zs → restored n0 m ≡ done (restored n0 (pass n0 m) .end) (suc (restored n0 (pass n0 m) .passes))
+  pub restored-step : (z : ℕ) (zs : List ℕ) → goodNodes n0 m ≡ z ∷ zs → restored n0 m ≡ endsAt (restored n0 (pass n0 m) .end) (suc (restored n0 (pass n0 m) .passes))
   unfolding restored
   restored-step z zs e = go (length (m .nodes)) refl
     where
-      go : (k : ℕ) → length (m .nodes) ≡ k → run k n0 m ≡ done (run (length (pass n0 m .nodes)) n0 (pass n0 m) .end) (suc (run (length (pass n0 m .nodes)) n0 (pass n0 m) .passes))
+      go : (k : ℕ) → length (m .nodes) ≡ k → run k n0 m ≡ endsAt (run (length (pass n0 m .nodes)) n0 (pass n0 m) .end) (suc (run (length (pass n0 m .nodes)) n0 (pass n0 m) .passes))
       go zero w = let f = pass-fewer n0 m z zs e in absurd (omega arith)
       go (suc k) w =
           let f = pass-fewer n0 m z zs e in
@@ -108,8 +108,8 @@ module _ (n0 : ℕ) (m : Mesh) where
 
 -- "Restore makes passes while a good node exists. The passes reported are those made; the last look that finds none is not counted."
 pub data Passes (n0 : ℕ) : Mesh → Restored → Type 0 where
-  none-good : {m : Mesh} → goodNodes n0 m ≡ [] → Passes n0 m (done m 0)
-  one-pass : {m : Mesh} {r : Restored} (z : ℕ) (zs : List ℕ) → goodNodes n0 m ≡ z ∷ zs → Passes n0 (pass n0 m) r → Passes n0 m (done (r .end) (suc (r .passes)))
+  none-good : {m : Mesh} → goodNodes n0 m ≡ [] → Passes n0 m (endsAt m 0)
+  one-pass : {m : Mesh} {r : Restored} (z : ℕ) (zs : List ℕ) → goodNodes n0 m ≡ z ∷ zs → Passes n0 (pass n0 m) r → Passes n0 m (endsAt (r .end) (suc (r .passes)))
 
 run-is : (k n0 : ℕ) (m : Mesh) → length (m .nodes) ≤ k → Passes n0 m (run k n0 m)
 run-is zero n0 m h = none-good (no-nodes n0 m (omega arith))

@@ -1,4 +1,4 @@
-use Rattle.job.specs.PassLaw.{after-start, refuse, finish, less, passes-fit, passes-in, on}
+use Rattle.job.specs.PassLaw.{after-start, refuse, finish, less, passes-fit, passes-in, goes-on}
 use Rattle.job.specs.Pass.{after}
 use Rattle.meaning.specs.Calls.{restoreOut}
 use Rattle.meaning.specs.Tables.{given}
@@ -31,7 +31,7 @@ loop-less : tie.Need-loop-less Inv-loop μ-loop
 loop-less c = search (needs, less)
 
 loop-again : tie.Need-loop-again Inv-loop μ-loop
-loop-again c = (search needs, search needs, search needs, search passes-in, search on)
+loop-again c = (search needs, search needs, search needs, search passes-in, search goes-on)
 
 pub restore-spec : {M : Type 1} → statement M
 restore-spec =

@@ -31,7 +31,7 @@ use Rattle.growth.specs.Labels.ForestCoarsened.{Goes, EndsR, goes?, stay
 use Rattle.growth.specs.Labels.Named.{p-below, name-p, same-number}
 use Rattle.growth.specs.Labels.Around.{Of, pair-at}
 use Rattle.growth.specs.Labels.GrownCoarsened.{renum, Removing, Gone, gone, gone-node, Merging, grown-coarsened}
-use Rattle.growth.specs.Rows.{three, rows, all-rows, edge-same, rows-once, named-at}
+use Rattle.growth.specs.Rows.{three, rows, all-rows, same-of-edge, arrow-in-one-row, row-named}
 use Rattle.growth.specs.GrownFrom.{GrownFrom}
 use Rattle.growth.specs.Goodness.{Newest, Rows, Told, newest-told, good-newest}
 
@@ -96,14 +96,14 @@ module _ (base m : Mesh) (G : GrownFrom base m) (marks : List ℕ) where
 
     -- a is neither b nor c
     not-end : (x : ℕ) → edge a x ≡ span m z → ⊥
-    not-end x e = go (edge-same a x b c (e ∙ span-pair))
+    not-end x e = go (same-of-edge a x b c (e ∙ span-pair))
       where
         go : Same a x b c → ⊥
         go (straight u v) =
-            named-at m (G .lawful) (P .left) (P .left-below) .q≢r
+            row-named m (G .lawful) (P .left) (P .left-below) .q≢r
             (ap (λ (s : Corners ℕ). s .q) (P .left-is) ∙ u ∙ sym (ap (λ (s : Corners ℕ). s .r) (P .left-is)))
         go (crossed u v) =
-            named-at m (G .lawful) (P .right) (P .right-below) .q≢r
+            row-named m (G .lawful) (P .right) (P .right-below) .q≢r
             (ap (λ (s : Corners ℕ). s .q) (P .right-is) ∙ sym u ∙ sym (ap (λ (s : Corners ℕ). s .r) (P .right-is)))
 
   -- ---- what becomes of a row
@@ -150,7 +150,7 @@ module _ (base m : Mesh) (G : GrownFrom base m) (marks : List ℕ) where
             let f : x .left ≡ tri z a b = sameTri-eq (x .left) (row-at (P .left)) e ∙ here in
             let ez : z′ ≡ z = sym (p .left-p) ∙ ap (λ (u : Tri). u .p) f in
             let (k, lk, ek) = mem-at (tri 0 0 0) (p .right-row) in
-            let same : k ≡ P .right = rows-once m (G .lawful) k (P .right) lk (P .right-below) a z
+            let same : k ≡ P .right = arrow-in-one-row m (G .lawful) k (P .right) lk (P .right-below) a z
             (arrow-rp (sym (ap (λ (u : Tri). u .r) ek ∙ p .joint ∙ ap (λ (u : Tri). u .q) f)) (sym (ap (λ (u : Tri). u .p) ek ∙ p .right-p ∙ ez)))
             (arrow-rp (sym (ap (λ (u : Tri). u .r) there)) (sym (ap (λ (u : Tri). u .p) there))) in
             let r : x .right ≡ tri z c a = sym ek ∙ ap row-at same ∙ there in

@@ -21,8 +21,9 @@ use Rattle.growth.specs.GrownFrom.{GrownFrom, from-checked}
 use Rattle.growth.specs.Coarsening.{from-coarsened}
 use Rattle.growth.specs.Refining.{from-refine}
 use Rattle.growth.specs.Restoring.{pass-removes, restored-base}
-use Rattle.laws.specs.TableMesh.{nodes-count, rows-count, written, left-by, refused}
-use Rattle.growth.specs.OnTables.{Held, fit₀, held-begin, held-same, held-refine, held-coarsen, held-restore, held-sizes, restore-number, restore-done, held-passes, end-here, pass-done, pass-less}
+use Rattle.laws.specs.TableMesh.{nodes-count, rows-count, written, left-by}
+use Rattle.laws.specs.CallLaw.{AsGiven, check-leaves, refine-leaves, coarsen-leaves, restore-leaves}
+use Rattle.growth.specs.OnTables.{GrownTables, fit₀, tables-begin, tables-same, tables-refine, tables-coarsen, tables-restore, tables-sizes, restore-number, restore-leaves-base, tables-passes, end-here, pass-done, pass-less}
 
 -- ---- passes
 
@@ -47,11 +48,11 @@ pub data Reached (base : Mesh) : Mesh → Type 0 where
 
 pub record Restorable (base m : Mesh) : Type 0 where
   -- while added nodes remain a full pass removes at least one node
-  pub pass-fewer : length (base .nodes) < length (m .nodes) → length (pass (length (base .nodes)) m .nodes) < length (m .nodes)
+  pub pass-takes-one : length (base .nodes) < length (m .nodes) → length (pass (length (base .nodes)) m .nodes) < length (m .nodes)
   -- restore is not refused, and ends with the base
   pub back-to-base : restores (length (base .nodes)) m ≡ record { number = 0; after = base; passes = restored (length (base .nodes)) m .passes }
   -- after no more passes than nodes were added
-  pub passes-few : restored (length (base .nodes)) m .passes + length (base .nodes) ≤ length (m .nodes)
+  pub passes-bounded : restored (length (base .nodes)) m .passes + length (base .nodes) ≤ length (m .nodes)
   -- each of which removed a node
   pub passes-remove : Removals (length (base .nodes)) m (restored (length (base .nodes)) m .passes) base
 
@@ -83,10 +84,10 @@ demand3 base ok {m} r =
     let G = reached-grown base (from-checked base ok) r in
     let n₀ = length (base .nodes) in
     record {
-      pass-fewer = pass-removes base G;
+      pass-takes-one = pass-removes base G;
       back-to-base = ap (λ (k : ℕ). says k m (restored n₀ m .end) (restored n₀ m .passes)) (lawful-refusal m (G .lawful))
           ∙ (λ i. record { number = 0; after = restored-base base G i; passes = restored n₀ m .passes });
-      passes-few = restored-passes n₀ m (G .lawful) (G .grown .enough);
+      passes-bounded = restored-passes n₀ m (G .lawful) (G .grown .enough);
       passes-remove = subst (Removals n₀ m (restored n₀ m .passes)) (restored-base base G) (removals (restored-is n₀ m));
     }
 
@@ -104,21 +105,21 @@ still g o = given (o .nodes) (o .rows) (o .scratch) (g .n) (g .t)
 
 -- What calls on a base's tables leave: the tables, and the counts that the user holds, which are those of the accepted call before.
 -- (A refused call on other tables does not concern these.)
-pub data Left (g₀ : Given) : Given → Type 0 where
-  begin : Left g₀ g₀
+pub data TablesReached (g₀ : Given) : Given → Type 0 where
+  begin : TablesReached g₀ g₀
   -- scratch may be another table at every call
-  lent : {g : Given} → Left g₀ g → (scratch : List ℕ) → Left g₀ (given (g .nodes) (g .rows) scratch (g .n) (g .t))
+  lent : {g : Given} → TablesReached g₀ g → (scratch : List ℕ) → TablesReached g₀ (given (g .nodes) (g .rows) scratch (g .n) (g .t))
   -- accepted, with the base's node count, on the tables and counts that the accepted call before left
-  refined-by : {g : Given} → Left g₀ g → (w : Way) → w .cutting ≡ bisected → (marks : List ℕ) →
-      refineOut w g (g₀ .n) marks .answer .number ≡ 0 → Left g₀ (left-by (refineOut w g (g₀ .n) marks))
-  coarsened-by : {g : Given} → Left g₀ g → (marks : List ℕ) →
-      coarsenOut g (g₀ .n) marks .answer .number ≡ 0 → Left g₀ (left-by (coarsenOut g (g₀ .n) marks))
-  restored-by : {g : Given} → Left g₀ g → restoreOut g (g₀ .n) .answer .number ≡ 0 → Left g₀ (left-by (restoreOut g (g₀ .n)))
+  refined-by : {g : Given} → TablesReached g₀ g → (w : Way) → w .cutting ≡ bisected → (marks : List ℕ) →
+      refineOut w g (g₀ .n) marks .answer .number ≡ 0 → TablesReached g₀ (left-by (refineOut w g (g₀ .n) marks))
+  coarsened-by : {g : Given} → TablesReached g₀ g → (marks : List ℕ) →
+      coarsenOut g (g₀ .n) marks .answer .number ≡ 0 → TablesReached g₀ (left-by (coarsenOut g (g₀ .n) marks))
+  restored-by : {g : Given} → TablesReached g₀ g → restoreOut g (g₀ .n) .answer .number ≡ 0 → TablesReached g₀ (left-by (restoreOut g (g₀ .n)))
   -- refused, with whatever counts, n0, marks and scratch: the counts held stay
-  refused-by : {g : Given} → Left g₀ g → (scratch : List ℕ) (n t : ℕ) {o : Outcome} → Call (given (g .nodes) (g .rows) scratch n t) o →
-      o .answer .number ≢ 0 → Left g₀ (still g o)
+  refused-by : {g : Given} → TablesReached g₀ g → (scratch : List ℕ) (n t : ℕ) {o : Outcome} → Call (given (g .nodes) (g .rows) scratch n t) o →
+      o .answer .number ≢ 0 → TablesReached g₀ (still g o)
   -- a base check, refused or not, with whatever counts and scratch
-  checked-by : {g : Given} → Left g₀ g → (scratch : List ℕ) (n t : ℕ) → Left g₀ (still g (checkOut (given (g .nodes) (g .rows) scratch n t)))
+  checked-by : {g : Given} → TablesReached g₀ g → (scratch : List ℕ) (n t : ℕ) → TablesReached g₀ (still g (checkOut (given (g .nodes) (g .rows) scratch n t)))
 
 -- "A full pass is coarsen with all nodes marked."
 abbrev pub fullPass : Given → ℕ → Outcome
@@ -136,51 +137,42 @@ pub record Restores (g₀ g : Given) : Type 0 where
   -- sizes can only fail by scratch
   pub sizes-are : sizesFit g (g₀ .n) ≡ leb (4 * (roomOf g₀ .nodes + roomOf g₀ .rows)) (length (g .scratch))
   -- while added nodes remain, a full pass is accepted and removes at least one
-  pub pass-fewer : g₀ .n < g .n → sizesFit g (g₀ .n) ≡ true → (fullPass g (g₀ .n) .answer .number ≡ 0) × (fullPass g (g₀ .n) .answer .n < g .n)
+  pub pass-takes-one : g₀ .n < g .n → sizesFit g (g₀ .n) ≡ true → (fullPass g (g₀ .n) .answer .number ≡ 0) × (fullPass g (g₀ .n) .answer .n < g .n)
   -- restore is refused at most as 1, exactly when the sizes do not fit
-  pub number-is : restoreOut g (g₀ .n) .answer .number ≡ cases (sizesFit g (g₀ .n)) 0 1
+  pub restore-says : restoreOut g (g₀ .n) .answer .number ≡ cases (sizesFit g (g₀ .n)) 0 1
   -- else it leaves the base
   pub back-to-base : sizesFit g (g₀ .n) ≡ true → restoreOut g (g₀ .n) ≡ baseAgain g₀ g
   -- after no more passes than nodes were added
-  pub passes-few : restored (g₀ .n) (meshOf g) .passes + g₀ .n ≤ g .n
+  pub passes-bounded : restored (g₀ .n) (meshOf g) .passes + g₀ .n ≤ g .n
   -- each of which removed a node
   pub passes-remove : Removals (g₀ .n) (meshOf g) (restored (g₀ .n) (meshOf g) .passes) (meshOf g₀)
 
--- A refused call leaves the tables as they were, and so does a check.
-call-refused : {g : Given} {o : Outcome} → Call g o → o .answer .number ≢ 0 → (o .nodes ≡ g .nodes) × (o .rows ≡ g .rows)
-unfolding refineOut coarsenOut restoreOut refines coarsens restores
-call-refused {g} (a-refine w n0 marks) n = refused g n0 (refineNo w (roomOf g) (meshOf g) marks) (meshOf g) (refined w (meshOf g) marks) 0 n
-call-refused {g} (a-coarsen n0 marks) n = refused g n0 (coarsenNo (meshOf g) marks) (meshOf g) (coarsened n0 (meshOf g) marks) 0 n
-call-refused {g} (a-restore n0) n = refused g n0 (refusal (meshOf g)) (meshOf g) (restored n0 (meshOf g) .end) (restored n0 (meshOf g) .passes) n
-
-check-leaves : (g : Given) → (checkOut g .nodes ≡ g .nodes) × (checkOut g .rows ≡ g .rows)
-unfolding checkOut
-check-leaves g = go (sizesFit g 0)
-  where
-    go : (b : Bool) → (cases b (untouched g (checkNo (meshOf g))) (untouched g 1) .nodes ≡ g .nodes) × (cases b (untouched g (checkNo (meshOf g))) (untouched g 1) .rows ≡ g .rows)
-    go true = (refl, refl)
-    go false = (refl, refl)
+-- A refused call leaves the tables as they were.
+call-refused : {g : Given} {o : Outcome} → Call g o → o .answer .number ≢ 0 → AsGiven g o
+call-refused {g} (a-refine w n0 marks) = refine-leaves g n0 w marks .refusal-leaves
+call-refused {g} (a-coarsen n0 marks) = coarsen-leaves g n0 marks .refusal-leaves
+call-refused {g} (a-restore n0) = restore-leaves g n0 .refusal-leaves
 
 -- Tables that calls left hold a mesh grown from the base.
-left-held : (g₀ : Given) → checkOut g₀ .answer .number ≡ 0 → {g : Given} → Left g₀ g → Held g₀ g
-left-held g₀ ok begin = held-begin g₀ ok
-left-held g₀ ok (lent {g = g} r s) = held-same g₀ ok g (left-held g₀ ok r) (g .nodes) (g .rows) s refl refl
-left-held g₀ ok (refined-by {g = g} r w cuts marks e) = held-refine g₀ ok g (left-held g₀ ok r) w cuts marks e
-left-held g₀ ok (coarsened-by {g = g} r marks e) = held-coarsen g₀ ok g (left-held g₀ ok r) marks e
-left-held g₀ ok (restored-by {g = g} r e) = held-restore g₀ ok g (left-held g₀ ok r) e
-left-held g₀ ok (refused-by {g = g} r s n t {o = o} c e) = let (a, b) = call-refused c e in held-same g₀ ok g (left-held g₀ ok r) (o .nodes) (o .rows) (o .scratch) a b
-left-held g₀ ok (checked-by {g = g} r s n t) = let (a, b) = check-leaves (given (g .nodes) (g .rows) s n t) in held-same g₀ ok g (left-held g₀ ok r) _ _ _ a b
+reached-tables : (g₀ : Given) → checkOut g₀ .answer .number ≡ 0 → {g : Given} → TablesReached g₀ g → GrownTables g₀ g
+reached-tables g₀ ok begin = tables-begin g₀ ok
+reached-tables g₀ ok (lent {g = g} r s) = tables-same g₀ ok g (reached-tables g₀ ok r) (g .nodes) (g .rows) s refl refl
+reached-tables g₀ ok (refined-by {g = g} r w cuts marks e) = tables-refine g₀ ok g (reached-tables g₀ ok r) w cuts marks e
+reached-tables g₀ ok (coarsened-by {g = g} r marks e) = tables-coarsen g₀ ok g (reached-tables g₀ ok r) marks e
+reached-tables g₀ ok (restored-by {g = g} r e) = tables-restore g₀ ok g (reached-tables g₀ ok r) e
+reached-tables g₀ ok (refused-by {g = g} r s n t {o = o} c e) = let a = call-refused c e in tables-same g₀ ok g (reached-tables g₀ ok r) (o .nodes) (o .rows) (o .scratch) (a .nodes-same) (a .rows-same)
+reached-tables g₀ ok (checked-by {g = g} r s n t) = let a = check-leaves (given (g .nodes) (g .rows) s n t) .all-as-given in tables-same g₀ ok g (reached-tables g₀ ok r) _ _ _ (a .nodes-same) (a .rows-same)
 
 -- DEMAND 3, of tables.
-pub demand3-tables : (g₀ : Given) → checkOut g₀ .answer .number ≡ 0 → {g : Given} → Left g₀ g → Restores g₀ g
+pub demand3-tables : (g₀ : Given) → checkOut g₀ .answer .number ≡ 0 → {g : Given} → TablesReached g₀ g → Restores g₀ g
 demand3-tables g₀ ok {g} r =
-    let H = left-held g₀ ok r in
+    let H = reached-tables g₀ ok r in
     let w = written g₀ (fit₀ g₀ ok) in
     record {
-      sizes-are = held-sizes g₀ ok g H;
-      pass-fewer = λ more e. rw (pass-done g₀ ok g H e) (refl, pass-less g₀ ok g H more);
-      number-is = restore-number g₀ ok g H;
-      back-to-base = λ e. rw (restore-done g₀ ok g H e, nodes-count g₀, rows-count g₀, w .0, w .1, H .nodes-length, H .rows-kept);
-      passes-few = held-passes g₀ ok g H;
+      sizes-are = tables-sizes g₀ ok g H;
+      pass-takes-one = λ more e. rw (pass-done g₀ ok g H e) (refl, pass-less g₀ ok g H more);
+      restore-says = restore-number g₀ ok g H;
+      back-to-base = λ e. rw (restore-leaves-base g₀ ok g H e, nodes-count g₀, rows-count g₀, w .0, w .1, H .nodes-length, H .rows-kept);
+      passes-bounded = tables-passes g₀ ok g H;
       passes-remove = subst (Removals (g₀ .n) (meshOf g) (restored (g₀ .n) (meshOf g) .passes)) (end-here g₀ ok g H) (removals (restored-is (g₀ .n) (meshOf g)));
     }

@@ -25,7 +25,7 @@ use Rattle.growth.specs.Labels.Names.{mid}
 use Rattle.growth.specs.Labels.Corners.{Corners, Holds, is-p}
 use Rattle.growth.specs.Labels.Named.{NewestOf}
 use Rattle.growth.specs.Labels.Around.{RowPair, Around, two-rows, four-rows, around, no-edge, one-node, some-newest-node}
-use Rattle.growth.specs.Rows.{three, rows, node-holds, holds-node, edge-same, edge-held, rows-once, same-row}
+use Rattle.growth.specs.Rows.{three, rows, node-holds, holds-node, same-of-edge, edge-held, arrow-in-one-row, same-row}
 use Rattle.growth.specs.GrownFrom.{GrownFrom}
 
 -- ---- the members that pass, by number
@@ -282,7 +282,7 @@ module _ (base m : Mesh) (G : GrownFrom base m) where
         let (j, lj, h) = G .grown .used z lz in
         let e : j + 0 ≡ j = omega arith in
         let (k, l, hk, low) = least (λ i. Holds z (rows m i)) (holds? z) j 0 (λ i l. absurd (omega arith)) (rw e h) in
-        from-around k low (around (G .grown) z lz added newest (rows-once m (G .lawful)) k (omega arith) hk (λ i li hi. low i hi))
+        from-around k low (around (G .grown) z lz added newest (arrow-in-one-row m (G .lawful)) k (omega arith) hk (λ i li hi. low i hi))
 
   -- GOOD: added and newest everywhere.
   pub newest-good : (z : ℕ) → z < length (m .nodes) → length (base .nodes) ≤ z → Newest z → good (length (base .nodes)) m z ≡ true
@@ -295,7 +295,7 @@ module _ (base m : Mesh) (G : GrownFrom base m) where
       alone : (y : ℕ) → length (base .nodes) ≤ y → y < length (m .nodes) → Star m y → span m z ≡ span m y → y ≡ z
       alone y ay ly s e =
           let U = newest-told y ly ay (star-newest y s) in
-          one-node (G .grown) y z (U .b) (U .c) (T .b) (T .c) ly lz (U .halves) (T .halves) (edge-same _ _ _ _ (sym (U .span-told) ∙ sym e ∙ T .span-told))
+          one-node (G .grown) y z (U .b) (U .c) (T .b) (T .c) ly lz (U .halves) (T .halves) (same-of-edge _ _ _ _ (sym (U .span-told) ∙ sym e ∙ T .span-told))
 
   pub good-newest : (z : ℕ) → good (length (base .nodes)) m z ≡ true → Newest z
   good-newest z e = star-newest z (good-star (length (base .nodes)) m z (G .lawful) e .round)

@@ -5,8 +5,8 @@ pub mod Rows
 pub mod GrownFrom
 pub mod Goodness
 pub mod Coarsening
+pub mod SplitRows
 pub mod Refining
 pub mod Restoring
 pub mod OnTables
 pub mod Demand3
-pub mod Demand3Example

@@ -5,8 +5,7 @@ use mathlib.Core.Option.{Option, none, some}
 use mathlib.Core.Path.{_≡_, refl, sym, subst, subst₂, ap, ap₂, _∙_}
 use Prim.Native.Nat.{ℕ, min, max, _+_, _-_, _≤_, _<_}
 use native.Mathlib.Omega.{arith}
-use lib.ListN.{length, getD, length-append, length-map, List·getD-map, List·getD-append}
-use lib.Seq.{getD-append-add}
+use lib.ListN.{length, getD, length-map, List·getD-map}
 use Rattle.lists.specs.declared.Found.{Found}
 use Rattle.lists.specs.declared.Found.the-variants.{At}
 use Rattle.lists.specs.Lists.{all, whereFirst, joined}
@@ -28,12 +27,13 @@ use Rattle.laws.specs.Midpoints.{midpoint-middle, splitAt-nodes, at-old, at-new
 use Rattle.laws.specs.SplitLaw.{split-lawful}
 use Rattle.growth.specs.Labels.Corners.{Corners}
 use Rattle.growth.specs.Labels.Corners as Corners
-use Rattle.growth.specs.Labels.Groups.{total, total-same, joined-length, joined-at, sizes}
+use Rattle.growth.specs.Labels.Groups.{total, total-same}
 use Rattle.growth.specs.Labels.Pieces.{ask}
 use Rattle.growth.specs.Labels.RowCuts.{first-row, more-rows, ClosedRows}
 use Rattle.growth.specs.Labels.GrownRefined.{Halving, stays, appends, getD-default, grown-refined}
-use Rattle.growth.specs.Rows.{three, rows, edge-same, same-edge, edge-mem, mem-edge}
+use Rattle.growth.specs.Rows.{three, rows, same-of-edge, same-edge, edge-mem, mem-edge}
 use Rattle.growth.specs.GrownFrom.{GrownFrom}
+use Rattle.growth.specs.SplitRows.{cut-at, rows-ahead, split-count, row-of-kept, row-of-added}
 
 -- ---- one triangle
 
@@ -125,65 +125,38 @@ module _ (m : Mesh) (s : List Edge) where
   abbrev after : Mesh
   after = splitAt bisected m s
 
-  abbrev cut-at : Tri → Cut
-  cut-at t = cutOf bisected (length (m .nodes)) s t
-
   -- ---- the rows of one triangle
 
-  cut-kept : (t : Tri) → three (cut-at t .kept) ≡ stays split? num (three t)
+  cut-kept : (t : Tri) → three (cut-at bisected m s t .kept) ≡ stays split? num (three t)
   cut-kept t = kept-is num t (agrees (t .q) (t .r) (split? (t .q) (t .r))) (agrees (t .p) (t .q) (split? (t .p) (t .q))) (agrees (t .r) (t .p) (split? (t .r) (t .p)))
 
-  cut-added : (t : Tri) → map three (cut-at t .added) ≡ appends split? num (three t)
+  cut-added : (t : Tri) → map three (cut-at bisected m s t .added) ≡ appends split? num (three t)
   cut-added t = added-is num t (agrees (t .q) (t .r) (split? (t .q) (t .r))) (agrees (t .p) (t .q) (split? (t .p) (t .q))) (agrees (t .r) (t .p) (split? (t .r) (t .p)))
 
-  added-size : (j : ℕ) → length (cut-at (rowOf (m .tris) j) .added) ≡ length (appends split? num (rows m j))
-  added-size j = sym (length-map (cut-at (rowOf (m .tris) j) .added) three) ∙ ap length (cut-added (rowOf (m .tris) j))
+  added-size : (j : ℕ) → length (cut-at bisected m s (rowOf (m .tris) j) .added) ≡ length (appends split? num (rows m j))
+  added-size j = sym (length-map (cut-at bisected m s (rowOf (m .tris) j) .added) three) ∙ ap length (cut-added (rowOf (m .tris) j))
 
   -- ---- all rows
-
-  abbrev keeps : Tri → Tri
-  keeps t = cut-at t .kept
-
-  abbrev adds : Tri → List Tri
-  adds t = cut-at t .added
-
-  tris-are : after .tris ≡ map keeps (m .tris) ++ joined adds (m .tris)
-  unfolding splitAt
-  tris-are = refl
 
   -- How many rows are appended for the rows below k.
   abbrev past : ℕ → ℕ
   past k = total (λ j. length (appends split? num (rows m j))) k
 
-  sizes-are : (k : ℕ) → total (sizes adds (tri 0 0 0) (tri 0 0 0) (m .tris)) k ≡ past k
+  sizes-are : (k : ℕ) → rows-ahead bisected m s k ≡ past k
   sizes-are k = total-same _ _ k (λ j l. added-size j)
 
   count-is : length (after .tris) ≡ length (m .tris) + past (length (m .tris))
-  count-is =
-      ap length tris-are ∙ length-append (map keeps (m .tris)) (joined adds (m .tris))
-      ∙ ap₂ _+_ (length-map (m .tris) keeps) (joined-length adds (tri 0 0 0) (tri 0 0 0) (m .tris) ∙ sizes-are (length (m .tris)))
+  count-is = split-count bisected m s ∙ ap (length (m .tris) +_) (sizes-are (length (m .tris)))
 
   stay-is : (k : ℕ) → k < length (m .tris) → rows after k ≡ stays split? num (rows m k)
-  stay-is k l =
-      let l′ : k < length (map keeps (m .tris)) = rw (length-map (m .tris) keeps) l in
-      ap three
-      (ap (λ (ts : List Tri). getD ts k (tri 0 0 0)) tris-are
-      ∙ List·getD-append (map keeps (m .tris)) (joined adds (m .tris)) (tri 0 0 0) k l′
-      ∙ getD-default (map keeps (m .tris)) k (tri 0 0 0) (keeps (tri 0 0 0)) l′
-      ∙ List·getD-map keeps (m .tris) k (tri 0 0 0))
-      ∙ cut-kept (rowOf (m .tris) k)
+  stay-is k l = ap three (row-of-kept bisected m s k l) ∙ cut-kept (rowOf (m .tris) k)
 
   append-is : (j i : ℕ) → j < length (m .tris) → i < length (appends split? num (rows m j))
       → rows after (length (m .tris) + (past j + i)) ≡ getD (appends split? num (rows m j)) i (rows m j)
   append-is j i lj li =
-      let li′ : i < length (adds (rowOf (m .tris) j)) = rw (added-size j) li in
-      let here : length (m .tris) + (past j + i) ≡ length (map keeps (m .tris)) + (total (sizes adds (tri 0 0 0) (tri 0 0 0) (m .tris)) j + i)
-      = ap₂ (λ (x y : ℕ). x + (y + i)) (sym (length-map (m .tris) keeps)) (sym (sizes-are j)) in
-      ap three
-      (ap₂ (λ (ts : List Tri) (k : ℕ). getD ts k (tri 0 0 0)) tris-are here
-      ∙ getD-append-add (map keeps (m .tris)) (joined adds (m .tris)) (total (sizes adds (tri 0 0 0) (tri 0 0 0) (m .tris)) j + i) (tri 0 0 0)
-      ∙ joined-at adds (tri 0 0 0) (tri 0 0 0) (m .tris) j i lj li′)
-      ∙ sym (List·getD-map three (adds (rowOf (m .tris) j)) i (tri 0 0 0))
+      ap (λ (x : ℕ). rows after (length (m .tris) + (x + i))) (sym (sizes-are j))
+      ∙ ap three (row-of-added bisected m s j i lj (rw (added-size j) li))
+      ∙ sym (List·getD-map three (cut-at bisected m s (rowOf (m .tris) j) .added) i (tri 0 0 0))
       ∙ ap (λ (rs : List (Corners ℕ)). getD rs i (three (tri 0 0 0))) (cut-added (rowOf (m .tris) j))
       ∙ getD-default (appends split? num (rows m j)) i (three (tri 0 0 0)) (rows m j) li
 
@@ -242,7 +215,7 @@ module _ (base m : Mesh) (G : GrownFrom base m) (start : List Edge) (even : all 
         let S = spot m s (edge a b) h in
         let T = spot m s (edge c d) k in
         let i : S .index ≡ T .index = omega (arith, num-at m s a b S, num-at m s c d T) in
-        edge-same a b c d (sym (S .is) ∙ ap (λ (x : ℕ). getD s x (edge 0 0)) i ∙ T .is);
+        same-of-edge a b c d (sym (S .is) ∙ ap (λ (x : ℕ). getD s x (edge 0 0)) i ∙ T .is);
     one-end = λ k. edge-of k .lo;
     other-end = λ k. edge-of k .hi;
     ends = ends-are;

@@ -9,7 +9,7 @@ use lib.ListN.{length}
 use Rattle.meaning.specs.Mesh.{Mesh}
 use Rattle.meaning.specs.Coarsen.{goodNodes, allMarked, pass, Restored, restored}
 use Rattle.laws.specs.Restore.{Passes, none-good, one-pass, pass-fewer, restored-is, restored-ends}
-use Rattle.growth.specs.GrownFrom.{GrownFrom, from-end}
+use Rattle.growth.specs.GrownFrom.{GrownFrom, grown-end-is-base}
 use Rattle.growth.specs.Goodness.{good-there}
 use Rattle.growth.specs.Coarsening.{from-coarsened}
 
@@ -40,7 +40,7 @@ module _ (base : Mesh) where
       where
         go : Dec (length (base .nodes) < length (m .nodes)) → m ≡ base
         go (yes l) = let (z, i) = good-there base m G l in absurd (List·Memᴰ·not-nil (subst (List·Memᴰ z) e i))
-        go (no l) = from-end base m G (omega (arith, G .grown .enough))
+        go (no l) = grown-end-is-base base m G (omega (arith, G .grown .enough))
 
   -- RESTORE ENDS WITH THE BASE.
   pub restored-base : {m : Mesh} → GrownFrom base m → restored (length (base .nodes)) m .end ≡ base

@@ -32,8 +32,8 @@ rows m j = three (rowOf (m .tris) j)
 abbrev pub all-rows : Mesh → List (Corners ℕ)
 all-rows m = map three (m .tris)
 
-pub row-is : (m : Mesh) (j : ℕ) → row (all-rows m) j ≡ rows m j
-row-is m j = List·getD-map three (m .tris) j (tri 0 0 0)
+pub row-is-three : (m : Mesh) (j : ℕ) → row (all-rows m) j ≡ rows m j
+row-is-three m j = List·getD-map three (m .tris) j (tri 0 0 0)
 
 pub rows-length : (m : Mesh) → length (all-rows m) ≡ length (m .tris)
 rows-length m = length-map (m .tris) three
@@ -56,8 +56,8 @@ holds-node z t (is-r e) = or-right (eqb (t .p) z || eqb (t .q) z) (eq-eqb _ _ (s
 
 -- ---- edges
 
-pub edge-same : (a b c d : ℕ) → edge a b ≡ edge c d → Same a b c d
-edge-same a b c d e =
+pub same-of-edge : (a b c d : ℕ) → edge a b ≡ edge c d → Same a b c d
+same-of-edge a b c d e =
     let l : min a b ≡ min c d = ap (λ x. x .lo) e in
     let h : max a b ≡ max c d = ap (λ x. x .hi) e in
     go l h (eqb a c) refl
@@ -76,9 +76,9 @@ edge-mem t a b (edge-pq s) = List·Memᴰ·tail (List·Memᴰ·head (same-edge s
 edge-mem t a b (edge-rp s) = List·Memᴰ·tail (List·Memᴰ·tail (List·Memᴰ·head (same-edge s)))
 
 pub mem-edge : (t : Tri) (a b : ℕ) → List·Memᴰ (edge a b) (edges t) → Edge (three t) a b
-mem-edge t a b (List·Memᴰ·head e) = edge-qr (edge-same a b _ _ e)
-mem-edge t a b (List·Memᴰ·tail (List·Memᴰ·head e)) = edge-pq (edge-same a b _ _ e)
-mem-edge t a b (List·Memᴰ·tail (List·Memᴰ·tail (List·Memᴰ·head e))) = edge-rp (edge-same a b _ _ e)
+mem-edge t a b (List·Memᴰ·head e) = edge-qr (same-of-edge a b _ _ e)
+mem-edge t a b (List·Memᴰ·tail (List·Memᴰ·head e)) = edge-pq (same-of-edge a b _ _ e)
+mem-edge t a b (List·Memᴰ·tail (List·Memᴰ·tail (List·Memᴰ·head e))) = edge-rp (same-of-edge a b _ _ e)
 
 pub edge-held : (t : Tri) (a b : ℕ) → holdsEdge (edge a b) t ≡ true → Edge (three t) a b
 edge-held t a b h =
@@ -103,8 +103,8 @@ arrow-hits t a b (arrow-rp e f) = rw (e, f) (omega (arith, hit-self (t .r) (t .p
 
 module _ (m : Mesh) (law : Lawful m) where
   -- No directed edge is in two rows.
-  pub rows-once : RowsOnce (length (m .tris)) (rows m)
-  rows-once j k lj lk a b u v = go (decLt j k) (decLt k j)
+  pub arrow-in-one-row : RowsOnce (length (m .tris)) (rows m)
+  arrow-in-one-row j k lj lk a b u v = go (decLt j k) (decLt k j)
     where
       twice : (i l : ℕ) → i < l → l < length (m .tris) → Arrow (rows m i) a b → Arrow (rows m l) a b → ⊥
       twice i l h ll x y =
@@ -125,15 +125,15 @@ module _ (m : Mesh) (law : Lawful m) where
   -- No row stands twice.
   pub same-row : (j k : ℕ) → j < length (m .tris) → k < length (m .tris) → rowOf (m .tris) j ≡ rowOf (m .tris) k → j ≡ k
   same-row j k lj lk e =
-      rows-once j k lj lk (rowOf (m .tris) j .p) (rowOf (m .tris) j .q) (arrow-pq refl refl) (arrow-pq (ap (λ (t : Tri). t .p) e) (ap (λ (t : Tri). t .q) e))
+      arrow-in-one-row j k lj lk (rowOf (m .tris) j .p) (rowOf (m .tris) j .q) (arrow-pq refl refl) (arrow-pq (ap (λ (t : Tri). t .p) e) (ap (λ (t : Tri). t .q) e))
 
-  pub named-at : (j : ℕ) → j < length (m .tris) → Named (length (m .nodes)) (rowOf (m .tris) j)
-  named-at j l = All-getD (law .named) j (tri 0 0 0) l
+  pub row-named : (j : ℕ) → j < length (m .tris) → Named (length (m .nodes)) (rowOf (m .tris) j)
+  row-named j l = All-getD (law .named) j (tri 0 0 0) l
 
   nodes-below : (j : ℕ) → j < length (m .tris) → (x : ℕ) → Holds x (rows m j) → x < length (m .nodes)
-  nodes-below j l x (is-p e) = rw e (named-at j l .p-below)
-  nodes-below j l x (is-q e) = rw e (named-at j l .q-below)
-  nodes-below j l x (is-r e) = rw e (named-at j l .r-below)
+  nodes-below j l x (is-p e) = rw e (row-named j l .p-below)
+  nodes-below j l x (is-q e) = rw e (row-named j l .q-below)
+  nodes-below j l x (is-r e) = rw e (row-named j l .r-below)
 
   node-used : (z : ℕ) → z < length (m .nodes) → (j : ℕ) × (j < length (m .tris)) × Holds z (rows m j)
   node-used z l =
@@ -144,23 +144,23 @@ module _ (m : Mesh) (law : Lawful m) where
   -- ---- as the rows of a base
 
   pub base-below : (j : ℕ) → j < length (all-rows m) → (x : ℕ) → Holds x (row (all-rows m) j) → x < length (m .nodes)
-  base-below j l x h = nodes-below j (omega (arith, rows-length m)) x (subst (Holds x) (row-is m j) h)
+  base-below j l x h = nodes-below j (omega (arith, rows-length m)) x (subst (Holds x) (row-is-three m j) h)
 
   pub base-used : (k : ℕ) → k < length (m .nodes) → (j : ℕ) × (j < length (all-rows m)) × Holds k (row (all-rows m) j)
-  base-used k l = let (j, lj, h) = node-used k l in (j, omega (arith, rows-length m), subst (Holds k) (sym (row-is m j)) h)
+  base-used k l = let (j, lj, h) = node-used k l in (j, omega (arith, rows-length m), subst (Holds k) (sym (row-is-three m j)) h)
 
   pub base-compatible : Meaning.Compatible m → Compatible (all-rows m)
   base-compatible c = record { distinct = distinct; agrees = agrees }
     where
       distinct : (i : ℕ) → i < length (all-rows m) → Distinct (row (all-rows m) i)
-      distinct i l = let h = named-at i (omega (arith, rows-length m)) in rw (row-is m i) (record { p≢q = h .p≢q; q≢r = h .q≢r; r≢p = h .r≢p })
+      distinct i l = let h = row-named i (omega (arith, rows-length m)) in rw (row-is-three m i) (record { p≢q = h .p≢q; q≢r = h .q≢r; r≢p = h .r≢p })
 
       two : (t u : Tri) → List·Memᴰ t (m .tris) → List·Memᴰ u (m .tris) → Edge (three u) (t .q) (t .r) → Same (t .q) (t .r) (u .q) (u .r)
-      two t u i j e = edge-same _ _ _ _ (All-at (All-at c i) j (held-edge u (t .q) (t .r) e))
+      two t u i j e = same-of-edge _ _ _ _ (All-at (All-at c i) j (held-edge u (t .q) (t .r) e))
 
       agrees : (i j : ℕ) → i < length (all-rows m) → j < length (all-rows m) → Edge (row (all-rows m) i) (row (all-rows m) j .q) (row (all-rows m) j .r)
           → Same (row (all-rows m) j .q) (row (all-rows m) j .r) (row (all-rows m) i .q) (row (all-rows m) i .r)
       agrees i j li lj e =
-          rw (row-is m i, row-is m j)
+          rw (row-is-three m i, row-is-three m j)
           (two (rowOf (m .tris) j) (rowOf (m .tris) i) (at-mem (m .tris) j (tri 0 0 0) (omega (arith, rows-length m))) (at-mem (m .tris) i (tri 0 0 0) (omega (arith, rows-length m)))
-          (rw (row-is m i, row-is m j) at e))
+          (rw (row-is-three m i, row-is-three m j) at e))

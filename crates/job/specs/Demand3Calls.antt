@@ -15,7 +15,7 @@ use Rattle.meaning.specs.Coarsen.{restored}
 use Rattle.meaning.specs.Tables.{Given, Outcome, given, meshOf, roomOf}
 use Rattle.meaning.specs.Calls.{sizesFit, checkOut, refineOut, coarsenOut, restoreOut}
 use Rattle.laws.specs.TableMesh.{left-by}
-use Rattle.growth.specs.Demand3.{Removals, Left, begin, lent, refined-by, coarsened-by, restored-by, refused-by, checked-by, a-refine, a-coarsen, a-restore, still, baseAgain, Restores, demand3-tables}
+use Rattle.growth.specs.Demand3.{Removals, TablesReached, begin, lent, refined-by, coarsened-by, restored-by, refused-by, checked-by, a-refine, a-coarsen, a-restore, still, baseAgain, Restores, demand3-tables}
 
 -- A call that was made on the tables g: what it left, o, is what its contract ensures.
 pub data Made (g : Given) (o : Outcome) : Type 0 where
@@ -29,19 +29,19 @@ pub data Made (g : Given) (o : Outcome) : Type 0 where
 pub data Held (g₀ : Given) : Given → Type 0 where
   base-held : Held g₀ g₀
   -- scratch may be another table at every call
-  scratch-anew : {g : Given} → Held g₀ g → (s : List ℕ) → Held g₀ (given (g .nodes) (g .rows) s (g .n) (g .t))
+  scratch-anew : {g : Given} → Held g₀ g → (scratch : List ℕ) → Held g₀ (given (g .nodes) (g .rows) scratch (g .n) (g .t))
   -- an accepted refine, coarsen or restore with the base's node count, on the tables and counts left by the accepted call before
   after-refine : {g : Given} → Held g₀ g → (marks : List ℕ) (o : Outcome) → o ≡ refineOut newest g (g₀ .n) marks → o .answer .number ≡ 0 → Held g₀ (left-by o)
   after-coarsen : {g : Given} → Held g₀ g → (marks : List ℕ) (o : Outcome) → o ≡ coarsenOut g (g₀ .n) marks → o .answer .number ≡ 0 → Held g₀ (left-by o)
   after-restore : {g : Given} → Held g₀ g → (o : Outcome) → o ≡ restoreOut g (g₀ .n) → o .answer .number ≡ 0 → Held g₀ (left-by o)
   -- a refused call of any kind, with whatever counts, n0, marks and scratch: the counts held stay
-  after-refusal : {g : Given} → Held g₀ g → (s : List ℕ) (n t : ℕ) (o : Outcome) → Made (given (g .nodes) (g .rows) s n t) o → o .answer .number ≢ 0 →
+  after-refusal : {g : Given} → Held g₀ g → (scratch : List ℕ) (n t : ℕ) (o : Outcome) → Made (given (g .nodes) (g .rows) scratch n t) o → o .answer .number ≢ 0 →
       Held g₀ (still g o)
 
 -- What the user then finds.
 pub record Ends (g₀ g : Given) : Type 0 where
   -- while added nodes remain, each full pass (coarsen with all nodes marked) that is made removes at least one
-  pub pass-removes : g₀ .n < g .n → (o : Outcome) → o ≡ coarsenOut g (g₀ .n) (replicate (g .n) 1) → sizesFit g (g₀ .n) ≡ true →
+  pub pass-takes-one : g₀ .n < g .n → (o : Outcome) → o ≡ coarsenOut g (g₀ .n) (replicate (g .n) 1) → sizesFit g (g₀ .n) ≡ true →
       (o .answer .number ≡ 0) × (o .answer .n < g .n)
   -- restore with the base's node count is refused at most as 1, and that only where scratch is short
   pub refused-as-1 : (o : Outcome) → o ≡ restoreOut g (g₀ .n) → o .answer .number ≡ cases (sizesFit g (g₀ .n)) 0 1
@@ -49,47 +49,47 @@ pub record Ends (g₀ g : Given) : Type 0 where
   -- else it ends with the base row for row: node table, triangle table, counts, zeros past them, scratch zero
   pub base-again : (o : Outcome) → o ≡ restoreOut g (g₀ .n) → o .answer .number ≡ 0 → o ≡ baseAgain g₀ g
   -- after no more passes than there were added nodes
-  pub passes-few : (o : Outcome) → o ≡ restoreOut g (g₀ .n) → o .answer .number ≡ 0 → o .answer .passes + g₀ .n ≤ g .n
+  pub passes-bounded : (o : Outcome) → o ≡ restoreOut g (g₀ .n) → o .answer .number ≡ 0 → o .answer .passes + g₀ .n ≤ g .n
   -- and it reports their true number: so many full passes, each of which removed a node, lead to the base
   pub passes-true : (o : Outcome) → o ≡ restoreOut g (g₀ .n) → o .answer .number ≡ 0 → Removals (g₀ .n) (meshOf g) (o .answer .passes) (meshOf g₀)
 
 -- ---- the proof: each call's outcome is the definition's, by its contract
 
-left-as : (g₀ : Given) {g : Given} → Held g₀ g → Left g₀ g
-left-as g₀ base-held = begin
-left-as g₀ (scratch-anew h s) = lent (left-as g₀ h) s
-left-as g₀ (after-refine {g = g} h marks o e z) =
-    subst (λ x. Left g₀ (left-by x)) (sym e) (refined-by (left-as g₀ h) newest refl marks (ap (λ x. x .answer .number) (sym e) ∙ z))
-left-as g₀ (after-coarsen {g = g} h marks o e z) =
-    subst (λ x. Left g₀ (left-by x)) (sym e) (coarsened-by (left-as g₀ h) marks (ap (λ x. x .answer .number) (sym e) ∙ z))
-left-as g₀ (after-restore {g = g} h o e z) =
-    subst (λ x. Left g₀ (left-by x)) (sym e) (restored-by (left-as g₀ h) (ap (λ x. x .answer .number) (sym e) ∙ z))
-left-as g₀ (after-refusal {g = g} h s n t o m z) = go m (left-as g₀ h)
+held-reached : (g₀ : Given) {g : Given} → Held g₀ g → TablesReached g₀ g
+held-reached g₀ base-held = begin
+held-reached g₀ (scratch-anew h scratch) = lent (held-reached g₀ h) scratch
+held-reached g₀ (after-refine {g = g} h marks o e z) =
+    subst (λ x. TablesReached g₀ (left-by x)) (sym e) (refined-by (held-reached g₀ h) newest refl marks (ap (λ x. x .answer .number) (sym e) ∙ z))
+held-reached g₀ (after-coarsen {g = g} h marks o e z) =
+    subst (λ x. TablesReached g₀ (left-by x)) (sym e) (coarsened-by (held-reached g₀ h) marks (ap (λ x. x .answer .number) (sym e) ∙ z))
+held-reached g₀ (after-restore {g = g} h o e z) =
+    subst (λ x. TablesReached g₀ (left-by x)) (sym e) (restored-by (held-reached g₀ h) (ap (λ x. x .answer .number) (sym e) ∙ z))
+held-reached g₀ (after-refusal {g = g} h scratch n t o m z) = go m (held-reached g₀ h)
   where
-    go : Made (given (g .nodes) (g .rows) s n t) o → Left g₀ g → Left g₀ (still g o)
-    go (check-made e) l = subst (λ x. Left g₀ (still g x)) (sym e) (checked-by l s n t)
-    go (refine-made n0 marks e) l = subst (λ x. Left g₀ (still g x)) (sym e) (refused-by l s n t (a-refine newest n0 marks) (λ y. z (ap (λ x. x .answer .number) e ∙ y)))
-    go (coarsen-made n0 marks e) l = subst (λ x. Left g₀ (still g x)) (sym e) (refused-by l s n t (a-coarsen n0 marks) (λ y. z (ap (λ x. x .answer .number) e ∙ y)))
-    go (restore-made n0 e) l = subst (λ x. Left g₀ (still g x)) (sym e) (refused-by l s n t (a-restore n0) (λ y. z (ap (λ x. x .answer .number) e ∙ y)))
+    go : Made (given (g .nodes) (g .rows) scratch n t) o → TablesReached g₀ g → TablesReached g₀ (still g o)
+    go (check-made e) l = subst (λ x. TablesReached g₀ (still g x)) (sym e) (checked-by l scratch n t)
+    go (refine-made n0 marks e) l = subst (λ x. TablesReached g₀ (still g x)) (sym e) (refused-by l scratch n t (a-refine newest n0 marks) (λ y. z (ap (λ x. x .answer .number) e ∙ y)))
+    go (coarsen-made n0 marks e) l = subst (λ x. TablesReached g₀ (still g x)) (sym e) (refused-by l scratch n t (a-coarsen n0 marks) (λ y. z (ap (λ x. x .answer .number) e ∙ y)))
+    go (restore-made n0 e) l = subst (λ x. TablesReached g₀ (still g x)) (sym e) (refused-by l scratch n t (a-restore n0) (λ y. z (ap (λ x. x .answer .number) e ∙ y)))
 
 -- DEMAND 3 OF THE CALLS: the base check, made on g₀, said 0; then any calls; then what is found.
 pub demand3-calls : (g₀ : Given) (c : Outcome) → c ≡ checkOut g₀ → c .answer .number ≡ 0 → {g : Given} → Held g₀ g → Ends g₀ g
 demand3-calls g₀ c ce cz {g} h = record {
-  pass-removes = λ more o e f. subst (λ x. (x .answer .number ≡ 0) × (x .answer .n < g .n)) (sym e) (R .pass-fewer more f);
-  refused-as-1 = λ o e. ap (λ x. x .answer .number) e ∙ R .number-is;
+  pass-takes-one = λ more o e f. subst (λ x. (x .answer .number ≡ 0) × (x .answer .n < g .n)) (sym e) (R .pass-takes-one more f);
+  refused-as-1 = λ o e. ap (λ x. x .answer .number) e ∙ R .restore-says;
   scratch-alone = R .sizes-are;
   base-again = λ o e z. e ∙ R .back-to-base (fits (sizesFit g (g₀ .n)) refl o e z);
-  passes-few = λ o e z. subst (λ k. k + g₀ .n ≤ g .n) (sym (passes o e z)) (R .passes-few);
+  passes-bounded = λ o e z. subst (λ k. k + g₀ .n ≤ g .n) (sym (passes o e z)) (R .passes-bounded);
   passes-true = λ o e z. subst (λ k. Removals (g₀ .n) (meshOf g) k (meshOf g₀)) (sym (passes o e z)) (R .passes-remove);
 }
   where
     R : Restores g₀ g
-    R = demand3-tables g₀ (ap (λ x. x .answer .number) (sym ce) ∙ cz) (left-as g₀ h)
+    R = demand3-tables g₀ (ap (λ x. x .answer .number) (sym ce) ∙ cz) (held-reached g₀ h)
 
     fits : (b : Bool) → sizesFit g (g₀ .n) ≡ b → (o : Outcome) → o ≡ restoreOut g (g₀ .n) → o .answer .number ≡ 0 → sizesFit g (g₀ .n) ≡ true
     fits true q o e z = q
     fits false q o e z =
-        let one : _≡_ {A = ℕ} 0 1 = sym z ∙ ap (λ x. x .answer .number) e ∙ R .number-is ∙ ap (λ b. cases b 0 1) q in
+        let one : _≡_ {A = ℕ} 0 1 = sym z ∙ ap (λ x. x .answer .number) e ∙ R .restore-says ∙ ap (λ b. cases b 0 1) q in
         absurd (omega arith)
 
     passes : (o : Outcome) → o ≡ restoreOut g (g₀ .n) → o .answer .number ≡ 0 → o .answer .passes ≡ restored (g₀ .n) (meshOf g) .passes

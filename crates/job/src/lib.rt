@@ -15,35 +15,35 @@ fn at_most(n: usize) -> usize
 // A full pass: coarsen with all nodes marked. With more than 1,024 nodes it is refused whatever is marked.
 fn full_pass(
     nodes: &mut [i32],
-    tri: &mut [u32],
+    rows: &mut [u32],
     scratch: &mut [u32],
     n0: usize,
     n: usize,
     t: usize,
 ) -> Answer
-    ensures { λ r. ⌜ outcome r (now (nodes .exit)) (now (tri .exit)) (now (scratch .exit)) ≡ passOut (given (now (nodes .entry)) (now (tri .entry)) (now (scratch .entry)) n t) n0 ⌝ }
+    ensures { λ r. ⌜ outcome r (now (nodes .exit)) (now (rows .exit)) (now (scratch .exit)) ≡ passOut (given (now (nodes .entry)) (now (rows .entry)) (now (scratch .entry)) n t) n0 ⌝ }
 {
     let ones: [u8; 1024] = [1; 1024];
     let m = at_most(n);
-    mesh::coarsen(nodes, tri, scratch, &ones[..m], n0, n, t)
+    mesh::coarsen(nodes, rows, scratch, &ones[..m], n0, n, t)
 }
 
 // Restore makes passes while a good node exists. The last look, which finds none, is not counted.
 pub fn restore(
     nodes: &mut [i32],
-    tri: &mut [u32],
+    rows: &mut [u32],
     scratch: &mut [u32],
     n0: usize,
     n: usize,
     t: usize,
 ) -> Answer
-    ensures { λ r. ⌜ outcome r (now (nodes .exit)) (now (tri .exit)) (now (scratch .exit)) ≡ restoreOut (given (now (nodes .entry)) (now (tri .entry)) (now (scratch .entry)) n t) n0 ⌝ }
+    ensures { λ r. ⌜ outcome r (now (nodes .exit)) (now (rows .exit)) (now (scratch .exit)) ≡ restoreOut (given (now (nodes .entry)) (now (rows .entry)) (now (scratch .entry)) n t) n0 ⌝ }
 {
     let mut m = n;
     let mut u = t;
     let mut passes = 0;
     loop {
-        let a = full_pass(nodes, tri, scratch, n0, m, u);
+        let a = full_pass(nodes, rows, scratch, n0, m, u);
         if a.number != 0 {
             return Answer {
                 number: a.number,

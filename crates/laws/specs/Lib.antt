@@ -2,6 +2,7 @@ pub mod Area
 pub mod Edges
 pub mod Lawful
 pub mod Numbers
+pub mod Exact
 pub mod Check
 pub mod Closure
 pub mod Cut
@@ -22,5 +23,7 @@ pub mod Good
 pub mod CoarsenCalls
 pub mod EdgeArrow
 pub mod TableMesh
+pub mod CallLaw
+pub mod EmptyMesh
 pub mod OneOutcome
 pub mod StillLaw

@@ -2,14 +2,16 @@
 use mathlib.Core.Bool.{Bool, true, false}
 use mathlib.Core.List.{List}
 use mathlib.Core.Logic.{_↔_}
-use mathlib.Core.Path.{_≡_, refl, sym, _∙_}
-use Prim.Native.Nat.{ℕ, _≤_}
+use mathlib.Core.Path.{_≡_}
+use Prim.Native.Nat.{ℕ, zero, suc, _≤_}
+use native.Mathlib.Omega.{arith}
 use lib.Dec.{eqb, leb}
-use lib.ListN.{length}
+use lib.ListN.{length, replicate, length-replicate}
 use borrow.Author.Tests.{eqb-true, eq-eqb, leb-true, le-leb}
-use Rattle.lists.specs.Lists.{all, All}
-use Rattle.lists.specs.ListsLaw.{clash, and-both, and-left, and-right, All-imp, all-yes, yes-all}
+use Rattle.lists.specs.Lists.{all, All, nil, cons}
+use Rattle.lists.specs.ListsLaw.{and-both, and-left, and-right, All-imp, all-yes, yes-all}
 use Rattle.meaning.specs.Calls.{marksFit}
+use Rattle.laws.specs.Exact.{unfit}
 
 -- a byte for each of k triangles or nodes, 0 or 1
 pub record WellMarked (k : ℕ) (marks : List ℕ) : Type 0 where
@@ -32,8 +34,12 @@ marks-exact k marks = (there, back)
     back h = and-both (eq-eqb (length marks) k (h .as-many)) (yes-all (All-imp (λ b l. le-leb b 1 l) (h .zero-or-one)))
 
 pub marks-unfit : (k : ℕ) (marks : List ℕ) → (marksFit k marks ≡ false) ↔ (¬ WellMarked k marks)
-marks-unfit k marks = (λ e h. clash (sym (marks-exact k marks .1 h) ∙ e), λ n. go (marksFit k marks) refl n)
+marks-unfit k marks = unfit (marksFit k marks) (marks-exact k marks)
+
+-- all marked
+pub ones-fit : (k : ℕ) → WellMarked k (replicate k 1)
+ones-fit k = record { as-many = length-replicate k 1; zero-or-one = ones k }
   where
-    go : (b : Bool) → marksFit k marks ≡ b → (¬ WellMarked k marks) → b ≡ false
-    go true e n = absurd (n (marks-exact k marks .0 e))
-    go false e n = refl
+    ones : (k : ℕ) → All (λ b. b ≤ 1) (replicate k 1)
+    ones zero = nil
+    ones (suc k) = cons {x = 1} (omega arith) (ones k)

@@ -1,31 +1,64 @@
--- A contract that equates the answer and every table after a call with one function's value admits a single outcome. Assumes nothing.
+-- A contract that equates the answer and every table after a call with one function's value admits a single outcome: two runs that were
+-- given the same show the same number, counts, passes and tables. Assumes nothing.
 use mathlib.Core.List.{List}
-use mathlib.Core.Path.{_≡_, sym, _∙_}
+use mathlib.Core.Path.{_≡_, sym, ap, _∙_}
 use Prim.Native.Nat.{ℕ}
 use lib.IntN.{ℤ}
 use Rattle.meaning.specs.declared.Answer.{Answer}
-use Rattle.meaning.specs.Tables.{Given, Outcome, outcome}
+use Rattle.meaning.specs.Tables.{Given, Outcome, outcome, answer}
 use Rattle.meaning.specs.Split.{newest}
 use Rattle.meaning.specs.Calls.{checkOut, refineOut, coarsenOut, restoreOut}
 
 -- two runs of a call that was given the same, and that meets its contract in both
 pub one-outcome : {given-to : Outcome} {a b : Answer} {ns ns′ : List ℤ} {rs rs′ s s′ : List ℕ} →
-    outcome a ns rs s ≡ given-to → outcome b ns′ rs′ s′ ≡ given-to → outcome a ns rs s ≡ outcome b ns′ rs′ s′
-one-outcome p q = p ∙ sym q
+    outcome a ns rs s ≡ given-to → outcome b ns′ rs′ s′ ≡ given-to → (a ≡ b) × (ns ≡ ns′) × (rs ≡ rs′) × (s ≡ s′)
+one-outcome p q =
+    let e = p ∙ sym q in
+    (ap (λ (o : Outcome). o .answer) e, ap (λ (o : Outcome). o .nodes) e, ap (λ (o : Outcome). o .rows) e, ap (λ (o : Outcome). o .scratch) e)
 
--- the public calls
+-- ---- the public calls
+
 pub check-one : (g : Given) {a b : Answer} {ns ns′ : List ℤ} {rs rs′ s s′ : List ℕ} →
-    outcome a ns rs s ≡ checkOut g → outcome b ns′ rs′ s′ ≡ checkOut g → outcome a ns rs s ≡ outcome b ns′ rs′ s′
-check-one g p q = one-outcome p q
+    outcome a ns rs s ≡ checkOut g → outcome b ns′ rs′ s′ ≡ checkOut g → (a ≡ b) × (ns ≡ ns′) × (rs ≡ rs′) × (s ≡ s′)
+check-one g = one-outcome
 
 pub refine-one : (g : Given) (n0 : ℕ) (marks : List ℕ) {a b : Answer} {ns ns′ : List ℤ} {rs rs′ s s′ : List ℕ} →
-    outcome a ns rs s ≡ refineOut newest g n0 marks → outcome b ns′ rs′ s′ ≡ refineOut newest g n0 marks → outcome a ns rs s ≡ outcome b ns′ rs′ s′
-refine-one g n0 marks p q = one-outcome p q
+    outcome a ns rs s ≡ refineOut newest g n0 marks → outcome b ns′ rs′ s′ ≡ refineOut newest g n0 marks → (a ≡ b) × (ns ≡ ns′) × (rs ≡ rs′) × (s ≡ s′)
+refine-one g n0 marks = one-outcome
 
 pub coarsen-one : (g : Given) (n0 : ℕ) (marks : List ℕ) {a b : Answer} {ns ns′ : List ℤ} {rs rs′ s s′ : List ℕ} →
-    outcome a ns rs s ≡ coarsenOut g n0 marks → outcome b ns′ rs′ s′ ≡ coarsenOut g n0 marks → outcome a ns rs s ≡ outcome b ns′ rs′ s′
-coarsen-one g n0 marks p q = one-outcome p q
+    outcome a ns rs s ≡ coarsenOut g n0 marks → outcome b ns′ rs′ s′ ≡ coarsenOut g n0 marks → (a ≡ b) × (ns ≡ ns′) × (rs ≡ rs′) × (s ≡ s′)
+coarsen-one g n0 marks = one-outcome
 
 pub restore-one : (g : Given) (n0 : ℕ) {a b : Answer} {ns ns′ : List ℤ} {rs rs′ s s′ : List ℕ} →
-    outcome a ns rs s ≡ restoreOut g n0 → outcome b ns′ rs′ s′ ≡ restoreOut g n0 → outcome a ns rs s ≡ outcome b ns′ rs′ s′
-restore-one g n0 p q = one-outcome p q
+    outcome a ns rs s ≡ restoreOut g n0 → outcome b ns′ rs′ s′ ≡ restoreOut g n0 → (a ≡ b) × (ns ≡ ns′) × (rs ≡ rs′) × (s ≡ s′)
+restore-one g n0 = one-outcome
+
+-- ---- the exported calls, whose answers come apart: r is the number returned; n, t and p are what the references hold after the call
+
+one-seen : {given-to : Outcome} {r r′ n n′ t t′ p p′ : ℕ} {ns ns′ : List ℤ} {rs rs′ s s′ : List ℕ} →
+    outcome (answer r n t p) ns rs s ≡ given-to → outcome (answer r′ n′ t′ p′) ns′ rs′ s′ ≡ given-to →
+    (r ≡ r′) × (n ≡ n′) × (t ≡ t′) × (p ≡ p′) × (ns ≡ ns′) × (rs ≡ rs′) × (s ≡ s′)
+one-seen p q =
+    let (e, ns, rs, s) = one-outcome p q in
+    (ap (λ (a : Answer). a .number) e, ap (λ (a : Answer). a .n) e, ap (λ (a : Answer). a .t) e, ap (λ (a : Answer). a .passes) e, ns, rs, s)
+
+pub exported-check-one : (g : Given) {r r′ : ℕ} {ns ns′ : List ℤ} {rs rs′ s s′ : List ℕ} →
+    outcome (answer r (g .n) (g .t) 0) ns rs s ≡ checkOut g → outcome (answer r′ (g .n) (g .t) 0) ns′ rs′ s′ ≡ checkOut g →
+    (r ≡ r′) × (ns ≡ ns′) × (rs ≡ rs′) × (s ≡ s′)
+exported-check-one g p q = let (r, n, t, k, ns, rs, s) = one-seen p q in (r, ns, rs, s)
+
+pub exported-refine-one : (g : Given) (n0 : ℕ) (marks : List ℕ) {r r′ n n′ t t′ : ℕ} {ns ns′ : List ℤ} {rs rs′ s s′ : List ℕ} →
+    outcome (answer r n t 0) ns rs s ≡ refineOut newest g n0 marks → outcome (answer r′ n′ t′ 0) ns′ rs′ s′ ≡ refineOut newest g n0 marks →
+    (r ≡ r′) × (n ≡ n′) × (t ≡ t′) × (ns ≡ ns′) × (rs ≡ rs′) × (s ≡ s′)
+exported-refine-one g n0 marks p q = let (r, n, t, k, ns, rs, s) = one-seen p q in (r, n, t, ns, rs, s)
+
+pub exported-coarsen-one : (g : Given) (n0 : ℕ) (marks : List ℕ) {r r′ n n′ t t′ : ℕ} {ns ns′ : List ℤ} {rs rs′ s s′ : List ℕ} →
+    outcome (answer r n t 0) ns rs s ≡ coarsenOut g n0 marks → outcome (answer r′ n′ t′ 0) ns′ rs′ s′ ≡ coarsenOut g n0 marks →
+    (r ≡ r′) × (n ≡ n′) × (t ≡ t′) × (ns ≡ ns′) × (rs ≡ rs′) × (s ≡ s′)
+exported-coarsen-one g n0 marks p q = let (r, n, t, k, ns, rs, s) = one-seen p q in (r, n, t, ns, rs, s)
+
+pub exported-restore-one : (g : Given) (n0 : ℕ) {r r′ n n′ t t′ p p′ : ℕ} {ns ns′ : List ℤ} {rs rs′ s s′ : List ℕ} →
+    outcome (answer r n t p) ns rs s ≡ restoreOut g n0 → outcome (answer r′ n′ t′ p′) ns′ rs′ s′ ≡ restoreOut g n0 →
+    (r ≡ r′) × (n ≡ n′) × (t ≡ t′) × (p ≡ p′) × (ns ≡ ns′) × (rs ≡ rs′) × (s ≡ s′)
+exported-restore-one g n0 = one-seen

@@ -2,8 +2,8 @@
 -- When it says 0: the split edges are the least closed set, and the mesh it leaves is lawful, of the same total, and what splitting
 -- makes of it. Assumes nothing.
 use mathlib.Core.Bool.{Bool, true, false, _&&_}
-use mathlib.Core.List.{List, [], _∷_, _++_, map, List·Memᴰ, List·Memᴰ·head, List·Memᴰ·tail}
-use mathlib.Core.Logic.{_↔_}
+use mathlib.Core.List.{List, [], _∷_, _++_, map, List·Memᴰ, List·Memᴰ·head, List·Memᴰ·tail, List·Memᴰ·eq-of-singleton}
+use mathlib.Core.Logic.{_↔_, _≢_, _⊎_, inl, inr}
 use mathlib.Core.Path.{_≡_, refl, sym, subst, _∙_}
 use Prim.Native.Nat.{ℕ, zero, suc, _+_, _%_, _≤_, _<_}
 use native.Mathlib.Omega.{arith}
@@ -15,15 +15,16 @@ use Rattle.lists.specs.Lists.{all, count, joined, All, nil, cons}
 use Rattle.lists.specs.ListsLaw.{clash, and-both, and-left, and-right, All-imp, All-at, All-getD, all-yes, yes-all}
 use Rattle.lists.specs.Tally.{tally}
 use Rattle.meaning.specs.declared.Tri.{Tri}
-use Rattle.meaning.specs.Mesh.{Mesh, Edge, edges, at, total}
-use Rattle.meaning.specs.Lawful.{Lawful, Applies, out-of-range, misnames, occurs-twice, not-above, in-none, Lowest, refusal}
+use Rattle.meaning.specs.Mesh.{Mesh, Edge, edges, base, at, total}
+use Rattle.meaning.specs.Lawful.{Lawful, Applies, out-of-range, misnames, occurs-twice, not-above, in-none, Lowest, refusal, rowOf}
 use Rattle.meaning.specs.Good.{Middle}
 use Rattle.meaning.specs.Split.{Closed, memEdge, Way, newest, even, halves, midpoint, cutOf, splitEdges, splitAt, started, split, refined}
 use Rattle.meaning.specs.Tables.{Room}
 use Rattle.meaning.specs.Calls.{unless, orElse, marksFit, fits, refineNo}
-use Rattle.laws.specs.Lawful.{refusal-lawful, lawful-refusal, refusal-exact}
-use Rattle.laws.specs.Marks.{WellMarked, marks-exact}
-use Rattle.laws.specs.Closure.{Apart, splitEdges-closed, splitEdges-least, splitEdges-apart, started-edges}
+use Rattle.laws.specs.Exact.{refuted, orElse-first}
+use Rattle.laws.specs.Lawful.{refusal-lawful, lawful-refusal, refusal-exact, lowest-one}
+use Rattle.laws.specs.Marks.{WellMarked, marks-exact, marks-unfit}
+use Rattle.laws.specs.Closure.{Apart, splitEdges-closed, splitEdges-least, splitEdges-apart, started-marked, started-only, started-edges}
 use Rattle.laws.specs.Cut.{CutLaws}
 use Rattle.laws.specs.Bisected.{bisected-laws}
 use Rattle.laws.specs.Midpoints.{midpoint-middle}
@@ -51,6 +52,19 @@ refine-splits w own m marks = record {
 
 pub newest-splits : (m : Mesh) (marks : List ℕ) → Least (m .tris) (started newest marks (m .tris)) (toSplit newest m marks)
 newest-splits = refine-splits newest (λ t. cons (List·Memᴰ·head refl) nil)
+
+-- THE START SET: the starting edges of every marked row, and no other edge
+pub started-exactly : (w : Way) (marks : List ℕ) (ts : List Tri) (e : Edge) →
+    List·Memᴰ e (started w marks ts) ↔ ((i : ℕ) × (i < length ts) × (getD marks i 0 ≡ 1) × List·Memᴰ e (w .starts (rowOf ts i)))
+started-exactly w marks ts e = (λ j. All-at (started-only w marks ts) j, λ r. All-at (started-marked w marks ts (r .0) (r .1) (r .2)) (r .3))
+
+-- "the refinement edge of every marked triangle"
+pub newest-started : (marks : List ℕ) (ts : List Tri) (e : Edge) →
+    List·Memᴰ e (started newest marks ts) ↔ ((i : ℕ) × (i < length ts) × (getD marks i 0 ≡ 1) × (e ≡ base (rowOf ts i)))
+newest-started marks ts e = (
+  λ j. (let r = started-exactly newest marks ts e .0 j in (r .0, r .1, r .2, List·Memᴰ·eq-of-singleton (r .3))),
+  λ r. started-exactly newest marks ts e .1 (r .0, r .1, r .2, List·Memᴰ·head (r .3)),
+)
 
 -- ---- 8: "an edge to be split has an odd sum of x or of y"
 
@@ -114,14 +128,6 @@ fits-no room m e = go (leb (length (m .nodes)) (room .nodes)) refl (leb (length 
 
 -- ---- what the call says
 
-refuted : (b : Bool) → (b ≡ true → ⊥) → b ≡ false
-refuted true h = absurd (h refl)
-refuted false h = refl
-
-orElse-first : (k later : ℕ) → 0 < k → orElse k later ≡ k
-orElse-first zero later h = absurd (omega arith)
-orElse-first (suc k) later h = refl
-
 module _ (w : Way) (room : Room) (m : Mesh) (marks : List ℕ) where
   -- when each number is given, line by line
   pub data RefineSays : ℕ → Type 0 where
@@ -166,11 +172,11 @@ module _ (w : Way) (room : Room) (m : Mesh) (marks : List ℕ) where
       marked : (b : Bool) → marksFit (length (m .tris)) marks ≡ b →
           RefineSays (unless b 2 (orElse (refusal m) (unless (all (halves m) (toSplit w m marks)) 8 (unless (fits room (refined w m marks)) 9 0))))
       marked true q = lawful (marks-exact (length (m .tris)) marks .0 q) (refusal m) refl
-      marked false q = ill-marked (λ h. clash (sym (marks-exact (length (m .tris)) marks .1 h) ∙ q))
+      marked false q = ill-marked (marks-unfit (length (m .tris)) marks .0 q)
 
   says-refine : {k : ℕ} → RefineSays k → refineNo w room m marks ≡ k
   unfolding refineNo
-  says-refine (ill-marked f) = rw (refuted (marksFit (length (m .tris)) marks) (λ e. f (marks-exact (length (m .tris)) marks .0 e)))
+  says-refine (ill-marked f) = rw (marks-unfit (length (m .tris)) marks .1 f)
   says-refine (unlawful k g above l) =
       rw (marks-exact (length (m .tris)) marks .1 g, refusal-exact m k .1 l)
       (orElse-first k (unless (all (halves m) (toSplit w m marks)) 8 (unless (fits room (refined w m marks)) 9 0)) above)
@@ -237,6 +243,17 @@ module _ (w : Way) (room : Room) (m : Mesh) (marks : List ℕ) where
           go : RefineSays 0 → All (λ e. ¬ OddSum m e) (toSplit w m marks) × Fits room (refined w m marks)
           go (no-fault g law h f) = (h, f)
           go (unlawful k g above l) = absurd (omega arith)
+
+      -- "refused only as 8 or 9"
+      pub refine-only-8-9 : refineNo w room m marks ≢ 0 → (refineNo w room m marks ≡ 8) ⊎ (refineNo w room m marks ≡ 9)
+      refine-only-8-9 n = go refine-says n
+        where
+          go : {k : ℕ} → RefineSays k → k ≢ 0 → (k ≡ 8) ⊎ (k ≡ 9)
+          go (ill-marked f) n = absurd (f g)
+          go (unlawful k g above l) n = absurd (n (lowest-one k 0 l (refusal-exact m 0 .0 (lawful-refusal m law))))
+          go (odd-sum g law e i o) n = inl refl
+          go (no-room g law h t) n = inr refl
+          go (no-fault g law h f) n = absurd (n refl)
 
 -- ---- done
 

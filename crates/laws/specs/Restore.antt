@@ -6,7 +6,7 @@ use mathlib.Core.Logic.{_↔_}
 use mathlib.Core.Path.{_≡_, refl, sym, subst, ap, _∙_}
 use Prim.Native.Nat.{ℕ, zero, suc, _+_, _≤_, _<_}
 use native.Mathlib.Omega.{arith}
-use lib.ListN.{length}
+use lib.ListN.{length, replicate}
 use Rattle.lists.specs.Lists.{upTo}
 use Rattle.lists.specs.ListsLaw.{All-imp, All-at}
 use Rattle.lists.specs.MembersLaw.{only-in, only-passes, only-keeps, only-cong, upTo-below, upTo-in}
@@ -31,6 +31,10 @@ all-marked : (ns : List Place) (z : ℕ) → z < length ns → marked (allMarked
 all-marked [] z h = absurd (omega arith)
 all-marked (a ∷ ns) zero h = refl
 all-marked (a ∷ ns) (suc z) h = all-marked ns z (omega arith)
+
+pub ones-mark-all : (ns : List Place) → replicate (length ns) 1 ≡ allMarked ns
+ones-mark-all [] = refl
+ones-mark-all (a ∷ ns) = ap (λ l. 1 ∷ l) (ones-mark-all ns)
 
 module _ (n0 : ℕ) (m : Mesh) where
   -- a full pass takes the good nodes
@@ -65,10 +69,10 @@ module _ (n0 : ℕ) (m : Mesh) where
 
 -- ---- restore, pass by pass
 
-abbrev pub done : Mesh → ℕ → Restored
-done m k = record { end = m; passes = k }
+abbrev pub endsAt : Mesh → ℕ → Restored
+endsAt m k = record { end = m; passes = k }
 
-run-stop : (k n0 : ℕ) (m : Mesh) → goodNodes n0 m ≡ [] → run k n0 m ≡ done m 0
+run-stop : (k n0 : ℕ) (m : Mesh) → goodNodes n0 m ≡ [] → run k n0 m ≡ endsAt m 0
 run-stop zero n0 m e = refl
 run-stop (suc k) n0 m e = ap (λ l. more l m (run k n0 (pass n0 m))) e
 
@@ -85,16 +89,16 @@ run-enough (suc j) (suc k) n0 m h l = go (goodNodes n0 m) refl (run-enough j k n
 
 module _ (n0 : ℕ) (m : Mesh) where
   -- no good node: nothing is done
-  pub restored-stop : goodNodes n0 m ≡ [] → restored n0 m ≡ done m 0
+  pub restored-stop : goodNodes n0 m ≡ [] → restored n0 m ≡ endsAt m 0
   unfolding restored
   restored-stop e = run-stop (length (m .nodes)) n0 m e
 
   -- a good node: one pass, and on from there
-  pub restored-step : (z : ℕ) (zs : List ℕ) → goodNodes n0 m ≡ z ∷ zs → restored n0 m ≡ done (restored n0 (pass n0 m) .end) (suc (restored n0 (pass n0 m) .passes))
+  pub restored-step : (z : ℕ) (zs : List ℕ) → goodNodes n0 m ≡ z ∷ zs → restored n0 m ≡ endsAt (restored n0 (pass n0 m) .end) (suc (restored n0 (pass n0 m) .passes))
   unfolding restored
   restored-step z zs e = go (length (m .nodes)) refl
     where
-      go : (k : ℕ) → length (m .nodes) ≡ k → run k n0 m ≡ done (run (length (pass n0 m .nodes)) n0 (pass n0 m) .end) (suc (run (length (pass n0 m .nodes)) n0 (pass n0 m) .passes))
+      go : (k : ℕ) → length (m .nodes) ≡ k → run k n0 m ≡ endsAt (run (length (pass n0 m .nodes)) n0 (pass n0 m) .end) (suc (run (length (pass n0 m .nodes)) n0 (pass n0 m) .passes))
       go zero w = let f = pass-fewer n0 m z zs e in absurd (omega arith)
       go (suc k) w =
           let f = pass-fewer n0 m z zs e in
@@ -104,8 +108,8 @@ module _ (n0 : ℕ) (m : Mesh) where
 
 -- "Restore makes passes while a good node exists. The passes reported are those made; the last look that finds none is not counted."
 pub data Passes (n0 : ℕ) : Mesh → Restored → Type 0 where
-  none-good : {m : Mesh} → goodNodes n0 m ≡ [] → Passes n0 m (done m 0)
-  one-pass : {m : Mesh} {r : Restored} (z : ℕ) (zs : List ℕ) → goodNodes n0 m ≡ z ∷ zs → Passes n0 (pass n0 m) r → Passes n0 m (done (r .end) (suc (r .passes)))
+  none-good : {m : Mesh} → goodNodes n0 m ≡ [] → Passes n0 m (endsAt m 0)
+  one-pass : {m : Mesh} {r : Restored} (z : ℕ) (zs : List ℕ) → goodNodes n0 m ≡ z ∷ zs → Passes n0 (pass n0 m) r → Passes n0 m (endsAt (r .end) (suc (r .passes)))
 
 run-is : (k n0 : ℕ) (m : Mesh) → length (m .nodes) ≤ k → Passes n0 m (run k n0 m)
 run-is zero n0 m h = none-good (no-nodes n0 m (omega arith))
@@ -143,6 +147,12 @@ passes-kept : {n0 : ℕ} {m : Mesh} {r : Restored} → Passes n0 m r → Lawful 
 passes-kept {n0} {m} (none-good e) law le = kept-self n0 m law le
 passes-kept {n0} {m} (one-pass z zs e p) law le = let k = pass-kept n0 m law le in kept-on k (passes-kept p (k .lawful) (k .base-there))
 
+-- and no pass adds a row
+passes-rows : {n0 : ℕ} {m : Mesh} {r : Restored} → Passes n0 m r → Lawful m → n0 ≤ length (m .nodes) → length (r .end .tris) ≤ length (m .tris)
+passes-rows (none-good e) law le = omega arith
+passes-rows {n0} {m} (one-pass z zs e p) law le =
+    let k = pass-kept n0 m law le in omega (arith, passes-rows p (k .lawful) (k .base-there), pass-gone n0 m law .row-count)
+
 module _ (n0 : ℕ) (m : Mesh) where
   -- no good node is left
   pub restored-ends : goodNodes n0 (restored n0 m .end) ≡ []
@@ -154,6 +164,9 @@ module _ (n0 : ℕ) (m : Mesh) where
   module _ (law : Lawful m) (le : n0 ≤ length (m .nodes)) where
     pub restored-kept : Kept n0 m (restored n0 m .end)
     restored-kept = passes-kept (restored-is n0 m) law le
+
+    pub restored-rows : length (restored n0 m .end .tris) ≤ length (m .tris)
+    restored-rows = passes-rows (restored-is n0 m) law le
 
     -- no more passes than nodes were added
     pub restored-passes : restored n0 m .passes + n0 ≤ length (m .nodes)

@@ -69,9 +69,9 @@ length-start s zero = refl
 length-start s (suc n) = ap suc (length-start s n)
 
 -- A stream's starts are on it.
-pub on-start : (s : Stream) (n : ℕ) → on (start s n) s
-on-start s zero = tt
-on-start s (suc n) = (ap s (length-start s n), on-start s n)
+pub on-start-of : (s : Stream) (n : ℕ) → on (start s n) s
+on-start-of s zero = tt
+on-start-of s (suc n) = (ap s (length-start s n), on-start-of s n)
 
 -- A path on a stream is the stream's start of that length: so there is one of each length.
 pub is-start : (w : Path) (s : Stream) → on w s → start s (length w) ≡ w

@@ -1,0 +1,202 @@
+-- DEMAND 2 OF THE CALLS. Every premise on a call is the equation that its contract ensures, so that what is said here holds of any run of
+-- the calls themselves: mesh::check, mesh::refine, mesh::coarsen (crates/mesh/src/lib.rt) and job::restore (crates/job/src/lib.rt).
+-- What `Answers`, `Holds` and `AsGiven` say of tables stands in crates/laws/specs/CallLaw.antt. Assumes nothing.
+use mathlib.Core.List.{List, List·Memᴰ, List·Memᴰ·head}
+use mathlib.Core.Logic.{_↔_, _≢_, _⊎_}
+use mathlib.Core.Path.{_≡_, refl, sym, subst, ap, _∙_}
+use Prim.Native.Nat.{ℕ, _*_, _/_, _≤_}
+use native.Mathlib.Omega.{arith}
+use lib.ListN.{length}
+use Rattle.lists.specs.Lists.{All, nil, cons}
+use Rattle.meaning.specs.declared.Tri.{Tri}
+use Rattle.meaning.specs.Mesh.{Mesh, Edge, edges}
+use Rattle.meaning.specs.Lawful.{Lawful, Lowest, refusal}
+use Rattle.meaning.specs.Split.{Way, newest, started, refined}
+use Rattle.meaning.specs.Coarsen.{coarsened, restored}
+use Rattle.meaning.specs.Tables.{Given, Outcome, meshOf, roomOf}
+use Rattle.meaning.specs.Calls.{checkNo, refineNo, coarsenNo, checkOut, refineOut, coarsenOut, restoreOut}
+use Rattle.laws.specs.Lawful.{refusal-lawful, refusal-exact, applies-from-3}
+use Rattle.laws.specs.Check.{CheckSays, unlawful-base, check-exact}
+use Rattle.laws.specs.Marks.{WellMarked}
+use Rattle.laws.specs.Cut.{CutLaws}
+use Rattle.laws.specs.Bisected.{bisected-laws}
+use Rattle.laws.specs.Refine.{toSplit, Least, OddSum, Fits, TooMany, RefineSays, unlawful, Refined, refine-splits, refine-exact, refine-8, refine-9, refine-0, refine-only-8-9, refine-done}
+use Rattle.laws.specs.CoarsenCalls.{Coarsened, CoarsenSays, well-marked, RestoreDone, coarsen-exact, coarsen-0, coarsen-done, restore-done}
+use Rattle.laws.specs.Restore.{restored-fewer, restored-rows}
+use Rattle.laws.specs.TableMesh.{nodes-count, rows-count, left-by}
+use Rattle.laws.specs.CallLaw.{Sizes, sizes-exact, AsGiven, Holds, Answers, CallLeaves, call-answers, done-holds, check-leaves, refine-leaves, coarsen-leaves, restore-leaves}
+
+-- ---- what a user finds
+
+pub record CheckMade (g : Given) (o : Outcome) : Type 0 where
+  pub answered : Answers g 0 (CheckSays (meshOf g)) o
+  -- after 0 too: "the base check writes no table but scratch"
+  pub never-written : AsGiven g o
+
+-- of a lawful mesh with lawful marks: refused only as 8 or 9, and exactly when
+pub record OfLawful (w : Way) (g : Given) (marks : List ℕ) (k : ℕ) : Type 0 where
+  pub only-8-or-9 : k ≢ 0 → (k ≡ 8) ⊎ (k ≡ 9)
+  pub exactly-8 : (k ≡ 8) ↔ ((e : Edge) × List·Memᴰ e (toSplit w (meshOf g) marks) × OddSum (meshOf g) e)
+  pub exactly-9 : (k ≡ 9) ↔ (All (λ e. ¬ OddSum (meshOf g) e) (toSplit w (meshOf g) marks) × TooMany (roomOf g) (refined w (meshOf g) marks))
+  pub exactly-0 : (k ≡ 0) ↔ (All (λ e. ¬ OddSum (meshOf g) e) (toSplit w (meshOf g) marks) × Fits (roomOf g) (refined w (meshOf g) marks))
+
+-- after 0
+pub record RefineDone (w : Way) (g : Given) (marks : List ℕ) (o : Outcome) : Type 1 where
+  -- the tables hold the refined mesh, zeros past it
+  pub holds : Holds g (refined w (meshOf g) marks) o
+  -- which is lawful, of the same total, with the nodes and rows that splitting makes
+  pub is-refined : Refined w (roomOf g) (meshOf g) marks (meshOf (left-by o))
+  -- and the edges that are split are the least closed set
+  pub splits-least : Least (meshOf g .tris) (started w marks (meshOf g .tris)) (toSplit w (meshOf g) marks)
+  pub reports-none : o .answer .passes ≡ 0
+
+pub record RefineMade (w : Way) (g : Given) (n0 : ℕ) (marks : List ℕ) (o : Outcome) : Type 1 where
+  pub answered : Answers g n0 (RefineSays w (roomOf g) (meshOf g) marks) o
+  pub of-lawful : Sizes g n0 → WellMarked (g .t) marks → Lawful (meshOf g) → OfLawful w g marks (o .answer .number)
+  pub leaves-refined : o .answer .number ≡ 0 → RefineDone w g marks o
+
+pub record CoarsenDone (g : Given) (n0 : ℕ) (marks : List ℕ) (o : Outcome) : Type 0 where
+  -- the tables hold the coarsened mesh, zeros past it
+  pub holds : Holds g (coarsened n0 (meshOf g) marks) o
+  -- exactly the marked good nodes are gone; the mesh is lawful, of the same total, with the base nodes
+  pub is-coarsened : Coarsened n0 (meshOf g) marks (meshOf (left-by o))
+  pub reports-none : o .answer .passes ≡ 0
+
+pub record CoarsenMade (g : Given) (n0 : ℕ) (marks : List ℕ) (o : Outcome) : Type 0 where
+  pub answered : Answers g n0 (CoarsenSays (meshOf g) marks) o
+  -- a lawful mesh with lawful marks is not refused
+  pub of-lawful : Sizes g n0 → WellMarked (g .n) marks → Lawful (meshOf g) → o .answer .number ≡ 0
+  pub leaves-coarsened : o .answer .number ≡ 0 → CoarsenDone g n0 marks o
+
+pub record RestoreLeft (g : Given) (n0 : ℕ) (o : Outcome) : Type 0 where
+  pub holds : Holds g (restored n0 (meshOf g) .end) o
+  -- full passes while a good node exists, lawful, of the same total, with the base nodes
+  pub is-restored : RestoreDone n0 (meshOf g)
+  pub reports-made : o .answer .passes ≡ restored n0 (meshOf g) .passes
+
+-- (what the passes come to from a base that the check admits is demand 3)
+pub record RestoreMade (g : Given) (n0 : ℕ) (o : Outcome) : Type 0 where
+  -- 0 exactly of a lawful mesh (`lowest-0`), 3 to 7 exactly if the number is the lowest that applies
+  pub answered : Answers g n0 (Lowest (meshOf g)) o
+  pub leaves-restored : o .answer .number ≡ 0 → RestoreLeft g n0 o
+
+-- ---- the proof
+
+no-1 : (m : Mesh) → ¬ Lowest m 1
+no-1 m l = omega (arith, applies-from-3 m 1 (refusal-exact m 1 .1 l) (omega arith))
+
+-- what fits the rooms fits the tables
+fits-tables : (a b n t : ℕ) → n ≤ a / 2 → t ≤ b / 3 → (2 * n ≤ a) × (3 * t ≤ b)
+fits-tables a b n t h k = (omega arith, omega arith)
+
+pub check-call : (g : Given) (o : Outcome) → o ≡ checkOut g → CheckMade g o
+check-call g o e =
+    let c = check-leaves g in
+    subst (CheckMade g) (sym e)
+    (record {
+      answered = call-answers g 0 (checkNo (meshOf g)) (CheckSays (meshOf g)) (checkOut g) (c .check-number) (check-exact (meshOf g)) not-1 (λ n. c .all-as-given) (c .scratch-zero);
+      never-written = c .all-as-given;
+    })
+  where
+    not-1 : ¬ CheckSays (meshOf g) 1
+    not-1 (unlawful-base k above l) = no-1 (meshOf g) l
+
+-- REFINE, for any way whose cut has the laws of a cut, and that starts with edges of the marked triangles.
+module _ (w : Way) (laws : CutLaws (w .cutting)) (own : (t : Tri) → All (λ e. List·Memᴰ e (edges t)) (w .starts t)) where
+  module _ (g : Given) (n0 : ℕ) (marks : List ℕ) where
+    abbrev k : ℕ
+    k = refineNo w (roomOf g) (meshOf g) marks
+
+    not-1 : ¬ RefineSays w (roomOf g) (meshOf g) marks 1
+    not-1 (unlawful k f above l) = no-1 (meshOf g) l
+
+    sized-number : Sizes g n0 → refineOut w g n0 marks .answer .number ≡ refineNo w (roomOf g) (meshOf g) marks
+    sized-number s = refine-leaves g n0 w marks .number-said ∙ rw (sizes-exact g n0 .1 s)
+
+    lawful-says : Sizes g n0 → WellMarked (g .t) marks → Lawful (meshOf g) → OfLawful w g marks (refineOut w g n0 marks .answer .number)
+    lawful-says s f law =
+        let f′ : WellMarked (length (meshOf g .tris)) marks = rw (rows-count g) f in
+        rw (sized-number s)
+        (record {
+          only-8-or-9 = refine-only-8-9 w (roomOf g) (meshOf g) marks f′ law;
+          exactly-8 = refine-8 w (roomOf g) (meshOf g) marks f′ law;
+          exactly-9 = refine-9 w (roomOf g) (meshOf g) marks f′ law;
+          exactly-0 = refine-0 w (roomOf g) (meshOf g) marks f′ law;
+        })
+
+    made : refineOut w g n0 marks .answer .number ≡ 0 → RefineDone w g marks (refineOut w g n0 marks)
+    made e =
+        let c = refine-leaves g n0 w marks in
+        let d = refine-done w laws (roomOf g) (meshOf g) marks (c .sized-and-0 e .1) in
+        let (a, b) = fits-tables (length (g .nodes)) (length (g .rows)) _ _ (d .fit .nodes-fit) (d .fit .rows-fit) in
+        let h : Holds g (refined w (meshOf g) marks) (refineOut w g n0 marks) = rw (c .done-is e) (done-holds g (refined w (meshOf g) marks) 0 a b) in
+        record {
+          holds = h;
+          is-refined = rw (h .mesh-is) d;
+          splits-least = refine-splits w own (meshOf g) marks;
+          reports-none = ap (λ (x : Outcome). x .answer .passes) (c .done-is e);
+        }
+
+  pub refine-call : (g : Given) (n0 : ℕ) (marks : List ℕ) (o : Outcome) → o ≡ refineOut w g n0 marks → RefineMade w g n0 marks o
+  refine-call g n0 marks o e =
+      let c = refine-leaves g n0 w marks in
+      subst (RefineMade w g n0 marks) (sym e)
+      (record {
+        answered = call-answers g n0 (k g n0 marks) (RefineSays w (roomOf g) (meshOf g) marks) (refineOut w g n0 marks) (c .number-said) (refine-exact w (roomOf g) (meshOf g) marks) (not-1 g n0 marks) (c .refusal-leaves) (c .scratch-zero);
+        of-lawful = lawful-says g n0 marks;
+        leaves-refined = made g n0 marks;
+      })
+
+-- 01's way
+pub newest-call : (g : Given) (n0 : ℕ) (marks : List ℕ) (o : Outcome) → o ≡ refineOut newest g n0 marks → RefineMade newest g n0 marks o
+newest-call = refine-call newest bisected-laws (λ t. cons (List·Memᴰ·head refl) nil)
+
+pub coarsen-call : (g : Given) (n0 : ℕ) (marks : List ℕ) (o : Outcome) → o ≡ coarsenOut g n0 marks → CoarsenMade g n0 marks o
+coarsen-call g n0 marks o e =
+    let c = coarsen-leaves g n0 marks in
+    subst (CoarsenMade g n0 marks) (sym e)
+    (record {
+      answered = call-answers g n0 (coarsenNo (meshOf g) marks) (CoarsenSays (meshOf g) marks) (coarsenOut g n0 marks) (c .number-said) (coarsen-exact (meshOf g) marks) not-1 (c .refusal-leaves) (c .scratch-zero);
+      of-lawful = λ s f law. c .number-said ∙ rw (sizes-exact g n0 .1 s) (coarsen-0 (meshOf g) marks .1 (rw (nodes-count g) f, law));
+      leaves-coarsened = made c;
+    })
+  where
+    not-1 : ¬ CoarsenSays (meshOf g) marks 1
+    not-1 (well-marked k w l) = no-1 (meshOf g) l
+
+    made : CallLeaves g n0 (coarsenNo (meshOf g) marks) (coarsened n0 (meshOf g) marks) 0 (coarsenOut g n0 marks) → coarsenOut g n0 marks .answer .number ≡ 0 → CoarsenDone g n0 marks (coarsenOut g n0 marks)
+    made c z =
+        let (s, k) = c .sized-and-0 z in
+        let d = coarsen-done n0 (meshOf g) marks (omega (arith, s .n0-fits, nodes-count g)) k in
+        let (a, b) = fits-tables (length (g .nodes)) (length (g .rows)) (length (coarsened n0 (meshOf g) marks .nodes)) (length (coarsened n0 (meshOf g) marks .tris)) (omega (arith, s .n-fits, nodes-count g, d .goes .node-count)) (omega (arith, s .t-fits, rows-count g, d .goes .row-count)) in
+        let h : Holds g (coarsened n0 (meshOf g) marks) (coarsenOut g n0 marks) = rw (c .done-is z) (done-holds g (coarsened n0 (meshOf g) marks) 0 a b) in
+        record { holds = h; is-coarsened = rw (h .mesh-is) d; reports-none = ap (λ (x : Outcome). x .answer .passes) (c .done-is z) }
+
+pub restore-call : (g : Given) (n0 : ℕ) (o : Outcome) → o ≡ restoreOut g n0 → RestoreMade g n0 o
+restore-call g n0 o e =
+    let c = restore-leaves g n0 in
+    subst (RestoreMade g n0) (sym e)
+    (record {
+      answered = call-answers g n0 (refusal (meshOf g)) (Lowest (meshOf g)) (restoreOut g n0) (c .number-said) (refusal-exact (meshOf g)) (no-1 (meshOf g)) (c .refusal-leaves) (c .scratch-zero);
+      leaves-restored = made c;
+    })
+  where
+    made : CallLeaves g n0 (refusal (meshOf g)) (restored n0 (meshOf g) .end) (restored n0 (meshOf g) .passes) (restoreOut g n0) → restoreOut g n0 .answer .number ≡ 0 → RestoreLeft g n0 (restoreOut g n0)
+    made c z =
+        let (s, k) = c .sized-and-0 z in
+        let le : n0 ≤ length (meshOf g .nodes) = omega (arith, s .n0-fits, nodes-count g) in
+        let (a, b) = fits-tables (length (g .nodes)) (length (g .rows)) (length (restored n0 (meshOf g) .end .nodes)) (length (restored n0 (meshOf g) .end .tris)) (omega (arith, s .n-fits, nodes-count g, restored-fewer n0 (meshOf g))) (omega (arith, s .t-fits, rows-count g, restored-rows n0 (meshOf g) (refusal-lawful (meshOf g) k) le)) in
+        record {
+          holds = rw (c .done-is z) (done-holds g (restored n0 (meshOf g) .end) (restored n0 (meshOf g) .passes) a b);
+          is-restored = restore-done n0 (meshOf g) le k;
+          reports-made = ap (λ (x : Outcome). x .answer .passes) (c .done-is z);
+        }
+
+-- DEMAND 2 OF THE CALLS.
+pub record Demand2 : Type 1 where
+  pub of-check : (g : Given) (o : Outcome) → o ≡ checkOut g → CheckMade g o
+  pub of-refine : (g : Given) (n0 : ℕ) (marks : List ℕ) (o : Outcome) → o ≡ refineOut newest g n0 marks → RefineMade newest g n0 marks o
+  pub of-coarsen : (g : Given) (n0 : ℕ) (marks : List ℕ) (o : Outcome) → o ≡ coarsenOut g n0 marks → CoarsenMade g n0 marks o
+
+pub demand2-calls : Demand2
+demand2-calls = record { of-check = check-call; of-refine = newest-call; of-coarsen = coarsen-call }

@@ -1,0 +1,230 @@
+-- What any call leaves in the tables it was lent: 1 exactly if the sizes do not fit, else its number for the mesh; after 0 the tables hold
+-- the new mesh and zeros past it; refused, they are as they were. Assumes nothing.
+use mathlib.Core.Bool.{Bool, true, false, _&&_}
+use mathlib.Core.List.{List, _++_}
+use mathlib.Core.Logic.{_↔_, _≢_}
+use mathlib.Core.Path.{_≡_, refl, sym, subst, ap, _∙_}
+use Prim.Native.Nat.{ℕ, zero, suc, _+_, _-_, _*_, _/_, _%_, _≤_, _<_}
+use native.Mathlib.Omega.{arith}
+use borrow.Author.Tests.{eqb-true, eq-eqb, leb-true, le-leb}
+use lib.IntN.{ℤ, pos}
+use lib.ListN.{length, getD, replicate}
+use lib.Seq.{getD-append-add}
+use Rattle.lists.specs.Lists.{cases}
+use Rattle.lists.specs.ListsLaw.{and-left, and-right}
+use Rattle.meaning.specs.Mesh.{Mesh}
+use Rattle.meaning.specs.Tables.{Given, Outcome, meshOf, roomOf, flatNodes, flatRows, filled, cleared}
+use Rattle.meaning.specs.Lawful.{refusal}
+use Rattle.meaning.specs.Split.{Way, refined}
+use Rattle.meaning.specs.Coarsen.{coarsened, restored}
+use Rattle.meaning.specs.Calls.{says, checkNo, refineNo, coarsenNo, refines, coarsens, restores, sizesFit, untouched, done, left, sized, checkOut, refineOut, coarsenOut, restoreOut}
+use Rattle.laws.specs.Exact.{unfit}
+use Rattle.laws.specs.TableMesh.{flat-nodes-length, flat-rows-length, left-by, done-mesh, done-nodes, done-rows}
+
+-- ---- sizes
+
+-- none of "a table length is not a multiple of its row, a room or count breaks the sizes above, or scratch is short"
+pub record Sizes (g : Given) (n0 : ℕ) : Type 0 where
+  pub nodes-even : length (g .nodes) % 2 ≡ 0
+  pub rows-three : length (g .rows) % 3 ≡ 0
+  pub few-nodes : length (g .nodes) / 2 ≤ 1024
+  pub few-rows : length (g .rows) / 3 ≤ 2048
+  pub n-fits : g .n ≤ length (g .nodes) / 2
+  pub t-fits : g .t ≤ length (g .rows) / 3
+  pub n0-fits : n0 ≤ g .n
+  pub scratch-fits : 4 * (length (g .nodes) / 2 + length (g .rows) / 3) ≤ length (g .scratch)
+
+and-parts : (a b : Bool) → a && b ≡ true → (a ≡ true) × (b ≡ true)
+and-parts a b e = (and-left a b e, and-right a b e)
+
+module _ (g : Given) (n0 : ℕ) where
+  pub sizes-exact : (sizesFit g n0 ≡ true) ↔ Sizes g n0
+  unfolding sizesFit
+  sizes-exact = (
+    there,
+    λ s.
+        rw (eq-eqb _ _ (s .nodes-even), eq-eqb _ _ (s .rows-three), le-leb _ _ (s .few-nodes), le-leb _ _ (s .few-rows), le-leb _ _ (s .n-fits), le-leb _ _ (s .t-fits), le-leb _ _ (s .n0-fits), le-leb _ _ (s .scratch-fits)),
+  )
+    where
+      there : sizesFit g n0 ≡ true → Sizes g n0
+      there e =
+          let (e7, h) = and-parts _ _ e in
+          let (e6, g) = and-parts _ _ e7 in
+          let (e5, f) = and-parts _ _ e6 in
+          let (e4, e) = and-parts _ _ e5 in
+          let (e3, d) = and-parts _ _ e4 in
+          let (e2, c) = and-parts _ _ e3 in
+          let (a, b) = and-parts _ _ e2 in
+          record {
+            nodes-even = eqb-true _ _ a;
+            rows-three = eqb-true _ _ b;
+            few-nodes = leb-true _ _ c;
+            few-rows = leb-true _ _ d;
+            n-fits = leb-true _ _ e;
+            t-fits = leb-true _ _ f;
+            n0-fits = leb-true _ _ g;
+            scratch-fits = leb-true _ _ h;
+          }
+
+  pub sizes-unfit : (sizesFit g n0 ≡ false) ↔ (¬ Sizes g n0)
+  sizes-unfit = unfit (sizesFit g n0) sizes-exact
+
+-- other counts, n0 and scratch, in tables of the same lengths
+pub sizes-again : {g h : Given} {n0 m0 : ℕ} → Sizes g n0 → length (h .nodes) ≡ length (g .nodes) → length (h .rows) ≡ length (g .rows) →
+    2 * h .n ≤ length (h .nodes) → 3 * h .t ≤ length (h .rows) → m0 ≤ h .n → 4 * (length (g .nodes) / 2 + length (g .rows) / 3) ≤ length (h .scratch) → Sizes h m0
+sizes-again s a b n t m0 c = record {
+  nodes-even = rw a (s .nodes-even);
+  rows-three = rw b (s .rows-three);
+  few-nodes = rw a (s .few-nodes);
+  few-rows = rw b (s .few-rows);
+  n-fits = omega arith;
+  t-fits = omega arith;
+  n0-fits = m0;
+  scratch-fits = rw (a, b) c;
+}
+
+-- ---- the number
+
+-- what a call says of tables: 1 if the sizes do not fit, else what it says of the mesh
+pub data Says (g : Given) (n0 : ℕ) (Of : ℕ → Type 0) : ℕ → Type 0 where
+  ill-sized : ¬ Sizes g n0 → Says g n0 Of 1
+  of-mesh : (k : ℕ) → Sizes g n0 → Of k → Says g n0 Of k
+
+module _ (g : Given) (n0 k : ℕ) where
+  says-exact : (Of : ℕ → Type 0) → ((j : ℕ) → (k ≡ j) ↔ Of j) → (j : ℕ) → (cases (sizesFit g n0) k 1 ≡ j) ↔ Says g n0 Of j
+  says-exact Of exact j = (λ e. go (sizesFit g n0) refl e, back)
+    where
+      go : (b : Bool) → sizesFit g n0 ≡ b → cases b k 1 ≡ j → Says g n0 Of j
+      go true q e = of-mesh j (sizes-exact g n0 .0 q) (exact j .0 e)
+      go false q e = subst (Says g n0 Of) e (ill-sized (sizes-unfit g n0 .0 q))
+
+      back : {j : ℕ} → Says g n0 Of j → cases (sizesFit g n0) k 1 ≡ j
+      back (ill-sized n) = rw (sizes-unfit g n0 .1 n)
+      back (of-mesh j s h) = rw (sizes-exact g n0 .1 s) (exact j .1 h)
+
+  says-1 : k ≢ 1 → (cases (sizesFit g n0) k 1 ≡ 1) ↔ (¬ Sizes g n0)
+  says-1 n = (λ e s. n (rw (sizes-exact g n0 .1 s) at e), λ u. rw (sizes-unfit g n0 .1 u))
+
+-- ---- the tables
+
+-- a refusal: "the counts it was given and 0 passes. It changes no node, triangle or mark."
+pub record AsGiven (g : Given) (o : Outcome) : Type 0 where
+  pub nodes-same : o .nodes ≡ g .nodes
+  pub rows-same : o .rows ≡ g .rows
+  pub n-same : o .answer .n ≡ g .n
+  pub t-same : o .answer .t ≡ g .t
+  pub no-passes : o .answer .passes ≡ 0
+
+-- done: the tables, of the same lengths, hold the new mesh; "node and triangle entries past the new counts are zero"
+pub record Holds (g : Given) (new : Mesh) (o : Outcome) : Type 0 where
+  pub mesh-is : meshOf (left-by o) ≡ new
+  pub nodes-long : length (o .nodes) ≡ length (g .nodes)
+  pub rows-long : length (o .rows) ≡ length (g .rows)
+  pub nodes-past : (i : ℕ) → 2 * o .answer .n ≤ i → getD (o .nodes) i (pos 0) ≡ pos 0
+  pub rows-past : (i : ℕ) → 3 * o .answer .t ≤ i → getD (o .rows) i 0 ≡ 0
+
+-- a call's outcome, k being its number for the mesh, new the mesh that it makes, p its passes
+pub record CallLeaves (g : Given) (n0 k : ℕ) (new : Mesh) (p : ℕ) (o : Outcome) : Type 0 where
+  pub number-said : o .answer .number ≡ cases (sizesFit g n0) k 1
+  pub sized-and-0 : o .answer .number ≡ 0 → Sizes g n0 × (k ≡ 0)
+  pub done-is : o .answer .number ≡ 0 → o ≡ done g new p
+  pub refusal-leaves : o .answer .number ≢ 0 → AsGiven g o
+  pub scratch-zero : o .scratch ≡ cleared (g .scratch)
+
+replicate-reads : {A : Type 0} (z : A) (k j : ℕ) → getD (replicate k z) j z ≡ z
+replicate-reads z zero j = refl
+replicate-reads z (suc k) zero = refl
+replicate-reads z (suc k) (suc j) = replicate-reads z k j
+
+filled-past : {A : Type 0} (z : A) (len : ℕ) (xs : List A) (i : ℕ) → length xs ≤ i → getD (filled z len xs) i z ≡ z
+filled-past z len xs i h =
+    let e : i ≡ length xs + (i - length xs) = omega arith in
+    subst (λ (j : ℕ). getD (filled z len xs) j z ≡ z) (sym e) (getD-append-add xs (replicate (len - length xs) z) (i - length xs) z ∙ replicate-reads z (len - length xs) (i - length xs))
+
+pub done-holds : (g : Given) (m : Mesh) (k : ℕ) → 2 * length (m .nodes) ≤ length (g .nodes) → 3 * length (m .tris) ≤ length (g .rows) → Holds g m (done g m k)
+done-holds g m k a b = record {
+  mesh-is = done-mesh g m k;
+  nodes-long = done-nodes g m k a b;
+  rows-long = done-rows g m k a b;
+  nodes-past = λ i h. filled-past (pos 0) (length (g .nodes)) (flatNodes (m .nodes)) i (omega (arith, flat-nodes-length (m .nodes)));
+  rows-past = λ i h. filled-past 0 (length (g .rows)) (flatRows (m .tris)) i (omega (arith, flat-rows-length (m .tris)));
+}
+
+untouched-as-given : (g : Given) (j : ℕ) → AsGiven g (untouched g j)
+untouched-as-given g j = record { nodes-same = refl; rows-same = refl; n-same = refl; t-same = refl; no-passes = refl }
+
+-- WHAT A CALL LEAVES, whatever it is given.
+pub call-leaves : (g : Given) (n0 k : ℕ) (old new : Mesh) (p : ℕ) → CallLeaves g n0 k new p (sized g n0 (left g (says k old new p)))
+call-leaves g n0 k old new p = go (sizesFit g n0) refl k
+  where
+    go : (b : Bool) → sizesFit g n0 ≡ b → (k : ℕ) → CallLeaves g n0 k new p (cases b (left g (says k old new p)) (untouched g 1))
+    go true q zero = record { number-said = rw q; sized-and-0 = λ e. (sizes-exact g n0 .0 q, refl); done-is = λ e. refl; refusal-leaves = λ n. absurd (n refl); scratch-zero = refl }
+    go true q (suc k) = record { number-said = rw q; sized-and-0 = λ e. absurd (omega arith); done-is = λ e. absurd (omega arith); refusal-leaves = λ n. untouched-as-given g (suc k); scratch-zero = refl }
+    go false q k = record { number-said = rw q; sized-and-0 = λ e. absurd (omega arith); done-is = λ e. absurd (omega arith); refusal-leaves = λ n. untouched-as-given g 1; scratch-zero = refl }
+
+-- What every call says, and what a refusal leaves; Of k: the number k is due to the mesh.
+pub record Answers (g : Given) (n0 : ℕ) (Of : ℕ → Type 0) (o : Outcome) : Type 0 where
+  -- 1 exactly if the sizes do not fit
+  pub says-1-exactly : (o .answer .number ≡ 1) ↔ (¬ Sizes g n0)
+  -- each number exactly when its line says, and no other
+  pub says-exactly : (k : ℕ) → (o .answer .number ≡ k) ↔ Says g n0 Of k
+  -- refused: tables as they were, the counts given, 0 passes
+  pub refused-as-given : o .answer .number ≢ 0 → AsGiven g o
+  -- "It is all zero after every call, refused or not."
+  pub scratch-all-zero : o .scratch ≡ cleared (g .scratch)
+
+pub call-answers : (g : Given) (n0 k : ℕ) (Of : ℕ → Type 0) (o : Outcome) → o .answer .number ≡ cases (sizesFit g n0) k 1 → ((j : ℕ) → (k ≡ j) ↔ Of j) → ¬ Of 1 →
+    (o .answer .number ≢ 0 → AsGiven g o) → o .scratch ≡ cleared (g .scratch) → Answers g n0 Of o
+call-answers g n0 k Of o e exact no1 same zeroed = record {
+  says-1-exactly = rw e (says-1 g n0 k (λ z. no1 (exact 1 .0 z)));
+  says-exactly = rw e (says-exact g n0 k Of exact);
+  refused-as-given = same;
+  scratch-all-zero = zeroed;
+}
+
+-- A call that makes no passes reports none.
+pub leaves-no-passes : {g : Given} {n0 k : ℕ} {new : Mesh} {o : Outcome} → CallLeaves g n0 k new 0 o → o .answer .passes ≡ 0
+leaves-no-passes {o = o} c = go (o .answer .number) refl
+  where
+    go : (j : ℕ) → o .answer .number ≡ j → o .answer .passes ≡ 0
+    go zero e = ap (λ (x : Outcome). x .answer .passes) (c .done-is e)
+    go (suc j) e = c .refusal-leaves (λ z. omega arith) .no-passes
+
+-- ---- the four calls
+
+-- "the base check writes no table but scratch"
+pub record CheckLeaves (g : Given) (o : Outcome) : Type 0 where
+  pub check-number : o .answer .number ≡ cases (sizesFit g 0) (checkNo (meshOf g)) 1
+  pub all-as-given : AsGiven g o
+  pub scratch-zero : o .scratch ≡ cleared (g .scratch)
+
+pub check-leaves : (g : Given) → CheckLeaves g (checkOut g)
+unfolding checkOut
+check-leaves g = go (sizesFit g 0) refl
+  where
+    go : (b : Bool) → sizesFit g 0 ≡ b → CheckLeaves g (cases b (untouched g (checkNo (meshOf g))) (untouched g 1))
+    go true q = record { check-number = rw q; all-as-given = untouched-as-given g (checkNo (meshOf g)); scratch-zero = refl }
+    go false q = record { check-number = rw q; all-as-given = untouched-as-given g 1; scratch-zero = refl }
+
+module _ (g : Given) (n0 : ℕ) where
+  pub refine-leaves : (w : Way) (marks : List ℕ) → CallLeaves g n0 (refineNo w (roomOf g) (meshOf g) marks) (refined w (meshOf g) marks) 0 (refineOut w g n0 marks)
+  unfolding refineOut refines
+  refine-leaves w marks = call-leaves g n0 (refineNo w (roomOf g) (meshOf g) marks) (meshOf g) (refined w (meshOf g) marks) 0
+
+  pub coarsen-leaves : (marks : List ℕ) → CallLeaves g n0 (coarsenNo (meshOf g) marks) (coarsened n0 (meshOf g) marks) 0 (coarsenOut g n0 marks)
+  unfolding coarsenOut coarsens
+  coarsen-leaves marks = call-leaves g n0 (coarsenNo (meshOf g) marks) (meshOf g) (coarsened n0 (meshOf g) marks) 0
+
+  pub restore-leaves : CallLeaves g n0 (refusal (meshOf g)) (restored n0 (meshOf g) .end) (restored n0 (meshOf g) .passes) (restoreOut g n0)
+  unfolding restoreOut restores
+  restore-leaves = call-leaves g n0 (refusal (meshOf g)) (meshOf g) (restored n0 (meshOf g) .end) (restored n0 (meshOf g) .passes)
+
+-- "Only restore reports passes; after 0 the other calls give 0 there." A refusal gives 0 too.
+pub check-no-passes : (g : Given) → checkOut g .answer .passes ≡ 0
+check-no-passes g = check-leaves g .all-as-given .no-passes
+
+pub refine-no-passes : (w : Way) (g : Given) (n0 : ℕ) (marks : List ℕ) → refineOut w g n0 marks .answer .passes ≡ 0
+refine-no-passes w g n0 marks = leaves-no-passes (refine-leaves g n0 w marks)
+
+pub coarsen-no-passes : (g : Given) (n0 : ℕ) (marks : List ℕ) → coarsenOut g n0 marks .answer .passes ≡ 0
+coarsen-no-passes g n0 marks = leaves-no-passes (coarsen-leaves g n0 marks)

@@ -35,8 +35,8 @@ module _ (base : Mesh) where
         go (z ∷ zs) e = pass-fewer n₀ m z zs e
 
     -- With no good node left the mesh is the base.
-    none-left : goodNodes (length (base .nodes)) m ≡ [] → m ≡ base
-    none-left e = go (decLt n₀ (length (m .nodes)))
+    none-good-base : goodNodes (length (base .nodes)) m ≡ [] → m ≡ base
+    none-good-base e = go (decLt n₀ (length (m .nodes)))
       where
         go : Dec (length (base .nodes) < length (m .nodes)) → m ≡ base
         go (yes l) = let (z, i) = good-there base m G l in absurd (List·Memᴰ·not-nil (subst (List·Memᴰ z) e i))
@@ -44,4 +44,4 @@ module _ (base : Mesh) where
 
   -- RESTORE ENDS WITH THE BASE.
   pub restored-base : {m : Mesh} → GrownFrom base m → restored (length (base .nodes)) m .end ≡ base
-  restored-base {m} G = none-left (from-passes (restored-is n₀ m) G) (restored-ends n₀ m)
+  restored-base {m} G = none-good-base (from-passes (restored-is n₀ m) G) (restored-ends n₀ m)

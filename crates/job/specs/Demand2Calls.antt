@@ -68,7 +68,7 @@ pub record CoarsenMade (g : Given) (n0 : ℕ) (marks : List ℕ) (o : Outcome) :
   pub of-lawful : Sizes g n0 → WellMarked (g .n) marks → Lawful (meshOf g) → o .answer .number ≡ 0
   pub leaves-coarsened : o .answer .number ≡ 0 → CoarsenDone g n0 marks o
 
-pub record RestoreLeft (g : Given) (n0 : ℕ) (o : Outcome) : Type 0 where
+pub record RestoreEnded (g : Given) (n0 : ℕ) (o : Outcome) : Type 0 where
   pub holds : Holds g (restored n0 (meshOf g) .end) o
   -- full passes while a good node exists, lawful, of the same total, with the base nodes
   pub is-restored : RestoreDone n0 (meshOf g)
@@ -78,7 +78,7 @@ pub record RestoreLeft (g : Given) (n0 : ℕ) (o : Outcome) : Type 0 where
 pub record RestoreMade (g : Given) (n0 : ℕ) (o : Outcome) : Type 0 where
   -- 0 exactly of a lawful mesh (`lowest-0`), 3 to 7 exactly if the number is the lowest that applies
   pub answered : Answers g n0 (Lowest (meshOf g)) o
-  pub leaves-restored : o .answer .number ≡ 0 → RestoreLeft g n0 o
+  pub leaves-restored : o .answer .number ≡ 0 → RestoreEnded g n0 o
 
 -- ---- the proof
 
@@ -181,7 +181,7 @@ restore-call g n0 o e =
       leaves-restored = made c;
     })
   where
-    made : CallLeaves g n0 (refusal (meshOf g)) (restored n0 (meshOf g) .end) (restored n0 (meshOf g) .passes) (restoreOut g n0) → restoreOut g n0 .answer .number ≡ 0 → RestoreLeft g n0 (restoreOut g n0)
+    made : CallLeaves g n0 (refusal (meshOf g)) (restored n0 (meshOf g) .end) (restored n0 (meshOf g) .passes) (restoreOut g n0) → restoreOut g n0 .answer .number ≡ 0 → RestoreEnded g n0 (restoreOut g n0)
     made c z =
         let (s, k) = c .sized-and-0 z in
         let le : n0 ≤ length (meshOf g .nodes) = omega (arith, s .n0-fits, nodes-count g) in

@@ -124,8 +124,8 @@ module _ (g : Given) (n0 : ℕ) where
         (omega (arith, pass-count n0 (meshOf g), nodes-count g, s .n-fits)) (omega (arith, pass-gone n0 (meshOf g) law .row-count, rows-count g, s .t-fits))
 
     -- and whose sizes fit
-    sizes-left : Sizes (left-by (done g (pass n0 (meshOf g)) 0)) n0
-    sizes-left =
+    sizes-after : Sizes (left-by (done g (pass n0 (meshOf g)) 0)) n0
+    sizes-after =
         sizes-again s (holds .nodes-long) (holds .rows-long) (omega (arith, holds .nodes-long, pass-count n0 (meshOf g), nodes-count g, s .n-fits))
         (omega (arith, holds .rows-long, pass-gone n0 (meshOf g) law .row-count, rows-count g, s .t-fits)) (kept .base-there) (rw (length-replicate {A = ℕ} (length (g .scratch)) 0) (s .scratch-fits))
 
@@ -136,7 +136,7 @@ module _ (g : Given) (n0 : ℕ) where
         let h = left-by (done g (pass n0 (meshOf g)) 0) in
         let z : refusal (pass n0 (meshOf g)) ≡ 0 = lawful-refusal (pass n0 (meshOf g)) (kept .lawful) in
         let c : length (replicate {A = ℕ} (length (g .scratch)) 0) ≡ length (g .scratch) = length-replicate (length (g .scratch)) 0 in
-        rw (sizes-exact h n0 .1 sizes-left, holds .mesh-is, z, holds .nodes-long, holds .rows-long, c)
+        rw (sizes-exact h n0 .1 sizes-after, holds .mesh-is, z, holds .nodes-long, holds .rows-long, c)
 
     stepped : length (pass n0 (meshOf g) .nodes) ≢ length (meshOf g .nodes) → (p : ℕ) →
         done g (restored n0 (pass n0 (meshOf g)) .end) (p + 1 + restored n0 (pass n0 (meshOf g)) .passes) ≡ done g (restored n0 (meshOf g) .end) (p + restored n0 (meshOf g) .passes)
@@ -171,8 +171,8 @@ module _ (a : Answer) (g : Given) (nodes′ : List ℤ) (rows′ scratch′ : Li
             ∙ sym (after-done p n t g (restored n0 (meshOf g) .end) (restored n0 (meshOf g) .passes)) ∙ inv
 
     module _ (o : a .n ≡ g .n → ⊥) where
-      pub pass-left-fewer : a .n < g .n
-      pass-left-fewer = go (pass-and-restore g n0) e
+      pub pass-fewer-nodes : a .n < g .n
+      pass-fewer-nodes = go (pass-and-restore g n0) e
         where
           go : {x y : Outcome} → Said g n0 x y → outcome a nodes′ rows′ scratch′ ≡ x → a .n < g .n
           go (refused k r) e = absurd (r (sym (ap (λ (o : Outcome). o .answer .number) e) ∙ z))
@@ -183,10 +183,10 @@ module _ (a : Answer) (g : Given) (nodes′ : List ℤ) (rows′ scratch′ : Li
               omega arith
 
       pub passes-fit : p + g .n ≤ n → Fits w64 n → Fits w64 (p + 1)
-      passes-fit h f = let b = pass-left-fewer in omega arith
+      passes-fit h f = let b = pass-fewer-nodes in omega arith
 
       pub passes-in : p + g .n ≤ n → p + 1 + a .n ≤ n
-      passes-in h = let b = pass-left-fewer in omega arith
+      passes-in h = let b = pass-fewer-nodes in omega arith
 
       pub goes-on : after (p + 1) n t (restoreOut (given nodes′ rows′ scratch′ (a .n) (a .t)) n0) ≡ w
       goes-on = go (pass-and-restore g n0) e inv
@@ -203,4 +203,4 @@ module _ (a : Answer) (g : Given) (nodes′ : List ℤ) (rows′ scratch′ : Li
 
 pub less : (a : Answer) (nodes nodes′ : List ℤ) (rows rows′ scratch scratch′ : List ℕ) (n0 k u : ℕ) → outcome a nodes′ rows′ scratch′ ≡ passOut (given nodes rows scratch k u) n0 → a .number ≡ 0 → (a .n ≡ k → ⊥) → a .n < k
 less a nodes nodes′ rows rows′ scratch scratch′ n0 k u e z o =
-    pass-left-fewer a (given nodes rows scratch k u) nodes′ rows′ scratch′ n0 0 0 0 (after 0 0 0 (restoreOut (given nodes rows scratch k u) n0)) e refl z o
+    pass-fewer-nodes a (given nodes rows scratch k u) nodes′ rows′ scratch′ n0 0 0 0 (after 0 0 0 (restoreOut (given nodes rows scratch k u) n0)) e refl z o

@@ -44,17 +44,17 @@ use Rattle.mesh.specs.Refine.{splitIn, afterIn, fitsIn, planOf, weighed,
 
 -- ---- 8 and 9, by the notes: each test of `weigh` as the code has it
 
-module _ (nodes : List ℤ) (l s : List ℕ) (n t k : ℕ) (f : Found) (y : Bool) (e : f ≡ lowest (oddAt nodes l s) 0 t) (g : y ≡ isFound f) where
-  pub weigh-odd : y ≡ true → planOf 8 n t ≡ weighed nodes l s n t k
+module _ (nodes : List ℤ) (rows s : List ℕ) (n t k : ℕ) (f : Found) (y : Bool) (e : f ≡ lowest (oddAt nodes rows s) 0 t) (g : y ≡ isFound f) where
+  pub weigh-odd : y ≡ true → planOf 8 n t ≡ weighed nodes rows s n t k
   unfolding weighed
   weigh-odd h = rw (← e, ← g, h)
 
   module _ (t1 : ℕ) (h : y ≡ false) (c : t1 ≡ t + sumTo (splits s) t) where
-    pub weigh-short : ltb (length nodes / 2) (n + k) || ltb (length l / 3) t1 ≡ true → planOf 9 n t ≡ weighed nodes l s n t k
+    pub weigh-short : ltb (length nodes / 2) (n + k) || ltb (length rows / 3) t1 ≡ true → planOf 9 n t ≡ weighed nodes rows s n t k
     unfolding weighed
     weigh-short b = rw (← e, ← g, h, ← c, b)
 
-    pub weigh-done : ltb (length nodes / 2) (n + k) || ltb (length l / 3) t1 ≡ false → planOf 0 (n + k) t1 ≡ weighed nodes l s n t k
+    pub weigh-done : ltb (length nodes / 2) (n + k) || ltb (length rows / 3) t1 ≡ false → planOf 0 (n + k) t1 ≡ weighed nodes rows s n t k
     unfolding weighed
     weigh-done b = rw (← e, ← g, h, ← c, b)
 
@@ -68,18 +68,18 @@ short-fits a b c d = go (leb a c) refl (leb b d) refl
     go true e false f = rw (le-ltb c a (leb-true a c e), lt-ltb d b (leb-false b d f))
     go false e y f = rw (lt-ltb c a (leb-false a c e))
 
-module _ (nodes : List ℤ) (l s₀ marks : List ℕ) (n t : ℕ) (R : Admitted nodes l s₀ marks t n t) where
+module _ (nodes : List ℤ) (rows s₀ marks : List ℕ) (n t : ℕ) (R : Admitted nodes rows s₀ marks t n t) where
   abbrev ns : List Place
   ns = items (placeAt nodes) 0 n
 
   abbrev m : Mesh
-  m = meshIn nodes l n t
+  m = meshIn nodes rows n t
 
   clear : (x : ℕ) → x < t → getD s₀ x 0 ≡ 0
   clear x h =
-      let b : x < indexAt (length nodes / 2) (length l) = (let r = R .rows-fit in omega arith) in
-      sym (getD-take (indexAt (length nodes / 2) (length l)) s₀ x 0 b) ∙ ap (λ (v : List ℕ). getD v x 0) (R .notes)
-      ∙ getD-replicate (indexAt (length nodes / 2) (length l)) x 0 0 b
+      let b : x < indexAt (length nodes / 2) (length rows) = (let r = R .rows-fit in omega arith) in
+      sym (getD-take (indexAt (length nodes / 2) (length rows)) s₀ x 0 b) ∙ ap (λ (v : List ℕ). getD v x 0) (R .notes)
+      ∙ getD-replicate (indexAt (length nodes / 2) (length rows)) x 0 0 b
 
   nodes-in-table : length ns ≡ n
   nodes-in-table = length-items (placeAt nodes) n
@@ -90,9 +90,9 @@ module _ (nodes : List ℤ) (l s₀ marks : List ℕ) (n t : ℕ) (R : Admitted 
   few-numbers : 3 * t ≤ 16_777_216
   few-numbers = let a = R .sizes in let b = R .rows-fit in omega arith
 
-  corners : (i : ℕ) → i < t → Corners n (rowAt l i)
+  corners : (i : ℕ) → i < t → Corners n (rowAt rows i)
   corners i h =
-      let a : Named (length ns) (rowAt l i) = lawful-named ns l t (R .law) i h in
+      let a : Named (length ns) (rowAt rows i) = lawful-named ns rows t (R .law) i h in
       let b = nodes-in-table in
       record { p-in = omega arith; q-in = omega arith; r-in = omega arith }
 
@@ -105,62 +105,62 @@ module _ (nodes : List ℤ) (l s₀ marks : List ℕ) (n t : ℕ) (R : Admitted 
   nodes-near : (k : ℕ) → k < n → InRange (placeAt nodes k)
   nodes-near k h = subst InRange (place-same k h) (All-getD (R .law .range) k origin (rw nodes-in-table h))
 
-  pub rows-standing : (i : ℕ) → i < t → Standing nodes (rowAt l i)
-  rows-standing i h = standing-at nodes n (rowAt l i) (R .nodes-fit) nodes-near (corners i h)
+  pub rows-standing : (i : ℕ) → i < t → Standing nodes (rowAt rows i)
+  rows-standing i h = standing-at nodes n (rowAt rows i) (R .nodes-fit) nodes-near (corners i h)
 
   -- s₁ after close, s₂ and k after number
-  module _ (s₁ s₂ : List ℕ) (k : ℕ) (e₁ : s₁ ≡ iter (drawMarked l t marks) 0 t s₀) (e₂ : numbers s₂ k ≡ iter (numberRow l t) 0 t (numbers s₁ 0)) where
+  module _ (s₁ s₂ : List ℕ) (k : ℕ) (e₁ : s₁ ≡ iter (drawMarked rows t marks) 0 t s₀) (e₂ : numbers s₂ k ≡ iter (numberRow rows t) 0 t (numbers s₁ 0)) where
     abbrev es : List Edge
-    es = splitIn nodes l marks n t
+    es = splitIn nodes rows marks n t
 
     abbrev isSplit : Edge → Bool
-    isSplit e = memEdge e (closure (items (rowAt l) 0 t) (started newest marks (items (rowAt l) 0 t)))
+    isSplit e = memEdge e (closure (items (rowAt rows) 0 t) (started newest marks (items (rowAt rows) 0 t)))
 
-    N : SplitNotes n l t es isSplit s₂ k
-    N = split-notes ns l t (R .law) marks s₀ notes-fit clear few-numbers s₁ s₂ n k e₁ e₂ nodes-in-table
+    N : SplitNotes n rows t es isSplit s₂ k
+    N = split-notes ns rows t (R .law) marks s₀ notes-fit clear few-numbers s₁ s₂ n k e₁ e₂ nodes-in-table
 
     same-length : length s₂ ≡ length s₀
-    same-length = split-length ns l t (R .law) marks s₀ notes-fit clear few-numbers s₁ s₂ n k e₁ e₂
+    same-length = split-length ns rows t (R .law) marks s₀ notes-fit clear few-numbers s₁ s₂ n k e₁ e₂
 
     -- 8
-    odd-as-said : isFound (lowest (oddAt nodes l s₂) 0 t) ≡ not (all (halves m) es)
+    odd-as-said : isFound (lowest (oddAt nodes rows s₂) 0 t) ≡ not (all (halves m) es)
     unfolding splitEdges
-    odd-as-said = odd-found nodes n m place-same isSplit l s₂ t corners (N .member-said)
+    odd-as-said = odd-found nodes n m place-same isSplit rows s₂ t corners (N .member-said)
 
     -- the counts after
-    after-nodes : length (afterIn nodes l marks n t .nodes) ≡ n + k
+    after-nodes : length (afterIn nodes rows marks n t .nodes) ≡ n + k
     unfolding refined split splitAt
     after-nodes = length-append ns _ ∙ rw (length-map, nodes-in-table, ← (N .counted))
 
-    after-rows : length (afterIn nodes l marks n t .tris) ≡ t + sumTo (splits s₂) t
+    after-rows : length (afterIn nodes rows marks n t .tris) ≡ t + sumTo (splits s₂) t
     unfolding refined split
-    after-rows = sym (count-mesh m es n l s₂ t nodes-in-table refl some-node (N .mids) (N .split-said) (N .pulled))
+    after-rows = sym (count-mesh m es n rows s₂ t nodes-in-table refl some-node (N .mids) (N .split-said) (N .pulled))
 
     -- 9
-    short-is : ltb (length nodes / 2) (n + k) || ltb (length l / 3) (t + sumTo (splits s₂) t) ≡
-        not (fitsIn nodes l marks n t)
-    short-is = short-fits (n + k) (t + sumTo (splits s₂) t) (length nodes / 2) (length l / 3) ∙ rw (after-nodes, after-rows)
+    short-is : ltb (length nodes / 2) (n + k) || ltb (length rows / 3) (t + sumTo (splits s₂) t) ≡
+        not (fitsIn nodes rows marks n t)
+    short-is = short-fits (n + k) (t + sumTo (splits s₂) t) (length nodes / 2) (length rows / 3) ∙ rw (after-nodes, after-rows)
 
     chain : (a b : Bool) (x y : ℕ) → cases (not a) (planOf 8 n t) (cases (not b) (planOf 9 n t) (planOf 0 x y)) .number ≡ unless a 8 (unless b 9 0)
     chain true true x y = refl
     chain true false x y = refl
     chain false b x y = refl
 
-    pub late-number : (r : Plan) → r ≡ weighed nodes l s₂ n t k → r .number ≡ lateNumber nodes l marks n t
+    pub late-number : (r : Plan) → r ≡ weighed nodes rows s₂ n t k → r .number ≡ lateNumber nodes rows marks n t
     unfolding weighed lateNumber
-    late-number r e = ap (λ (p : Plan). p .number) e ∙ rw (odd-as-said, short-is) (chain (all (halves m) es) (fitsIn nodes l marks n t) (n + k) (t + sumTo (splits s₂) t))
+    late-number r e = ap (λ (p : Plan). p .number) e ∙ rw (odd-as-said, short-is) (chain (all (halves m) es) (fitsIn nodes rows marks n t) (n + k) (t + sumTo (splits s₂) t))
 
     -- with room for all, the plan can be carried out
-    room-both : fitsIn nodes l marks n t ≡ true → (n + k ≤ length nodes / 2) × (t + sumTo (splits s₂) t ≤ length l / 3)
+    room-both : fitsIn nodes rows marks n t ≡ true → (n + k ≤ length nodes / 2) × (t + sumTo (splits s₂) t ≤ length rows / 3)
     room-both e =
-        let a = leb (length (afterIn nodes l marks n t .nodes)) (length nodes / 2) in
-        let b = leb (length (afterIn nodes l marks n t .tris)) (length l / 3) in
-        let f : length (afterIn nodes l marks n t .nodes) ≤ length nodes / 2 = leb-true (length (afterIn nodes l marks n t .nodes)) (length nodes / 2) (and-left a b e) in
-        let g : length (afterIn nodes l marks n t .tris) ≤ length l / 3 = leb-true (length (afterIn nodes l marks n t .tris)) (length l / 3) (and-right a b e) in
+        let a = leb (length (afterIn nodes rows marks n t .nodes)) (length nodes / 2) in
+        let b = leb (length (afterIn nodes rows marks n t .tris)) (length rows / 3) in
+        let f : length (afterIn nodes rows marks n t .nodes) ≤ length nodes / 2 = leb-true (length (afterIn nodes rows marks n t .nodes)) (length nodes / 2) (and-left a b e) in
+        let g : length (afterIn nodes rows marks n t .tris) ≤ length rows / 3 = leb-true (length (afterIn nodes rows marks n t .tris)) (length rows / 3) (and-right a b e) in
         (rw after-nodes at f, rw after-rows at g)
 
-    room-plan : Ready s₂ (length nodes / 2) l t → fitsIn nodes l marks n t ≡ true →
-        Planned nodes l s₂ marks n t (n + k) (t + sumTo (splits s₂) t)
+    room-plan : Ready s₂ (length nodes / 2) rows t → fitsIn nodes rows marks n t ≡ true →
+        Planned nodes rows s₂ marks n t (n + k) (t + sumTo (splits s₂) t)
     unfolding refined split
     room-plan ready e =
         let both = room-both e in
@@ -177,35 +177,35 @@ module _ (nodes : List ℤ) (l s₀ marks : List ℕ) (n t : ℕ) (R : Admitted 
             rows-fit = R .rows-fit;
             notes-fit = omega arith;
             standing = rows-standing;
-            room = rooms nodes n m place-same l s₂ t corners (N .before) (rw (N .met) room);
+            room = rooms nodes n m place-same rows s₂ t corners (N .before) (rw (N .met) room);
             ready = ready;
-            count = count-rows m es n l s₂ t nodes-in-table refl some-node (N .mids) (N .split-said) (N .pulled);
+            count = count-rows m es n rows s₂ t nodes-in-table refl some-node (N .mids) (N .split-said) (N .pulled);
             rows-room = omega arith;
             nodes-room = omega arith;
           };
-          nodes-are = subst (λ (x : ℕ). items (placeAt (iter (placeRow n l s₂) 0 t nodes)) 0 (n + x) ≡ splitAt bisected m es .nodes) (sym nc)
-              (placed-mesh nodes n m es bisected l s₂ t refl corners (N .before) (N .met) room);
-          rows-are = cut-mesh m es n l s₂ t nodes-in-table refl some-node (N .mids);
+          nodes-are = subst (λ (x : ℕ). items (placeAt (iter (placeRow n rows s₂) 0 t nodes)) 0 (n + x) ≡ splitAt bisected m es .nodes) (sym nc)
+              (placed-mesh nodes n m es bisected rows s₂ t refl corners (N .before) (N .met) room);
+          rows-are = cut-mesh m es n rows s₂ t nodes-in-table refl some-node (N .mids);
           nodes-after = sym after-nodes;
           rows-after = sym after-rows;
         }
 
-    ready-after : Ready s₂ (length nodes / 2) l t
-    ready-after = ready-numbered l s₁ s₂ (length nodes / 2) t k (R .rows-fit) (ready-closed l s₀ s₁ (length nodes / 2) t (R .rows-fit) (R .ready) marks e₁) e₂
+    ready-after : Ready s₂ (length nodes / 2) rows t
+    ready-after = ready-numbered rows s₁ s₂ (length nodes / 2) t k (R .rows-fit) (ready-closed rows s₀ s₁ (length nodes / 2) t (R .rows-fit) (R .ready) marks e₁) e₂
 
-    pub late-plan : (r : Plan) → r ≡ weighed nodes l s₂ n t k → r .number ≡ 0 → Planned nodes l s₂ marks n t (r .n) (r .t)
+    pub late-plan : (r : Plan) → r ≡ weighed nodes rows s₂ n t k → r .number ≡ 0 → Planned nodes rows s₂ marks n t (r .n) (r .t)
     unfolding weighed
     late-plan r e z =
-        go (all (halves m) es) (fitsIn nodes l marks n t) refl
+        go (all (halves m) es) (fitsIn nodes rows marks n t) refl
         (e ∙ rw (odd-as-said, short-is))
       where
-        go : (a b : Bool) → fitsIn nodes l marks n t ≡ b →
-            r ≡ cases (not a) (planOf 8 n t) (cases (not b) (planOf 9 n t) (planOf 0 (n + k) (t + sumTo (splits s₂) t))) → Planned nodes l s₂ marks n t (r .n) (r .t)
-        go true true q f = subst (λ (p : Plan). Planned nodes l s₂ marks n t (p .n) (p .t)) (sym f) (room-plan ready-after q)
+        go : (a b : Bool) → fitsIn nodes rows marks n t ≡ b →
+            r ≡ cases (not a) (planOf 8 n t) (cases (not b) (planOf 9 n t) (planOf 0 (n + k) (t + sumTo (splits s₂) t))) → Planned nodes rows s₂ marks n t (r .n) (r .t)
+        go true true q f = subst (λ (p : Plan). Planned nodes rows s₂ marks n t (p .n) (p .t)) (sym f) (room-plan ready-after q)
         go true false q f = let y : r .number ≡ 9 = ap (λ (p : Plan). p .number) f in absurd (omega arith)
         go false b q f = let y : r .number ≡ 8 = ap (λ (p : Plan). p .number) f in absurd (omega arith)
 
-    pub weighty : Weighty nodes l s₂ n t k
+    pub weighty : Weighty nodes rows s₂ n t k
     weighty =
         let a = R .sizes in
         let b = R .rows-fit in
@@ -215,68 +215,68 @@ module _ (nodes : List ℤ) (l s₀ marks : List ℕ) (n t : ℕ) (R : Admitted 
         let f = N .few in
         record { rows-fit = R .rows-fit; notes-fit = omega arith; few-rows = omega arith; few-nodes = omega arith; standing = rows-standing }
 
-  pub closed-ready : (s₁ : List ℕ) → s₁ ≡ iter (drawMarked l t marks) 0 t s₀ → Ready s₁ (length nodes / 2) l t
-  closed-ready s₁ e = ready-closed l s₀ s₁ (length nodes / 2) t (R .rows-fit) (R .ready) marks e
+  pub closed-ready : (s₁ : List ℕ) → s₁ ≡ iter (drawMarked rows t marks) 0 t s₀ → Ready s₁ (length nodes / 2) rows t
+  closed-ready s₁ e = ready-closed rows s₀ s₁ (length nodes / 2) t (R .rows-fit) (R .ready) marks e
 
-  pub closed-fit : (s₁ : List ℕ) → s₁ ≡ iter (drawMarked l t marks) 0 t s₀ → t ≤ length s₁
-  closed-fit s₁ e = let a = notes-fit in let b = ap length e ∙ close-kept l t t (omega arith) marks s₀ .0 in omega arith
+  pub closed-fit : (s₁ : List ℕ) → s₁ ≡ iter (drawMarked rows t marks) 0 t s₀ → t ≤ length s₁
+  closed-fit s₁ e = let a = notes-fit in let b = ap length e ∙ close-kept rows t t (omega arith) marks s₀ .0 in omega arith
 
   pub marks-long : t ≤ length marks
   marks-long = let a = R .marks-fit in omega arith
 
 -- ---- 1 to 7, then 8 and 9
 
-module _ (nodes : List ℤ) (l s : List ℕ) (n0 n t : ℕ) (marks : List ℕ) (k : ℕ) (e : k ≡ early (given nodes l s n t) n0 t marks) where
-  pub judge-early : (k ≡ 0 → ⊥) → k ≡ refineNumber (given nodes l s n t) n0 marks
+module _ (nodes : List ℤ) (rows s : List ℕ) (n0 n t : ℕ) (marks : List ℕ) (k : ℕ) (e : k ≡ early (given nodes rows s n t) n0 t marks) where
+  pub judge-early : (k ≡ 0 → ⊥) → k ≡ refineNumber (given nodes rows s n t) n0 marks
   unfolding refineNumber
   judge-early o = rw (← e) (first-of k _ o)
 
-  pub judge-late : (r : ℕ) → k ≡ 0 → r ≡ lateNumber nodes l marks n t → r ≡ refineNumber (given nodes l s n t) n0 marks
+  pub judge-late : (r : ℕ) → k ≡ 0 → r ≡ lateNumber nodes rows marks n t → r ≡ refineNumber (given nodes rows s n t) n0 marks
   unfolding refineNumber
   judge-late r z d = rw (← e, z) d
 
 -- ---- the work: a, b after placing and cutting; c, d after the rest is cleared
 
-module _ (nodes a : List ℤ) (l s : List ℕ) (n t n1 t1 : ℕ) (C : Carry nodes l s n t n1 t1) where
-  pub carry-standing : (i : ℕ) → i < t → Standing nodes (rowAt l i)
+module _ (nodes a : List ℤ) (rows s : List ℕ) (n t n1 t1 : ℕ) (C : Carry nodes rows s n t n1 t1) where
+  pub carry-standing : (i : ℕ) → i < t → Standing nodes (rowAt rows i)
   carry-standing = C .standing
 
   pub carry-room : (i : ℕ) → i < t → 2 * after n (noteAt s i) ≤ length nodes
   carry-room = C .room
 
-  pub carry-ready : length a ≡ length nodes → Ready s (length a / 2) l t
+  pub carry-ready : length a ≡ length nodes → Ready s (length a / 2) rows t
   carry-ready e = rw e (C .ready)
 
-pub carry-done : (nodes a c : List ℤ) (l b d s : List ℕ) (n t n1 t1 : ℕ) → a ≡ iter (placeRow n l s) 0 t nodes → length a ≡ length nodes →
-    items (rowAt b) 0 t1 ≡ cutAll (items (cutAt n l s) 0 t) → length b ≡ length l → c ≡ filled (pos 0) (length a) (flatNodes (items (placeAt a) 0 n1)) →
-    d ≡ filled 0 (length b) (flatRows (items (rowAt b) 0 t1)) → bothTables c d ≡ carried nodes l s n t n1
+pub carry-done : (nodes a c : List ℤ) (rows b d s : List ℕ) (n t n1 t1 : ℕ) → a ≡ iter (placeRow n rows s) 0 t nodes → length a ≡ length nodes →
+    items (rowAt b) 0 t1 ≡ cutAll (items (cutAt n rows s) 0 t) → length b ≡ length rows → c ≡ filled (pos 0) (length a) (flatNodes (items (placeAt a) 0 n1)) →
+    d ≡ filled 0 (length b) (flatRows (items (rowAt b) 0 t1)) → bothTables c d ≡ carried nodes rows s n t n1
 unfolding carried
-carry-done nodes a c l b d s n t n1 t1 p la q lb fc fd = rw (fc, fd, q, la, lb, p)
+carry-done nodes a c rows b d s n t n1 t1 p la q lb fc fd = rw (fc, fd, q, la, lb, p)
 
 -- ---- what the call leaves
 
-module _ (nodes : List ℤ) (l s marks : List ℕ) (n0 n t : ℕ) (p : Plan) (z : s ≡ replicate (length s) 0) (e : p .number ≡ refineNumber (given nodes l s n t) n0 marks) where
-  refine-leaves : leaves (given nodes l s n t) (p .number) (afterIn nodes l marks n t) 0 ≡ refineOut newest (given nodes l s n t) n0 marks
+module _ (nodes : List ℤ) (rows s marks : List ℕ) (n0 n t : ℕ) (p : Plan) (z : s ≡ replicate (length s) 0) (e : p .number ≡ refineNumber (given nodes rows s n t) n0 marks) where
+  refine-leaves : leaves (given nodes rows s n t) (p .number) (afterIn nodes rows marks n t) 0 ≡ refineOut newest (given nodes rows s n t) n0 marks
   unfolding refineOut refines refineNo refineNumber lateNumber meshOf
-  refine-leaves = rw (e, length-items (rowAt l) t) (sym (leaves-late (given nodes l s n t) n0 t marks (lateNumber nodes l marks n t) (afterIn nodes l marks n t)))
+  refine-leaves = rw (e, length-items (rowAt rows) t) (sym (leaves-late (given nodes rows s n t) n0 t marks (lateNumber nodes rows marks n t) (afterIn nodes rows marks n t)))
 
-  pub work-refused : (r : Answer) → (p .number ≡ 0 → ⊥) → r ≡ answer (p .number) n t 0 → outcome r nodes l s ≡ refineOut newest (given nodes l s n t) n0 marks
-  work-refused r o f = leaves-refused nodes l s n t _ z (p .number) r o f ∙ refine-leaves
+  pub work-refused : (r : Answer) → (p .number ≡ 0 → ⊥) → r ≡ answer (p .number) n t 0 → outcome r nodes rows s ≡ refineOut newest (given nodes rows s n t) n0 marks
+  work-refused r o f = leaves-refused nodes rows s n t _ z (p .number) r o f ∙ refine-leaves
 
-  pub work-done : (r : Answer) (a : List ℤ) (b s′ : List ℕ) → p .number ≡ 0 → (p .number ≡ 0 → Planned nodes l s′ marks n t (p .n) (p .t)) →
-      bothTables a b ≡ carried nodes l s′ n t (p .n) → r ≡ answer 0 (p .n) (p .t) 0 → outcome r a b s ≡ refineOut newest (given nodes l s n t) n0 marks
+  pub work-done : (r : Answer) (a : List ℤ) (b s′ : List ℕ) → p .number ≡ 0 → (p .number ≡ 0 → Planned nodes rows s′ marks n t (p .n) (p .t)) →
+      bothTables a b ≡ carried nodes rows s′ n t (p .n) → r ≡ answer 0 (p .n) (p .t) 0 → outcome r a b s ≡ refineOut newest (given nodes rows s n t) n0 marks
   unfolding carried
   work-done r a b s′ q f g k =
       let d = f q in
-      leaves-done nodes l s n t (afterIn nodes l marks n t) z r a b (p .n) (p .t) (d .nodes-after) (d .rows-after)
+      leaves-done nodes rows s n t (afterIn nodes rows marks n t) z r a b (p .n) (p .t) (d .nodes-after) (d .rows-after)
       (ap (λ (y : Pair). y .nodes) g ∙ ap (λ v. filled (pos 0) (length nodes) (flatNodes v)) (d .nodes-are))
-      (ap (λ (y : Pair). y .rows) g ∙ ap (λ v. filled 0 (length l) (flatRows v)) (d .rows-are)) k
+      (ap (λ (y : Pair). y .rows) g ∙ ap (λ v. filled 0 (length rows) (flatRows v)) (d .rows-are)) k
       ∙ rw q at refine-leaves
 
-pub refined-call : (nodes a : List ℤ) (l b s s₁ s₂ s₃ marks : List ℕ) (n0 n t : ℕ) (r : Answer) → s₁ ≡ replicate (length s) 0 →
-    outcome r a b s₁ ≡ refineOut newest (given nodes l s₁ n t) n0 marks → length s₂ ≡ length s₁ → s₃ ≡ replicate (length s₂) 0 →
-    outcome r a b s₃ ≡ refineOut newest (given nodes l s n t) n0 marks
+pub refined-call : (nodes a : List ℤ) (rows b s s₁ s₂ s₃ marks : List ℕ) (n0 n t : ℕ) (r : Answer) → s₁ ≡ replicate (length s) 0 →
+    outcome r a b s₁ ≡ refineOut newest (given nodes rows s₁ n t) n0 marks → length s₂ ≡ length s₁ → s₃ ≡ replicate (length s₂) 0 →
+    outcome r a b s₃ ≡ refineOut newest (given nodes rows s n t) n0 marks
 unfolding refineOut meshOf
-refined-call nodes a l b s s₁ s₂ s₃ marks n0 n t r p =
-    call-out s s₁ p (λ x. refineOut newest (given nodes l x n t) n0 marks)
-    (λ x x′ e. left-same nodes l x x′ n0 n t e (refines newest (roomOf (given nodes l s n t)) (meshIn nodes l n t) marks)) r a b s₂ s₃
+refined-call nodes a rows b s s₁ s₂ s₃ marks n0 n t r p =
+    call-out s s₁ p (λ x. refineOut newest (given nodes rows x n t) n0 marks)
+    (λ x x′ e. left-same nodes rows x x′ n0 n t e (refines newest (roomOf (given nodes rows s n t)) (meshIn nodes rows n t) marks)) r a b s₂ s₃

@@ -124,8 +124,8 @@ ownAt side-v n c = ownV n c
 module _ (l : List ℕ) (t n : ℕ) (only-one : OnceAt l t) (named : (i : ℕ) → i < t → Named n (rowAt l i)) (mem : Edge → Bool)
     (pull : (i : ℕ) (e : Edge) → i < t → List·Memᴰ e (edges (rowAt l i)) → mem e ≡ true → mem (base (rowAt l i)) ≡ true)
     (held : (e : Edge) → mem e ≡ true → (j : ℕ) × (j < t) × (base (rowAt l j) ≡ e)) where
-  abbrev metTo : ℕ → List Edge
-  metTo i = metIn l mem i
+  abbrev metBelow : ℕ → List Edge
+  metBelow i = metIn l mem i
 
   abbrev scanned : List Edge
   scanned = scanOf l mem t
@@ -145,14 +145,14 @@ module _ (l : List ℕ) (t n : ℕ) (only-one : OnceAt l t) (named : (i : ℕ) �
   one-below i h a b x y p q = only-one a b x y (omega arith) (omega arith)
 
   -- an edge is met below row i exactly if a row there holds it the other way round
-  met-old : (i j x y : ℕ) → i ≤ t → lowest (arrowAt l y x) 0 i ≡ At j → mem (edge x y) ≡ true → any (sameEdge (edge x y)) (metTo i) ≡ true
+  met-old : (i j x y : ℕ) → i ≤ t → lowest (arrowAt l y x) 0 i ≡ At j → mem (edge x y) ≡ true → any (sameEdge (edge x y)) (metBelow i) ≡ true
   met-old i j x y h e m =
       let f = found-side l i (one-below i h) j y x e in
       let k : List·Memᴰ (edge x y) (edges (rowAt l j)) = subst (λ (d : Edge). List·Memᴰ d (edges (rowAt l j))) (edge-comm y x) (side-edge (rowAt l j) (f .1)) in
       any-at (sameEdge (edge x y)) (sameEdge-refl (edge x y)) (only-in mem (joined-in edges (items-in (rowAt l) i j (f .0)) k) m)
 
-  met-new : (i x y : ℕ) → i < t → Side (rowAt l i) x y → lowest (arrowAt l y x) 0 i ≡ Nothing → any (sameEdge (edge x y)) (metTo i) ≡ false
-  met-new i x y h s e = not-so (any (sameEdge (edge x y)) (metTo i)) (λ a. go (any-row (sameEdge (edge x y)) (metTo i) a))
+  met-new : (i x y : ℕ) → i < t → Side (rowAt l i) x y → lowest (arrowAt l y x) 0 i ≡ Nothing → any (sameEdge (edge x y)) (metBelow i) ≡ false
+  met-new i x y h s e = not-so (any (sameEdge (edge x y)) (metBelow i)) (λ a. go (any-row (sameEdge (edge x y)) (metBelow i) a))
     where
       side : (d : Edge) (j : ℕ) → j < i → sameEdge (edge x y) d ≡ true → (a : ℕ) × (c : ℕ) × Side (rowAt l j) a c × (d ≡ edge a c) → ⊥
       side d j b q (a, c, u, g) = ends (edge-ends x y a c (sameEdge-eq (edge x y) d q ∙ g))
@@ -168,7 +168,7 @@ module _ (l : List ℕ) (t n : ℕ) (only-one : OnceAt l t) (named : (i : ℕ) �
           let r = items-of (rowAt l) i k in
           side d (r .0) (r .1) q (edge-side (rowAt l (r .0)) d (subst (λ (v : Tri). List·Memᴰ d (edges v)) (r .2) o))
 
-      go : (d : Edge) × List·Memᴰ d (metTo i) × (sameEdge (edge x y) d ≡ true) → ⊥
+      go : (d : Edge) × List·Memᴰ d (metBelow i) × (sameEdge (edge x y) d ≡ true) → ⊥
       go (d, m, q) = row d q (in-joined edges (items (rowAt l) 0 i) (in-only mem (joined edges (items (rowAt l) 0 i)) m .0))
 
   -- ---- the parts of a note: each edge is judged by the row across
@@ -179,7 +179,7 @@ module _ (l : List ℕ) (t n : ℕ) (only-one : OnceAt l t) (named : (i : ℕ) �
   unfolding metBy
   by-is i j x y h s e = go (decLt j i) (mem (edge x y)) refl
     where
-      go : Dec (j < i) → (b : Bool) → mem (edge x y) ≡ b → cases (ltb j i) (met (bit b) 0) (met (bit b) (bit b)) ≡ met (bit b) (bit (b && not (any (sameEdge (edge x y)) (metTo i))))
+      go : Dec (j < i) → (b : Bool) → mem (edge x y) ≡ b → cases (ltb j i) (met (bit b) 0) (met (bit b) (bit b)) ≡ met (bit b) (bit (b && not (any (sameEdge (edge x y)) (metBelow i))))
       go (yes a) true q = let m = met-old i j x y (omega arith) (lowest-cut (arrowAt l y x) t i j e a) q in rw (lt-ltb j i a, m)
       go (yes a) false q = rw (lt-ltb j i a)
       go (no a) b q =
@@ -255,14 +255,14 @@ module _ (l : List ℕ) (t n : ℕ) (only-one : OnceAt l t) (named : (i : ℕ) �
 
   -- ---- the note of row i
 
-  of-is : (s : List ℕ) → ((j : ℕ) → j < t → noteAt s j .m ≡ bit (mem (base (rowAt l j)))) → (i : ℕ) → i < t → noteOf l t s i (length (once sameEdge (metTo i))) ≡ noteFor i
+  of-is : (s : List ℕ) → ((j : ℕ) → j < t → noteAt s j .m ≡ bit (mem (base (rowAt l j)))) → (i : ℕ) → i < t → noteOf l t s i (length (once sameEdge (metBelow i))) ≡ noteFor i
   unfolding noteOf
   of-is s bits i h = go (mem (base (rowAt l i))) refl
     where
       go : (b : Bool) → mem (base (rowAt l i)) ≡ b →
-          cases (eqb (noteAt s i .m) 0) (note 0 0 0 0 0 0 (length (once sameEdge (metTo i))))
+          cases (eqb (noteAt s i .m) 0) (note 0 0 0 0 0 0 (length (once sameEdge (metBelow i))))
           (noteBy (metBase l t i (rowAt l i .q) (rowAt l i .r)) (metAcross l t s i (rowAt l i .p) (rowAt l i .q)) (metAcross l t s i (rowAt l i .r) (rowAt l i .p))
-          (length (once sameEdge (metTo i)))) ≡ noteFor i
+          (length (once sameEdge (metBelow i)))) ≡ noteFor i
       go true m =
           let c = across-is s bits i (rowAt l i .p) (rowAt l i .q) h side-u (λ x y. named i h .p≢q (sym x)) in
           let d = across-is s bits i (rowAt l i .r) (rowAt l i .p) h side-v (λ x y. named i h .q≢r x) in
@@ -291,17 +291,17 @@ module _ (l : List ℕ) (t n : ℕ) (only-one : OnceAt l t) (named : (i : ℕ) �
     earlier-apart side-v = (apart (cons u-m nil) (apart nil none), rw (v-m, v-u))
 
     -- row i adds the edges first met in it
-    firsts-next : once sameEdge (metTo (i + 1)) ≡ once sameEdge (metTo i) ++ firsts i
+    firsts-next : once sameEdge (metBelow (i + 1)) ≡ once sameEdge (metBelow i) ++ firsts i
     firsts-next =
         ap (λ (ts : List Tri). once sameEdge (only mem (joined edges ts))) (items-snoc (rowAt l) 0 i (omega arith))
         ∙ ap (λ (es : List Edge). once sameEdge (only mem es)) (joined-append edges (items (rowAt l) 0 i) (rowAt l i ∷ []))
         ∙ ap (once sameEdge) (only-append mem (joined edges (items (rowAt l) 0 i)) (joined edges (rowAt l i ∷ [])))
-        ∙ once-more mem (metTo i) (apart (cons u-m (cons v-m nil)) (apart (cons v-u nil) (apart nil none)))
+        ∙ once-more mem (metBelow i) (apart (cons u-m (cons v-m nil)) (apart (cons v-u nil) (apart nil none)))
 
-    length-next : length (once sameEdge (metTo (i + 1))) ≡
-        length (once sameEdge (metTo i)) + bit (news i (base (rowAt l i))) + bit (news i (edge (rowAt l i .p) (rowAt l i .q))) + bit (news i (edge (rowAt l i .r) (rowAt l i .p)))
+    length-next : length (once sameEdge (metBelow (i + 1))) ≡
+        length (once sameEdge (metBelow i)) + bit (news i (base (rowAt l i))) + bit (news i (edge (rowAt l i .p) (rowAt l i .q))) + bit (news i (edge (rowAt l i .r) (rowAt l i .p)))
     length-next =
-        ap length firsts-next ∙ length-append (once sameEdge (metTo i)) (firsts i)
+        ap length firsts-next ∙ length-append (once sameEdge (metBelow i)) (firsts i)
         ∙ omega (
           arith,
           length-front (news i (base (rowAt l i))) (base (rowAt l i)) (only (news i) (edge (rowAt l i .p) (rowAt l i .q) ∷ edge (rowAt l i .r) (rowAt l i .p) ∷ [])),
@@ -315,15 +315,15 @@ module _ (l : List ℕ) (t n : ℕ) (only-one : OnceAt l t) (named : (i : ℕ) �
   num-out e q = rw (where-nowhere (sameEdge e) scanned none-there)
     where
       none-there : any (sameEdge e) scanned ≡ false
-      none-there = any-once-edge e (metTo t) ∙ not-so (any (sameEdge e) (metTo t)) (λ a. go (any-row (sameEdge e) (metTo t) a))
+      none-there = any-once-edge e (metBelow t) ∙ not-so (any (sameEdge e) (metBelow t)) (λ a. go (any-row (sameEdge e) (metBelow t) a))
         where
-          go : (x : Edge) × List·Memᴰ x (metTo t) × (sameEdge e x ≡ true) → ⊥
+          go : (x : Edge) × List·Memᴰ x (metBelow t) × (sameEdge e x ≡ true) → ⊥
           go (x, i, a) =
               let m = in-only mem (joined edges (items (rowAt l) 0 t)) i .1 in
               let f : true ≡ false = sym m ∙ ap mem (sym (sameEdge-eq e x a)) ∙ q in
               clash f
 
-  num-new : (P Q : List Edge) (e : Edge) → metTo t ≡ P ++ consIf (mem e) e Q → mem e ≡ true → any (sameEdge e) P ≡ false → num n scanned e ≡ n + length (once sameEdge P)
+  num-new : (P Q : List Edge) (e : Edge) → metBelow t ≡ P ++ consIf (mem e) e Q → mem e ≡ true → any (sameEdge e) P ≡ false → num n scanned e ≡ n + length (once sameEdge P)
   num-new P Q e q m a =
       let f : scanned ≡ once sameEdge (P ++ (e ∷ Q)) = ap (once sameEdge) (q ∙ ap (λ (b : Bool). P ++ consIf b e Q) m) in
       rw (f, once-place P Q e a)
@@ -333,13 +333,13 @@ module _ (l : List ℕ) (t n : ℕ) (only-one : OnceAt l t) (named : (i : ℕ) �
   not-yes false e = refl
 
   news-in : (i : ℕ) (e : Edge) → news i e ≡ true → mem e ≡ true
-  news-in i e a = and-left (mem e) (not (any (sameEdge e) (metTo i))) a
+  news-in i e a = and-left (mem e) (not (any (sameEdge e) (metBelow i))) a
 
-  news-none : (i : ℕ) (e : Edge) → news i e ≡ true → any (sameEdge e) (metTo i) ≡ false
-  news-none i e a = not-yes (any (sameEdge e) (metTo i)) (and-right (mem e) (not (any (sameEdge e) (metTo i))) a)
+  news-none : (i : ℕ) (e : Edge) → news i e ≡ true → any (sameEdge e) (metBelow i) ≡ false
+  news-none i e a = not-yes (any (sameEdge e) (metBelow i)) (and-right (mem e) (not (any (sameEdge e) (metBelow i))) a)
 
   -- a row's own numbers: after all edges met below it, and those that come before in it
-  own-count : (i : ℕ) {x y : ℕ} (s : Side (rowAt l i) x y) → ownAt s n (noteFor i) ≡ n + (length (once sameEdge (metTo i)) + length (only (news i) (earlier s)))
+  own-count : (i : ℕ) {x y : ℕ} (s : Side (rowAt l i) x y) → ownAt s n (noteFor i) ≡ n + (length (once sameEdge (metBelow i)) + length (only (news i) (earlier s)))
   own-count i side-m = omega arith
   own-count i side-u = omega (arith, length-front (news i (base (rowAt l i))) (base (rowAt l i)) [])
   own-count i side-v = omega (
@@ -354,16 +354,16 @@ module _ (l : List ℕ) (t n : ℕ) (only-one : OnceAt l t) (named : (i : ℕ) �
       let B : List Edge = earlier s in
       let L : List Edge = joined edges (items (rowAt l) (i + 1) t) in
       let p = earlier-apart i h s in
-      let around : metTo t ≡ (metTo i ++ only mem (earlier s)) ++ consIf (mem (edge x y)) (edge x y) (only mem (following s ++ joined edges (items (rowAt l) (i + 1) t))) =
+      let around : metBelow t ≡ (metBelow i ++ only mem (earlier s)) ++ consIf (mem (edge x y)) (edge x y) (only mem (following s ++ joined edges (items (rowAt l) (i + 1) t))) =
       ap (λ (ts : List Tri). only mem (joined edges ts)) (items-around (rowAt l) t i h)
       ∙ ap (only mem) (joined-append edges (items (rowAt l) 0 i) (rowAt l i ∷ items (rowAt l) (i + 1) t) ∙ ap (λ (es : List Edge). joined edges (items (rowAt l) 0 i) ++ es) (row-around s L))
       ∙ only-append mem (joined edges (items (rowAt l) 0 i)) (B ++ (e ∷ (following s ++ L)))
-      ∙ ap (λ (es : List Edge). metTo i ++ es) (only-append mem B (e ∷ (following s ++ L))) ∙ sym (append-assoc (metTo i) (only mem B) (only mem (e ∷ (following s ++ L)))) in
-      let fresh : any (sameEdge (edge x y)) (metTo i ++ only mem (earlier s)) ≡ false =
-      any-append (sameEdge e) (metTo i) (only mem B) ∙ rw (news-none i e a, none-only mem (sameEdge e) B (p .1)) in
-      let counted : length (once sameEdge (metTo i ++ only mem (earlier s))) ≡ length (once sameEdge (metTo i)) + length (only (news i) (earlier s)) =
-      ap length (once-more mem (metTo i) (p .0)) ∙ length-append (once sameEdge (metTo i)) (only (news i) B) in
-      own-count i s ∙ sym (num-new (metTo i ++ only mem (earlier s)) _ e around (news-in i e a) fresh ∙ ap (λ (k : ℕ). n + k) counted)
+      ∙ ap (λ (es : List Edge). metBelow i ++ es) (only-append mem B (e ∷ (following s ++ L))) ∙ sym (append-assoc (metBelow i) (only mem B) (only mem (e ∷ (following s ++ L)))) in
+      let fresh : any (sameEdge (edge x y)) (metBelow i ++ only mem (earlier s)) ≡ false =
+      any-append (sameEdge e) (metBelow i) (only mem B) ∙ rw (news-none i e a, none-only mem (sameEdge e) B (p .1)) in
+      let counted : length (once sameEdge (metBelow i ++ only mem (earlier s))) ≡ length (once sameEdge (metBelow i)) + length (only (news i) (earlier s)) =
+      ap length (once-more mem (metBelow i) (p .0)) ∙ length-append (once sameEdge (metBelow i)) (only (news i) B) in
+      own-count i s ∙ sym (num-new (metBelow i ++ only mem (earlier s)) _ e around (news-in i e a) fresh ∙ ap (λ (k : ℕ). n + k) counted)
 
   own-is : (i : ℕ) → i < t → {x y : ℕ} → Side (rowAt l i) x y → news i (edge x y) ≡ true → ownOn n (rowAt l i) (noteFor i) x y ≡ num n scanned (edge x y)
   unfolding ownOn
@@ -378,7 +378,7 @@ module _ (l : List ℕ) (t n : ℕ) (only-one : OnceAt l t) (named : (i : ℕ) �
   -- where the notes of the rows up to i say what they are to say
   module _ (s : List ℕ) (i : ℕ) (h : i < t) (notes : (j : ℕ) → j ≤ i → noteAt s j ≡ noteFor j) where
     -- the edge was met in a lower row, the one across
-    across-num : (x y : ℕ) → Side (rowAt l i) x y → mem (edge x y) ≡ true → any (sameEdge (edge x y)) (metTo i) ≡ true → across n l s i x y ≡ num n scanned (edge x y)
+    across-num : (x y : ℕ) → Side (rowAt l i) x y → mem (edge x y) ≡ true → any (sameEdge (edge x y)) (metBelow i) ≡ true → across n l s i x y ≡ num n scanned (edge x y)
     unfolding across
     across-num x y side m a = go (lowest (arrowAt l y x) 0 i) refl
       where
@@ -396,9 +396,9 @@ module _ (l : List ℕ) (t n : ℕ) (only-one : OnceAt l t) (named : (i : ℕ) �
     for-num : {x y : ℕ} (side : Side (rowAt l i) x y) →
         midFor n l s i (bit (mem (edge x y))) (bit (news i (edge x y))) (ownAt side n (noteFor i)) x y ≡ num n scanned (edge x y)
     unfolding midFor
-    for-num {x} {y} side = go (mem (edge x y)) refl (any (sameEdge (edge x y)) (metTo i)) refl (own-num i h side)
+    for-num {x} {y} side = go (mem (edge x y)) refl (any (sameEdge (edge x y)) (metBelow i)) refl (own-num i h side)
       where
-        go : (b : Bool) → mem (edge x y) ≡ b → (c : Bool) → any (sameEdge (edge x y)) (metTo i) ≡ c → (b && not c ≡ true → ownAt side n (noteFor i) ≡ num n scanned (edge x y)) →
+        go : (b : Bool) → mem (edge x y) ≡ b → (c : Bool) → any (sameEdge (edge x y)) (metBelow i) ≡ c → (b && not c ≡ true → ownAt side n (noteFor i) ≡ num n scanned (edge x y)) →
             cases (eqb (bit b) 0) 0 (cases (eqb (bit (b && not c)) 1) (ownAt side n (noteFor i)) (across n l s i x y)) ≡ num n scanned (edge x y)
         go true m true a g = across-num x y side m a
         go true m false a g = g refl
@@ -414,11 +414,11 @@ module _ (l : List ℕ) (t n : ℕ) (only-one : OnceAt l t) (named : (i : ℕ) �
   pub record Reached (N i : ℕ) (st : Numbers) : Type 0 where
     pub done : (j : ℕ) → j < i → noteAt (st .table) j ≡ noteFor j
     pub todo : (j : ℕ) → i ≤ j → j < t → noteAt (st .table) j .m ≡ bit (mem (base (rowAt l j)))
-    pub counted : st .count ≡ length (once sameEdge (metTo i))
+    pub counted : st .count ≡ length (once sameEdge (metBelow i))
     pub few : st .count ≤ 3 * i
     pub long : length (st .table) ≡ N
 
-  for-tight : (i : ℕ) → length (once sameEdge (metTo i)) ≤ 16_777_216 → Tight (noteFor i)
+  for-tight : (i : ℕ) → length (once sameEdge (metBelow i)) ≤ 16_777_216 → Tight (noteFor i)
   for-tight i k = record {
     m-bit = bit-one (mem (base (rowAt l i)));
     u-bit = bit-one (mem (edge (rowAt l i .p) (rowAt l i .q)));
@@ -440,7 +440,7 @@ module _ (l : List ℕ) (t n : ℕ) (only-one : OnceAt l t) (named : (i : ℕ) �
       long = length-set (st .table) i (packed (noteFor i)) ∙ d .long;
     })
       where
-        few′ : length (once sameEdge (metTo i)) ≤ 16_777_216
+        few′ : length (once sameEdge (metBelow i)) ≤ 16_777_216
         few′ = let a = d .counted in let b = d .few in omega arith
 
         bits : (j : ℕ) → j < t → noteAt (st .table) j .m ≡ bit (mem (base (rowAt l j)))
@@ -475,7 +475,7 @@ module _ (l : List ℕ) (t n : ℕ) (only-one : OnceAt l t) (named : (i : ℕ) �
         mod-bit true = refl
         mod-bit false = refl
 
-        none-met : 0 ≡ length (once sameEdge (metTo 0))
+        none-met : 0 ≡ length (once sameEdge (metBelow 0))
         none-met = let z : items (rowAt l) 0 0 ≡ [] = items-none (rowAt l) 0 0 (omega arith) in rw z
 
   -- ---- the scan: the edges that the notes call first met are the scan itself
@@ -486,7 +486,7 @@ module _ (l : List ℕ) (t n : ℕ) (only-one : OnceAt l t) (named : (i : ℕ) �
       rw (e, bit-is-one (news i (base (rowAt l i))), bit-is-one (news i (edge (rowAt l i .p) (rowAt l i .q))), bit-is-one (news i (edge (rowAt l i .r) (rowAt l i .p))))
 
   -- where the notes of the rows below i say what they are to say, the edges first met in them are those of the scan
-  pub scan-met : (s : List ℕ) (i : ℕ) → i ≤ t → ((j : ℕ) → j < i → noteAt s j ≡ noteFor j) → Met.metTo l s i ≡ once sameEdge (metTo i)
+  pub scan-met : (s : List ℕ) (i : ℕ) → i ≤ t → ((j : ℕ) → j < i → noteAt s j ≡ noteFor j) → Met.metTo l s i ≡ once sameEdge (metBelow i)
   unfolding Met.metTo Met.metAt
   scan-met s zero h f = rw (items-none (rowAt l) 0 0 (omega arith))
   scan-met s (suc i) h f =
@@ -494,5 +494,5 @@ module _ (l : List ℕ) (t n : ℕ) (only-one : OnceAt l t) (named : (i : ℕ) �
       let a : i < t = omega arith in
       joined-append (Met.metAt l s) (upTo i) (i ∷ [])
       ∙ ap (λ (r : List Edge). r ++ (Met.metAt l s i ++ [])) (scan-met s i (omega arith) (λ j k. f j (omega arith)))
-      ∙ ap (λ (r : List Edge). once sameEdge (metTo i) ++ r) (append-nil (Met.metAt l s i) ∙ row-met s i (f i (omega arith)))
-      ∙ sym (firsts-next i a) ∙ ap (λ (k : ℕ). once sameEdge (metTo k)) (sym e)
+      ∙ ap (λ (r : List Edge). once sameEdge (metBelow i) ++ r) (append-nil (Met.metAt l s i) ∙ row-met s i (f i (omega arith)))
+      ∙ sym (firsts-next i a) ∙ ap (λ (k : ℕ). once sameEdge (metBelow k)) (sym e)

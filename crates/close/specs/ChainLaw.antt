@@ -53,9 +53,9 @@ module _ (l : List ℕ) (t : ℕ) where
     last : getD s j 0 ≡ 0 → acrossRow l t j ≡ Nothing → Step k j s (set s j 1)
     more : (i : ℕ) → getD s j 0 ≡ 0 → acrossRow l t j ≡ At i → Step k j s (drawn k l t i (set s j 1))
 
-  step-is : (k j : ℕ) (s : List ℕ) → Step k j s (drawn (suc k) l t j s)
+  step-by : (k j : ℕ) (s : List ℕ) → Step k j s (drawn (suc k) l t j s)
   unfolding drawn
-  step-is k j s = go (ℕ-discrete (getD s j 0) 0)
+  step-by k j s = go (ℕ-discrete (getD s j 0) 0)
     where
       found : (w : Found) → acrossRow l t j ≡ w → getD s j 0 ≡ 0 → Step k j s (onFound w (λ i. drawn k l t i (set s j 1)) (set s j 1))
       found (At i) q e = more i e q
@@ -70,7 +70,7 @@ module _ (l : List ℕ) (t : ℕ) where
   ClosedBut s j = (x y : ℕ) → x < t → acrossRow l t x ≡ At y → Up s x → (y ≡ j) ⊎ Up s y
 
   -- where a note is up, it is up across
-  abbrev pub ClosedUp : List ℕ → Type 0
+  abbrev ClosedUp : List ℕ → Type 0
   ClosedUp s = (x y : ℕ) → x < t → acrossRow l t x ≡ At y → Up s x → Up s y
 
   record Chain (s : List ℕ) (j : ℕ) (m : List ℕ) : Type 0 where
@@ -90,7 +90,7 @@ module _ (l : List ℕ) (t : ℕ) where
   drawn-chain : (k j : ℕ) (s : List ℕ) → zeros s ≤ k → j < t → t ≤ length s → ClosedBut s j → Chain s j (drawn k l t j s)
   unfolding drawn
   drawn-chain zero j s z h b c = stops s j c (λ e. let y = zeros-set s j (omega arith) e in omega arith)
-  drawn-chain (suc k) j s z h b c = go (step-is k j s) (drawn-chain k)
+  drawn-chain (suc k) j s z h b c = go (step-by k j s) (drawn-chain k)
     where
       lt : j < length s
       lt = omega arith
@@ -140,15 +140,15 @@ module _ (l : List ℕ) (t : ℕ) where
   draws-chain j s h b c = drawn-chain (zeros s) j s (omega arith) h b (λ x y g q u. inr (c x y g q u))
 
   -- a set of rows that holds with a row the one across
-  abbrev pub Pulled : (ℕ → Type 0) → Type 0
-  Pulled P = (x y : ℕ) → x < t → acrossRow l t x ≡ At y → P x → P y
+  abbrev pub PulledAcross : (ℕ → Type 0) → Type 0
+  PulledAcross P = (x y : ℕ) → x < t → acrossRow l t x ≡ At y → P x → P y
 
   -- nothing else goes up
-  module _ (P : ℕ → Type 0) (pull : Pulled P) where
+  module _ (P : ℕ → Type 0) (pull : PulledAcross P) where
     drawn-only : (k j : ℕ) (s : List ℕ) → j < t → P j → ((x : ℕ) → x < t → Up s x → P x) → (x : ℕ) → x < t → Up (drawn k l t j s) x → P x
     unfolding drawn
     drawn-only zero j s h p o x b u = o x b u
-    drawn-only (suc k) j s h p o x b u = go (step-is k j s) (drawn-only k) u
+    drawn-only (suc k) j s h p o x b u = go (step-by k j s) (drawn-only k) u
       where
         here : (y : ℕ) → y < t → Up (set s j 1) y → P y
         here y c v = at (up-old s j y v)
@@ -173,12 +173,12 @@ module _ (l : List ℕ) (t : ℕ) where
   pub record Raised (starts : ℕ → Type 0) (s : List ℕ) : Type 1 where
     pub closed : ClosedUp s
     pub begun : (x : ℕ) → x < t → starts x → Up s x
-    pub least : (P : ℕ → Type 0) → Pulled P → ((x : ℕ) → x < t → starts x → P x) → (x : ℕ) → x < t → Up s x → P x
+    pub least : (P : ℕ → Type 0) → PulledAcross P → ((x : ℕ) → x < t → starts x → P x) → (x : ℕ) → x < t → Up s x → P x
     pub bits : (x : ℕ) → x < t → getD s x 0 ≤ 1
     pub long : t ≤ length s
 
   -- from none
-  pub raised-none : (starts : ℕ → Type 0) (s : List ℕ) → t ≤ length s → ((x : ℕ) → x < t → getD s x 0 ≡ 0) → ((x : ℕ) → starts x → ⊥) → Raised starts s
+  raised-none : (starts : ℕ → Type 0) (s : List ℕ) → t ≤ length s → ((x : ℕ) → x < t → getD s x 0 ≡ 0) → ((x : ℕ) → starts x → ⊥) → Raised starts s
   raised-none starts s b z n = record {
     closed = λ x y h a u. absurd (u (z x h));
     begun = λ x h w. absurd (n x w);
@@ -188,7 +188,7 @@ module _ (l : List ℕ) (t : ℕ) where
   }
 
   -- from one row more
-  pub raised-more : (starts wider : ℕ → Type 0) (j : ℕ) (s : List ℕ) → j < t → ((x : ℕ) → x < t → starts x → wider x) → wider j →
+  raised-more : (starts wider : ℕ → Type 0) (j : ℕ) (s : List ℕ) → j < t → ((x : ℕ) → x < t → starts x → wider x) → wider j →
       ((x : ℕ) → x < t → wider x → (x ≡ j) ⊎ starts x) → Raised starts s → Raised wider (draws l t j s)
   raised-more starts wider j s h f m g r =
       let c = draws-chain j s h (r .long) (r .closed) in
@@ -205,7 +205,7 @@ module _ (l : List ℕ) (t : ℕ) where
       begins c x u (inr w) = c .keeps x (r .begun x u w)
 
   -- the same rows, said otherwise
-  pub raised-same : (starts other : ℕ → Type 0) (s : List ℕ) → ((x : ℕ) → x < t → starts x → other x) → ((x : ℕ) → x < t → other x → starts x) → Raised starts s → Raised other s
+  raised-same : (starts other : ℕ → Type 0) (s : List ℕ) → ((x : ℕ) → x < t → starts x → other x) → ((x : ℕ) → x < t → other x → starts x) → Raised starts s → Raised other s
   raised-same starts other s f g r = record {
     closed = r .closed;
     begun = λ x u w. r .begun x u (g x u w);

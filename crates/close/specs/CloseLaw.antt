@@ -30,14 +30,14 @@ use Rattle.close.specs.EdgeLaw.{OnceAt, adjacent, across-has}
 -- ---- any starting rows and edges
 
 -- F are the notes, raised from some rows. Their refinement edges are in the closure, and where a row has a starting edge its note is up
-module _ (l : List ℕ) (t : ℕ) (once : OnceAt l t) (starts : ℕ → Type 0) (F : List ℕ) (raised : Raised l t starts F) (start : List Edge)
-    (inside : (x : ℕ) → x < t → starts x → memEdge (base (rowAt l x)) (closure (items (rowAt l) 0 t) start) ≡ true)
-    (touched : (i : ℕ) (e : Edge) → i < t → List·Memᴰ e (edges (rowAt l i)) → memEdge e start ≡ true → Up F i) where
+module _ (l : List ℕ) (t : ℕ) (once : OnceAt l t) (starts : ℕ → Type 0) (F : List ℕ) (raised : Raised l t starts F) (starting : List Edge)
+    (inside : (x : ℕ) → x < t → starts x → memEdge (base (rowAt l x)) (closure (items (rowAt l) 0 t) starting) ≡ true)
+    (touched : (i : ℕ) (e : Edge) → i < t → List·Memᴰ e (edges (rowAt l i)) → memEdge e starting ≡ true → Up F i) where
   abbrev ts : List Tri
   ts = items (rowAt l) 0 t
 
   abbrev S : List Edge
-  S = closure (items (rowAt l) 0 t) start
+  S = closure (items (rowAt l) 0 t) starting
 
   -- up, so in the set
   In : ℕ → Type 0
@@ -47,39 +47,39 @@ module _ (l : List ℕ) (t : ℕ) (once : OnceAt l t) (starts : ℕ → Type 0) 
   unfolding In
   in-pull x y h a p =
       let r = across-has l t once y x a in
-      All-at (All-at (closure-closed ts start .pull) (items-in (rowAt l) t y (r .0))) (r .1) p
+      All-at (All-at (closure-closed ts starting .pull) (items-in (rowAt l) t y (r .0))) (r .1) p
 
-  pub up-in : (x : ℕ) → x < t → Up F x → memEdge (base (rowAt l x)) S ≡ true
+  up-in : (x : ℕ) → x < t → Up F x → memEdge (base (rowAt l x)) S ≡ true
   unfolding In
   up-in = raised .least In in-pull inside
 
   -- in the set, so up
   abbrev pub Held : Edge → Type 0
-  Held e = (memEdge e start ≡ true) ⊎ ((j : ℕ) × (j < t) × Up F j × (base (rowAt l j) ≡ e))
+  Held e = (memEdge e starting ≡ true) ⊎ ((j : ℕ) × (j < t) × Up F j × (base (rowAt l j) ≡ e))
 
-  near : (i : ℕ) (e : Edge) → i < t → List·Memᴰ e (edges (rowAt l i)) → Held e → Up F i
-  near i e h m (inl q) = touched i e h m q
-  near i e h m (inr (j, k, u, q)) = ⊎-elim (λ d. subst (Up F) (sym d) u) (λ a. raised .closed j i k a u) (adjacent l t once i j e h k m q)
+  near-up : (i : ℕ) (e : Edge) → i < t → List·Memᴰ e (edges (rowAt l i)) → Held e → Up F i
+  near-up i e h m (inl q) = touched i e h m q
+  near-up i e h m (inr (j, k, u, q)) = ⊎-elim (λ d. subst (Up F) (sym d) u) (λ a. raised .closed j i k a u) (adjacent l t once i j e h k m q)
 
-  held-closed : Closed ts start Held
+  held-closed : Closed ts starting Held
   held-closed = record {
-    holds = All-of start (λ e i. inl (memEdge-in i));
-    pull = items-all (rowAt l) t (λ i h. All-of (edges (rowAt l i)) (λ e m q. inr (i, h, near i e h m q, refl)));
+    holds = All-of starting (λ e i. inl (memEdge-in i));
+    pull = items-all (rowAt l) t (λ i h. All-of (edges (rowAt l i)) (λ e m q. inr (i, h, near-up i e h m q, refl)));
   }
 
   -- an edge of the set is a starting edge, or the refinement edge of a row whose note is up
-  pub in-held : (e : Edge) → memEdge e S ≡ true → Held e
+  in-held : (e : Edge) → memEdge e S ≡ true → Held e
   in-held e m = memEdge-at e (closure-least held-closed) m
 
   -- a row with an edge in the set is up
-  pub edge-up : (i : ℕ) (e : Edge) → i < t → List·Memᴰ e (edges (rowAt l i)) → memEdge e S ≡ true → Up F i
-  edge-up i e h m q = near i e h m (in-held e q)
+  edge-up : (i : ℕ) (e : Edge) → i < t → List·Memᴰ e (edges (rowAt l i)) → memEdge e S ≡ true → Up F i
+  edge-up i e h m q = near-up i e h m (in-held e q)
 
-  pub in-up : (i : ℕ) → i < t → memEdge (base (rowAt l i)) S ≡ true → Up F i
+  in-up : (i : ℕ) → i < t → memEdge (base (rowAt l i)) S ≡ true → Up F i
   in-up i h m = edge-up i (base (rowAt l i)) h (List·Memᴰ·head refl) m
 
-  pub note-is : (i : ℕ) → i < t → getD F i 0 ≡ bit (memEdge (base (rowAt l i)) S)
-  note-is i h = go (memEdge (base (rowAt l i)) S) refl
+  pub note-in-closure : (i : ℕ) → i < t → getD F i 0 ≡ bit (memEdge (base (rowAt l i)) S)
+  note-in-closure i h = go (memEdge (base (rowAt l i)) S) refl
     where
       go : (b : Bool) → memEdge (base (rowAt l i)) S ≡ b → getD F i 0 ≡ bit b
       go true e = let u = in-up i h e in let b = raised .bits i h in one (getD F i 0) u b
@@ -118,43 +118,43 @@ module _ (l : List ℕ) (t : ℕ) (once : OnceAt l t) (marks s : List ℕ) (long
   abbrev F : List ℕ
   F = iter (drawMarked l t marks) 0 t s
 
-  abbrev start : List Edge
-  start = started newest marks (items (rowAt l) 0 t)
+  abbrev starting : List Edge
+  starting = started newest marks (items (rowAt l) 0 t)
 
   raised : Raised l t (λ x. getD marks x 0 ≡ 1) F
   raised = marked-raised l t marks s long clear
 
-  row-is : (x : ℕ) → x < t → getD (items (rowAt l) 0 t) x (tri 0 0 0) ≡ rowAt l x
-  row-is x h = getD-items (rowAt l) t x (tri 0 0 0) h
+  item-row : (x : ℕ) → x < t → getD (items (rowAt l) 0 t) x (tri 0 0 0) ≡ rowAt l x
+  item-row x h = getD-items (rowAt l) t x (tri 0 0 0) h
 
-  pub marked-in : (x : ℕ) → x < t → getD marks x 0 ≡ 1 → memEdge (base (rowAt l x)) (closure (items (rowAt l) 0 t) start) ≡ true
+  marked-in : (x : ℕ) → x < t → getD marks x 0 ≡ 1 → memEdge (base (rowAt l x)) (closure (items (rowAt l) 0 t) starting) ≡ true
   marked-in x h m =
       let i = starts-in marks (items (rowAt l) 0 t) x (tri 0 0 0) (rw (length-items (rowAt l) t) h) m in
-      let j : List·Memᴰ (base (rowAt l x)) start = rw (row-is x h) at i in
-      All-at (closure-closed (items (rowAt l) 0 t) start .holds) j
+      let j : List·Memᴰ (base (rowAt l x)) starting = rw (item-row x h) at i in
+      All-at (closure-closed (items (rowAt l) 0 t) starting .holds) j
 
   -- a starting edge is the refinement edge of a marked row
-  start-row : (e : Edge) → memEdge e start ≡ true → (j : ℕ) × (j < t) × Up F j × (base (rowAt l j) ≡ e)
+  start-row : (e : Edge) → memEdge e starting ≡ true → (j : ℕ) × (j < t) × Up F j × (base (rowAt l j) ≡ e)
   start-row e m =
       memEdge-at e
       (starts-all {S = λ d. (j : ℕ) × (j < t) × Up F j × (base (rowAt l j) ≡ d)} marks (items (rowAt l) 0 t) (tri 0 0 0) (λ x h q.
       let k : x < t = rw (length-items (rowAt l) t) at h in
-      (x, k, raised .begun x k q, ap base (sym (row-is x k))))) m
+      (x, k, raised .begun x k q, ap base (sym (item-row x k))))) m
 
-  pub marked-touched : (i : ℕ) (e : Edge) → i < t → List·Memᴰ e (edges (rowAt l i)) → memEdge e start ≡ true → Up F i
+  marked-touched : (i : ℕ) (e : Edge) → i < t → List·Memᴰ e (edges (rowAt l i)) → memEdge e starting ≡ true → Up F i
   marked-touched i e h m q =
       let r = start-row e q in
       ⊎-elim (λ d. subst (Up F) (sym d) (r .2)) (λ a. raised .closed (r .0) i (r .1) a (r .2)) (adjacent l t once i (r .0) e h (r .1) m (r .3))
 
   -- the note of a row is 1 exactly where its refinement edge is to be split
-  pub closed-note : (i : ℕ) → i < t → getD F i 0 ≡ bit (memEdge (base (rowAt l i)) (closure (items (rowAt l) 0 t) start))
-  closed-note = note-is l t once (λ x. getD marks x 0 ≡ 1) F raised start marked-in marked-touched
+  pub closed-note : (i : ℕ) → i < t → getD F i 0 ≡ bit (memEdge (base (rowAt l i)) (closure (items (rowAt l) 0 t) starting))
+  closed-note = note-in-closure l t once (λ x. getD marks x 0 ≡ 1) F raised starting marked-in marked-touched
 
   -- an edge to be split is the refinement edge of a row
-  pub closed-held : (e : Edge) → memEdge e (closure (items (rowAt l) 0 t) start) ≡ true →
-      (j : ℕ) × (j < t) × (memEdge (base (rowAt l j)) (closure (items (rowAt l) 0 t) start) ≡ true) × (base (rowAt l j) ≡ e)
-  closed-held e m = go (⊎-elim (start-row e) (λ r. r) (in-held l t once (λ x. getD marks x 0 ≡ 1) F raised start marked-in marked-touched e m))
+  pub closed-held : (e : Edge) → memEdge e (closure (items (rowAt l) 0 t) starting) ≡ true →
+      (j : ℕ) × (j < t) × (memEdge (base (rowAt l j)) (closure (items (rowAt l) 0 t) starting) ≡ true) × (base (rowAt l j) ≡ e)
+  closed-held e m = go (⊎-elim (start-row e) (λ r. r) (in-held l t once (λ x. getD marks x 0 ≡ 1) F raised starting marked-in marked-touched e m))
     where
       go : (j : ℕ) × (j < t) × Up F j × (base (rowAt l j) ≡ e) →
-          (j : ℕ) × (j < t) × (memEdge (base (rowAt l j)) (closure (items (rowAt l) 0 t) start) ≡ true) × (base (rowAt l j) ≡ e)
-      go (j, h, u, q) = (j, h, up-in l t once (λ x. getD marks x 0 ≡ 1) F raised start marked-in marked-touched j h u, q)
+          (j : ℕ) × (j < t) × (memEdge (base (rowAt l j)) (closure (items (rowAt l) 0 t) starting) ≡ true) × (base (rowAt l j) ≡ e)
+      go (j, h, u, q) = (j, h, up-in l t once (λ x. getD marks x 0 ≡ 1) F raised starting marked-in marked-touched j h u, q)

@@ -34,16 +34,16 @@ zeros-less s m t N j h n b e f = omega (arith, zeros-set s j (omega arith) e, ap
 -- s before the turn, m after its note is put, W the whole
 module _ (l : List ℕ) (t N j : ℕ) (s m W : List ℕ) (w : Found) (h : j < t) (n : length s ≡ N) (b : t ≤ N) (e : getD s j 0 ≡ 0) (f : m ≡ set s j 1)
     (a : w ≡ acrossRow l t j) (inv : draws l t j s ≡ W) where
-  unfolded : cases (eqb (getD s j 0) 0) (onFound (acrossRow l t j) (λ i. drawn (zeros (set s j 1)) l t i (set s j 1)) (set s j 1)) s ≡ W
+  drawn-once : cases (eqb (getD s j 0) 0) (onFound (acrossRow l t j) (λ i. drawn (zeros (set s j 1)) l t i (set s j 1)) (set s j 1)) s ≡ W
   unfolding draws drawn
-  unfolded = rw (zeros-set s j (omega arith) e) at inv
+  drawn-once = rw (zeros-set s j (omega arith) e) at inv
 
   pub draw-on : (k : ℕ) → w ≡ At k → draws l t k m ≡ W
   unfolding draws
-  draw-on k q = let z : acrossRow l t j ≡ At k = sym a ∙ q in rw f (rw (eq-eqb (getD s j 0) 0 e, z) at unfolded)
+  draw-on k q = let z : acrossRow l t j ≡ At k = sym a ∙ q in rw f (rw (eq-eqb (getD s j 0) 0 e, z) at drawn-once)
 
   pub draw-out : w ≡ Nothing → m ≡ W
-  draw-out q = let z : acrossRow l t j ≡ Nothing = sym a ∙ q in rw f (rw (eq-eqb (getD s j 0) 0 e, z) at unfolded)
+  draw-out q = let z : acrossRow l t j ≡ Nothing = sym a ∙ q in rw f (rw (eq-eqb (getD s j 0) 0 e, z) at drawn-once)
 
 stop : (k : ℕ) (l : List ℕ) (t j : ℕ) (s : List ℕ) → (getD s j 0 ≡ 0 → ⊥) → drawn k l t j s ≡ s
 unfolding drawn
@@ -110,18 +110,18 @@ module _ (l : List ℕ) (t b : ℕ) (u : t ≤ b) where
 -- ---- so the index stays
 
 module _ (l s m : List ℕ) (nc t : ℕ) (fits : 3 * t ≤ length l) (r : Ready s nc l t) where
-  within : t ≤ indexAt nc (length l)
-  within = omega arith
+  rows-below-index : t ≤ indexAt nc (length l)
+  rows-below-index = omega arith
 
   pub ready-note : (j : ℕ) → j < t → m ≡ set s j 1 → Ready m nc l t
-  ready-note j h e = let k = put-kept l t (indexAt nc (length l)) within j s h in ready-kept s m l nc t (ap length e ∙ k .0) (ap (drop (indexAt nc (length l))) e ∙ k .1) r
+  ready-note j h e = let k = put-kept l t (indexAt nc (length l)) rows-below-index j s h in ready-kept s m l nc t (ap length e ∙ k .0) (ap (drop (indexAt nc (length l))) e ∙ k .1) r
 
   pub ready-drawn : (marks : List ℕ) (i : ℕ) → i < t → m ≡ drawMarked l t marks i s → Ready m nc l t
   ready-drawn marks i h e =
-      let k = marked-kept l t (indexAt nc (length l)) within marks i s h in
+      let k = marked-kept l t (indexAt nc (length l)) rows-below-index marks i s h in
       ready-kept s m l nc t (ap length e ∙ k .0) (ap (drop (indexAt nc (length l))) e ∙ k .1) r
 
   pub ready-closed : (marks : List ℕ) → m ≡ iter (drawMarked l t marks) 0 t s → Ready m nc l t
   ready-closed marks e =
-      let k = close-kept l t (indexAt nc (length l)) within marks s in
+      let k = close-kept l t (indexAt nc (length l)) rows-below-index marks s in
       ready-kept s m l nc t (ap length e ∙ k .0) (ap (drop (indexAt nc (length l))) e ∙ k .1) r

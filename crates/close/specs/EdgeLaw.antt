@@ -30,7 +30,7 @@ use Rattle.close.specs.Drawn.{acrossRow}
 
 -- ---- arrows and edges
 
-pub arrow-is : (a b c d : ℕ) → sameArrow (arrow a b) (arrow c d) ≡ true → (a ≡ c) × (b ≡ d)
+arrow-is : (a b c d : ℕ) → sameArrow (arrow a b) (arrow c d) ≡ true → (a ≡ c) × (b ≡ d)
 arrow-is a b c d e = (eqb-true a c (and-left (eqb a c) (eqb b d) e), eqb-true b d (and-right (eqb a c) (eqb b d) e))
 
 arrow-refl : (a b : ℕ) → sameArrow (arrow a b) (arrow a b) ≡ true
@@ -42,12 +42,12 @@ pub data Side (w : Tri) : ℕ → ℕ → Type 0 where
   side-u : Side w (w .p) (w .q)
   side-v : Side w (w .r) (w .p)
 
-pub side-holds : (w : Tri) {a b : ℕ} → Side w a b → holdsArrow (arrow a b) w ≡ true
+side-holds : (w : Tri) {a b : ℕ} → Side w a b → holdsArrow (arrow a b) w ≡ true
 side-holds w side-m = any-at (sameArrow (arrow (w .q) (w .r))) {l = arrows w} (arrow-refl (w .q) (w .r)) (List·Memᴰ·tail (List·Memᴰ·head refl))
 side-holds w side-u = any-at (sameArrow (arrow (w .p) (w .q))) {l = arrows w} (arrow-refl (w .p) (w .q)) (List·Memᴰ·head refl)
 side-holds w side-v = any-at (sameArrow (arrow (w .r) (w .p))) {l = arrows w} (arrow-refl (w .r) (w .p)) (List·Memᴰ·tail (List·Memᴰ·tail (List·Memᴰ·head refl)))
 
-pub holds-side : (w : Tri) (a b : ℕ) → holdsArrow (arrow a b) w ≡ true → Side w a b
+holds-side : (w : Tri) (a b : ℕ) → holdsArrow (arrow a b) w ≡ true → Side w a b
 holds-side w a b e = go (any-row (sameArrow (arrow a b)) (arrows w) e)
   where
     is : (c d : ℕ) (x : Arrow) → x ≡ arrow c d → sameArrow (arrow a b) x ≡ true → Side w c d → Side w a b

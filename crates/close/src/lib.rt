@@ -9,28 +9,28 @@ ghost use Rattle.close.specs.Drawn.{acrossRow, draws, drawMarked};
 use lists::Found;
 
 // The row across the refinement edge of row i.
-fn across(tri: &[u32], s: &[u32], nc: usize, t: usize, i: usize) -> Found
+fn across(rows: &[u32], scratch: &[u32], nc: usize, t: usize, i: usize) -> Found
     requires { ⌜ i < t ⌝ }
-    requires { ⌜ 3 * t ≤ length (now tri) ⌝ }
-    requires { ⌜ Ready (now s) nc (now tri) t ⌝ }
-    ensures { λ r. ⌜ r ≡ acrossRow (now (tri .entry)) t i ⌝ }
+    requires { ⌜ 3 * t ≤ length (now rows) ⌝ }
+    requires { ⌜ Ready (now scratch) nc (now rows) t ⌝ }
+    ensures { λ r. ⌜ r ≡ acrossRow (now (rows .entry)) t i ⌝ }
 {
-    let w = tables::row_at(tri, i);
-    tables::find_edge(tri, s, nc, t, w.r, w.q)
+    let w = tables::row_at(rows, i);
+    tables::find_edge(rows, scratch, nc, t, w.r, w.q)
 }
 
 // Row i is split, and so is the row across its refinement edge, and so on, up to one that was split before.
-pub fn draw(tri: &[u32], s: &mut [u32], nc: usize, t: usize, i: usize)
+fn draw(rows: &[u32], scratch: &mut [u32], nc: usize, t: usize, i: usize)
     requires { ⌜ i < t ⌝ }
-    requires { ⌜ 3 * t ≤ length (now tri) ⌝ }
-    requires { ⌜ t ≤ length (now s) ⌝ }
-    requires { ⌜ Ready (now s) nc (now tri) t ⌝ }
-    ensures { λ _. ⌜ now (s .exit) ≡ draws (now (tri .entry)) t i (now (s .entry)) ⌝ }
+    requires { ⌜ 3 * t ≤ length (now rows) ⌝ }
+    requires { ⌜ t ≤ length (now scratch) ⌝ }
+    requires { ⌜ Ready (now scratch) nc (now rows) t ⌝ }
+    ensures { λ _. ⌜ now (scratch .exit) ≡ draws (now (rows .entry)) t i (now (scratch .entry)) ⌝ }
 {
     let mut j = i;
-    while s[j] == 0 {
-        tables::put_note(s, j, 1);
-        match across(tri, s, nc, t, j) {
+    while scratch[j] == 0 {
+        tables::put_note(scratch, j, 1);
+        match across(rows, scratch, nc, t, j) {
             Found::At(k) => {
                 j = k;
             }
@@ -41,30 +41,30 @@ pub fn draw(tri: &[u32], s: &mut [u32], nc: usize, t: usize, i: usize)
     }
 }
 
-fn draw_marked(tri: &[u32], s: &mut [u32], nc: usize, t: usize, marks: &[u8], i: usize)
+fn draw_marked(rows: &[u32], scratch: &mut [u32], nc: usize, t: usize, marks: &[u8], i: usize)
     requires { ⌜ i < t ⌝ }
-    requires { ⌜ 3 * t ≤ length (now tri) ⌝ }
-    requires { ⌜ t ≤ length (now s) ⌝ }
+    requires { ⌜ 3 * t ≤ length (now rows) ⌝ }
+    requires { ⌜ t ≤ length (now scratch) ⌝ }
     requires { ⌜ t ≤ length (now marks) ⌝ }
-    requires { ⌜ Ready (now s) nc (now tri) t ⌝ }
-    ensures { λ _. ⌜ now (s .exit) ≡ drawMarked (now (tri .entry)) t (now (marks .entry)) i (now (s .entry)) ⌝ }
+    requires { ⌜ Ready (now scratch) nc (now rows) t ⌝ }
+    ensures { λ _. ⌜ now (scratch .exit) ≡ drawMarked (now (rows .entry)) t (now (marks .entry)) i (now (scratch .entry)) ⌝ }
 {
     if marks[i] == 1 {
-        draw(tri, s, nc, t, i);
+        draw(rows, scratch, nc, t, i);
     }
 }
 
 // The first t notes are zero at first. After it the note of a row is 1 where the row is split.
-pub fn close(tri: &[u32], s: &mut [u32], nc: usize, t: usize, marks: &[u8])
-    requires { ⌜ 3 * t ≤ length (now tri) ⌝ }
-    requires { ⌜ t ≤ length (now s) ⌝ }
+pub fn close(rows: &[u32], scratch: &mut [u32], nc: usize, t: usize, marks: &[u8])
+    requires { ⌜ 3 * t ≤ length (now rows) ⌝ }
+    requires { ⌜ t ≤ length (now scratch) ⌝ }
     requires { ⌜ t ≤ length (now marks) ⌝ }
-    requires { ⌜ Ready (now s) nc (now tri) t ⌝ }
-    ensures { λ _. ⌜ now (s .exit) ≡ iter (drawMarked (now (tri .entry)) t (now (marks .entry))) 0 t (now (s .entry)) ⌝ }
+    requires { ⌜ Ready (now scratch) nc (now rows) t ⌝ }
+    ensures { λ _. ⌜ now (scratch .exit) ≡ iter (drawMarked (now (rows .entry)) t (now (marks .entry))) 0 t (now (scratch .entry)) ⌝ }
 {
     let mut i = 0;
     while i < t {
-        draw_marked(tri, s, nc, t, marks, i);
+        draw_marked(rows, scratch, nc, t, marks, i);
         i += 1;
     }
 }

@@ -2,7 +2,6 @@
 use mathlib.Core.Bool.{false}
 use mathlib.Core.Path.{_≡_, refl, sym, ap, _∙_}
 use mathlib.Core.List.{List, [], _∷_, _++_, map, append-nil}
-use mathlib.Core.Option.{Option, none, some}
 use Prim.Native.Nat.{ℕ, zero, suc, _+_, _-_, _<_}
 use native.Mathlib.Omega.{arith}
 use lib.ListN.{length, length-append, length-map}
@@ -20,7 +19,7 @@ use Rattle.meaning.specs.Mesh.{Mesh, Edge, edge, base, sameEdge}
 use Rattle.meaning.specs.Split.{Cut, bisected, plus, numberOf, cutOf, memEdge, splitAt}
 use Rattle.meaning.specs.Tables.{rowAt}
 use Rattle.notes.specs.declared.Note.{Note}
-use Rattle.notes.specs.Notes.{noteAt, mids, midsAt}
+use Rattle.notes.specs.Notes.{noteAt, midsAt, orZero, numbersOf}
 use Rattle.notes.specs.Met.{Says}
 use Rattle.cut.specs.Cutting.{opt, cutBy, cutAt, addedAt, cutAll, splits}
 use Rattle.cut.specs.CutLaw.{opt-yes}
@@ -46,14 +45,6 @@ cut-all-as f n l s t h =
     rw (e, map-kept f (items (rowAt l) 0 t), joined-added f (items (rowAt l) 0 t))
 
 -- ---- document 01's numbers
-
-abbrev pub orZero : Option ℕ → ℕ
-orZero none = 0
-orZero (some k) = k
-
--- the numbers of the new nodes of a triangle, by definition
-abbrev pub numbersOf : ℕ → List Edge → Tri → Mids
-numbersOf n es w = mids (orZero (numberOf n es (edge (w .q) (w .r)))) (orZero (numberOf n es (edge (w .p) (w .q)))) (orZero (numberOf n es (edge (w .r) (w .p))))
 
 -- a number above 0 stands for itself
 opt-number : (n : ℕ) (o : Found) → 0 < n → opt (orZero (plus n o)) ≡ plus n o

@@ -1,28 +1,57 @@
--- Coarsen, step by step: what is judged, and what an accepted call rests on. Assumes nothing.
-use mathlib.Core.Path.{_≡_}
+-- Coarsen: nothing is judged after 1 to 7. Assumes nothing.
+use mathlib.Core.Path.{_≡_, refl, sym, ap, _∙_}
 use mathlib.Core.List.{List}
-use Prim.Native.Nat.{ℕ, _+_, _*_, _/_, _≤_}
+use Prim.Native.Nat.{ℕ, zero, suc}
 use lib.IntN.{ℤ}
-use lib.ListN.{length, take, replicate}
-use Rattle.lists.specs.Lists.{cases}
-use Rattle.meaning.specs.Lawful.{Lawful}
-use Rattle.meaning.specs.Tables.{Given, meshOf}
-use Rattle.meaning.specs.Calls.{sizesFit, coarsenNo}
-use Rattle.tables.specs.Sized.{Sized, indexAt}
-use Rattle.tables.specs.Ready.{Ready}
+use lib.ListN.{length, replicate}
+use Rattle.meaning.specs.declared.Answer.{Answer}
+use Rattle.meaning.specs.Mesh.{Mesh}
+use Rattle.meaning.specs.Lawful.{Lawful, refusal}
+use Rattle.meaning.specs.Coarsen.{coarsened}
+use Rattle.meaning.specs.Tables.{given, outcome, answer, meshOf}
+use Rattle.meaning.specs.Calls.{unless, orElse, marksFit, coarsenNo, coarsens, says, leaves, left, sized, coarsenOut}
+use Rattle.laws.specs.TableMesh.{nodes-count}
 use Rattle.good.specs.Meshes.{meshAt}
+use Rattle.gather.specs.Whole as Gather
+use Rattle.gather.specs.declared.Counts.{Counts}
+use Rattle.mesh.specs.Judge.{meshIn, early, leaves-late, leaves-refused, leaves-done, left-same, call-out}
 
--- document 01's 1 to 7
-unfoldable pub coarsenNumber : Given → ℕ → List ℕ → ℕ
-coarsenNumber g n0 marks = cases (sizesFit g n0) (coarsenNo (meshOf g) marks) 1
+pub law-at : (nodes : List ℤ) (rows : List ℕ) (n t : ℕ) → Lawful (meshIn nodes rows n t) → Lawful (meshAt nodes rows n t)
+unfolding meshAt
+law-at nodes rows n t law = law
 
--- number 0: the mesh is lawful, tables and marks fit, scratch holds notes of 0 and the index of all rows
-pub record Accepted (nodes : List ℤ) (l s marks : List ℕ) (n0 n t : ℕ) : Type 0 where
-  pub law : Lawful (meshAt nodes l n t)
-  pub sizes : Sized (length nodes / 2) (length l) (length s)
-  pub nodes-fit : 2 * n ≤ length nodes
-  pub rows-fit : 3 * t ≤ length l
-  pub few : length nodes / 2 ≤ 32_768
-  pub marks-fit : n ≤ length marks
-  pub notes : take (indexAt (length nodes / 2) (length l)) s ≡ replicate (indexAt (length nodes / 2) (length l)) 0
-  pub ready : Ready s (length nodes / 2) l t
+orElse-zero : (j : ℕ) → orElse j 0 ≡ j
+orElse-zero zero = refl
+orElse-zero (suc j) = refl
+
+module _ (nodes : List ℤ) (rows s marks : List ℕ) (n0 n t k : ℕ) (z : s ≡ replicate (length s) 0) (e : k ≡ early (given nodes rows s n t) n0 n marks) where
+  coarsen-number : coarsenNo (meshOf (given nodes rows s n t)) marks ≡ unless (marksFit n marks) 2 (orElse (refusal (meshOf (given nodes rows s n t))) 0)
+  unfolding coarsenNo
+  coarsen-number = rw (nodes-count (given nodes rows s n t), orElse-zero (refusal (meshOf (given nodes rows s n t))))
+
+  coarsen-leaves : leaves (given nodes rows s n t) k (coarsened n0 (meshOf (given nodes rows s n t)) marks) 0 ≡ coarsenOut (given nodes rows s n t) n0 marks
+  unfolding coarsenOut coarsens
+  coarsen-leaves =
+      let g = given nodes rows s n t in
+      let m : Mesh = meshOf (given nodes rows s n t) in
+      sym (ap (λ (j : ℕ). sized g n0 (left g (says j m (coarsened n0 m marks) 0))) coarsen-number ∙ leaves-late g n0 n marks 0 (coarsened n0 m marks) ∙ rw (orElse-zero (early g n0 n marks), ← e))
+
+  pub coarsen-refused : (r : Answer) → (k ≡ 0 → ⊥) → r ≡ answer k n t 0 → outcome r nodes rows s ≡ coarsenOut (given nodes rows s n t) n0 marks
+  coarsen-refused r o f = leaves-refused nodes rows s n t _ z k r o f ∙ coarsen-leaves
+
+  pub coarsen-worked : k ≡ 0 → (c : Counts) (a : List ℤ) (b : List ℕ) (r : Answer) →
+      Gather.left c a b ≡ Gather.leftOf (length nodes) (length rows) (coarsened n0 (meshAt nodes rows n t) marks) → r ≡ answer 0 (c .n) (c .t) 0 →
+      outcome r a b s ≡ coarsenOut (given nodes rows s n t) n0 marks
+  unfolding Gather.leftOf meshAt meshOf
+  coarsen-worked y c a b r q f =
+      leaves-done nodes rows s n t (coarsened n0 (meshIn nodes rows n t) marks) z r a b (c .n) (c .t)
+      (ap (λ (x : Gather.Left). x .counts .n) q) (ap (λ (x : Gather.Left). x .counts .t) q) (ap (λ (x : Gather.Left). x .nodes) q) (ap (λ (x : Gather.Left). x .rows) q) f
+      ∙ rw y at coarsen-leaves
+
+pub coarsened-call : (nodes a : List ℤ) (rows b s s₁ s₂ s₃ marks : List ℕ) (n0 n t : ℕ) (r : Answer) → s₁ ≡ replicate (length s) 0 →
+    outcome r a b s₁ ≡ coarsenOut (given nodes rows s₁ n t) n0 marks → length s₂ ≡ length s₁ → s₃ ≡ replicate (length s₂) 0 →
+    outcome r a b s₃ ≡ coarsenOut (given nodes rows s n t) n0 marks
+unfolding coarsenOut meshOf
+coarsened-call nodes a rows b s s₁ s₂ s₃ marks n0 n t r p =
+    call-out s s₁ p (λ x. coarsenOut (given nodes rows x n t) n0 marks) (λ x x′ l. left-same nodes rows x x′ n0 n t l (coarsens n0 (meshIn nodes rows n t) marks))
+    r a b s₂ s₃

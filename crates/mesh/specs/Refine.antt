@@ -5,111 +5,96 @@ use mathlib.Core.List.{List}
 use Prim.Native.Nat.{ℕ, _+_, _*_, _/_, _≤_, _<_}
 use lib.Dec.{ltb}
 use lib.IntN.{ℤ, pos}
-use lib.ListN.{length, getD}
+use lib.ListN.{length}
 use Rattle.lists.specs.Lists.{all, cases, isFound}
 use Rattle.lists.specs.Search.{lowest, items, iter}
 use Rattle.lists.specs.ItemsLaw.{sumTo}
-use Rattle.meaning.specs.Mesh.{Mesh, Edge, mesh}
-use Rattle.meaning.specs.Lawful.{refusal}
+use Rattle.meaning.specs.Mesh.{Mesh, Edge}
 use Rattle.meaning.specs.Split.{splitEdges, started, newest, refined, halves}
-use Rattle.meaning.specs.Tables.{Given, roomOf, meshOf, rowAt, placeAt, flatNodes, flatRows, filled}
-use Rattle.meaning.specs.Calls.{unless, fits, sizesFit, refineNo}
-use Rattle.tables.specs.Sized.{Sized}
+use Rattle.meaning.specs.Tables.{Given, rowAt, placeAt, flatNodes, flatRows, filled}
+use Rattle.meaning.specs.Calls.{unless, orElse, fits}
 use Rattle.tables.specs.Ready.{Ready}
 use Rattle.notes.specs.Notes.{noteAt}
 use Rattle.notes.specs.Met.{after}
 use Rattle.nodes.specs.Nodes.{Standing, oddAt, placeRow}
 use Rattle.cut.specs.Cutting.{cutAt, addedAt, cutAll, splits}
 use Rattle.mesh.specs.declared.refining.Plan.{Plan}
+use Rattle.mesh.specs.Judge.{meshIn, early}
 
--- the mesh in the tables
-abbrev pub meshIn : List ℤ → List ℕ → ℕ → ℕ → Mesh
-meshIn nodes l n t = mesh (items (placeAt nodes) 0 n) (items (rowAt l) 0 t)
-
--- its split edges
+-- the split edges of the mesh in the tables
 abbrev pub splitIn : List ℤ → List ℕ → List ℕ → ℕ → ℕ → List Edge
-splitIn nodes l marks n t = splitEdges (meshIn nodes l n t) (started newest marks (items (rowAt l) 0 t))
+splitIn nodes rows marks n t = splitEdges (meshIn nodes rows n t) (started newest marks (items (rowAt rows) 0 t))
 
 -- the mesh after
 abbrev pub afterIn : List ℤ → List ℕ → List ℕ → ℕ → ℕ → Mesh
-afterIn nodes l marks n t = refined newest (meshIn nodes l n t) marks
+afterIn nodes rows marks n t = refined newest (meshIn nodes rows n t) marks
+
+-- and there is room for it
+abbrev pub fitsIn : List ℤ → List ℕ → List ℕ → ℕ → ℕ → Bool
+fitsIn nodes rows marks n t = fits (record { nodes = length nodes / 2; rows = length rows / 3 }) (afterIn nodes rows marks n t)
 
 -- ---- what is judged
-
--- a byte above 1
-unfoldable pub markHigh : List ℕ → ℕ → Bool
-markHigh marks i = ltb 1 (getD marks i 0)
 
 abbrev pub planOf : ℕ → ℕ → ℕ → Plan
 planOf k n t = record { number = k; n = n; t = t }
 
 -- 8 and 9, by the notes in s: k new nodes
 unfoldable pub weighed : List ℤ → List ℕ → List ℕ → ℕ → ℕ → ℕ → Plan
-weighed nodes l s n t k =
-    cases (isFound (lowest (oddAt nodes l s) 0 t)) (planOf 8 n t)
-    (cases (ltb (length nodes / 2) (n + k) || ltb (length l / 3) (t + sumTo (splits s) t)) (planOf 9 n t)
+weighed nodes rows s n t k =
+    cases (isFound (lowest (oddAt nodes rows s) 0 t)) (planOf 8 n t)
+    (cases (ltb (length nodes / 2) (n + k) || ltb (length rows / 3) (t + sumTo (splits s) t)) (planOf 9 n t)
     (planOf 0 (n + k) (t + sumTo (splits s) t)))
 
-pub record Weighty (nodes : List ℤ) (l s : List ℕ) (n t k : ℕ) : Type 0 where
-  pub rows-fit : 3 * t ≤ length l
+pub record Weighty (nodes : List ℤ) (rows s : List ℕ) (n t k : ℕ) : Type 0 where
+  pub rows-fit : 3 * t ≤ length rows
   pub notes-fit : t ≤ length s
   pub few-rows : t ≤ 262_144
   pub few-nodes : n + k ≤ 1_000_000
-  pub standing : (i : ℕ) → i < t → Standing nodes (rowAt l i)
-
--- the mesh is lawful and its marks fit; scratch holds notes of 0 and the index
-pub record Sound (nodes : List ℤ) (l s marks : List ℕ) (n t : ℕ) : Type 0 where
-  pub sizes : Sized (length nodes / 2) (length l) (length s)
-  pub nodes-fit : 2 * n ≤ length nodes
-  pub rows-fit : 3 * t ≤ length l
-  pub marks-fit : length marks ≡ t
-  pub law : refusal (meshIn nodes l n t) ≡ 0
-  pub clear : (x : ℕ) → x < t → getD s x 0 ≡ 0
-  pub ready : Ready s (length nodes / 2) l t
+  pub standing : (i : ℕ) → i < t → Standing nodes (rowAt rows i)
 
 -- document 01's 8 and 9, of a lawful mesh
 unfoldable pub lateNumber : List ℤ → List ℕ → List ℕ → ℕ → ℕ → ℕ
-lateNumber nodes l marks n t =
-    unless (all (halves (meshIn nodes l n t)) (splitIn nodes l marks n t)) 8
-    (unless (fits (record { nodes = length nodes / 2; rows = length l / 3 }) (afterIn nodes l marks n t)) 9
+lateNumber nodes rows marks n t =
+    unless (all (halves (meshIn nodes rows n t)) (splitIn nodes rows marks n t)) 8
+    (unless (fitsIn nodes rows marks n t) 9
     0)
 
 -- document 01's 1 to 9
 unfoldable pub refineNumber : Given → ℕ → List ℕ → ℕ
-refineNumber g n0 marks = cases (sizesFit g n0) (refineNo newest (roomOf g) (meshOf g) marks) 1
+refineNumber g n0 marks = orElse (early g n0 (g .t) marks) (lateNumber (g .nodes) (g .rows) marks (g .n) (g .t))
 
 -- ---- what is carried out
 
 -- n1 nodes and t1 rows after
-pub record Carry (nodes : List ℤ) (l s : List ℕ) (n t n1 t1 : ℕ) : Type 0 where
+pub record Carry (nodes : List ℤ) (rows s : List ℕ) (n t n1 t1 : ℕ) : Type 0 where
   pub few-nodes : n ≤ 65_536
-  pub rows-fit : 3 * t ≤ length l
+  pub rows-fit : 3 * t ≤ length rows
   pub notes-fit : t ≤ length s
-  pub standing : (i : ℕ) → i < t → Standing nodes (rowAt l i)
+  pub standing : (i : ℕ) → i < t → Standing nodes (rowAt rows i)
   pub room : (i : ℕ) → i < t → 2 * after n (noteAt s i) ≤ length nodes
-  pub ready : Ready s (length nodes / 2) l t
-  pub count : t1 ≡ t + sumTo (addedAt n l s) t
-  pub rows-room : 3 * t1 ≤ length l
+  pub ready : Ready s (length nodes / 2) rows t
+  pub count : t1 ≡ t + sumTo (addedAt n rows s) t
+  pub rows-room : 3 * t1 ≤ length rows
   pub nodes-room : 2 * n1 ≤ length nodes
 
 pub record Pair : Type 0 where
   pub nodes : List ℤ
   pub rows : List ℕ
 
-abbrev pub tables : List ℤ → List ℕ → Pair
-tables a b = record { nodes = a; rows = b }
+abbrev pub bothTables : List ℤ → List ℕ → Pair
+bothTables a b = record { nodes = a; rows = b }
 
 -- both tables, by the notes in s
 unfoldable pub carried : List ℤ → List ℕ → List ℕ → ℕ → ℕ → ℕ → Pair
-carried nodes l s n t n1 =
-    tables
-    (filled (pos 0) (length nodes) (flatNodes (items (placeAt (iter (placeRow n l s) 0 t nodes)) 0 n1)))
-    (filled 0 (length l) (flatRows (cutAll (items (cutAt n l s) 0 t))))
+carried nodes rows s n t n1 =
+    bothTables
+    (filled (pos 0) (length nodes) (flatNodes (items (placeAt (iter (placeRow n rows s) 0 t nodes)) 0 n1)))
+    (filled 0 (length rows) (flatRows (cutAll (items (cutAt n rows s) 0 t))))
 
 -- carried out, it is document 01's refined mesh
-pub record Planned (nodes : List ℤ) (l s marks : List ℕ) (n t n1 t1 : ℕ) : Type 0 where
-  pub carry : Carry nodes l s n t n1 t1
-  pub nodes-are : items (placeAt (iter (placeRow n l s) 0 t nodes)) 0 n1 ≡ afterIn nodes l marks n t .nodes
-  pub rows-are : cutAll (items (cutAt n l s) 0 t) ≡ afterIn nodes l marks n t .tris
-  pub nodes-count : n1 ≡ length (afterIn nodes l marks n t .nodes)
-  pub rows-count : t1 ≡ length (afterIn nodes l marks n t .tris)
+pub record Planned (nodes : List ℤ) (rows s marks : List ℕ) (n t n1 t1 : ℕ) : Type 0 where
+  pub carry : Carry nodes rows s n t n1 t1
+  pub nodes-are : items (placeAt (iter (placeRow n rows s) 0 t nodes)) 0 n1 ≡ afterIn nodes rows marks n t .nodes
+  pub rows-are : cutAll (items (cutAt n rows s) 0 t) ≡ afterIn nodes rows marks n t .tris
+  pub nodes-after : n1 ≡ length (afterIn nodes rows marks n t .nodes)
+  pub rows-after : t1 ≡ length (afterIn nodes rows marks n t .tris)

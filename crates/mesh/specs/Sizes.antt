@@ -18,9 +18,9 @@ unfoldable pub fitting : ℕ → ℕ → ℕ → ℕ → ℕ → ℕ → Bool
 fitting nl tl sl n0 n t =
     eqb (nl % 2) 0 && eqb (tl % 3) 0 && leb (nl / 2) 1024 && leb (tl / 3) 2048 && leb n (nl / 2) && leb t (tl / 3) && leb n0 n && leb (4 * (nl / 2 + tl / 3)) sl
 
-pub fitting-is : (nodes : List ℤ) (l s : List ℕ) (n0 n t : ℕ) → fitting (length nodes) (length l) (length s) n0 n t ≡ sizesFit (given nodes l s n t) n0
+pub fitting-is : (nodes : List ℤ) (rows s : List ℕ) (n0 n t : ℕ) → fitting (length nodes) (length rows) (length s) n0 n t ≡ sizesFit (given nodes rows s n t) n0
 unfolding fitting sizesFit
-fitting-is nodes l s n0 n t = refl
+fitting-is nodes rows s n0 n t = refl
 
 -- the code divides, so that nothing overflows
 quarter : (x sl : ℕ) → leb x (sl / 4) ≡ leb (4 * x) sl

@@ -1,6 +1,7 @@
 -- The notes of refine, one number a row, and the numbers of the new nodes that they say. Assumes nothing.
 use mathlib.Core.Bool.{_&&_}
 use mathlib.Core.List.{List}
+use mathlib.Core.Option.{Option, none, some}
 use Prim.Native.Nat.{ℕ, _+_, _*_, _/_, _%_, _≤_}
 use lib.Dec.{eqb}
 use lib.ListN.{getD}
@@ -10,6 +11,8 @@ use Rattle.lists.specs.Lists.{cases}
 use Rattle.lists.specs.Search.{lowest}
 use Rattle.meaning.specs.declared.Tri.{Tri}
 use Rattle.meaning.specs.declared.Mids.{Mids}
+use Rattle.meaning.specs.Mesh.{Edge, edge, base}
+use Rattle.meaning.specs.Split.{numberOf}
 use Rattle.meaning.specs.Tables.{rowAt}
 use Rattle.tables.specs.Arrow.{arrowAt}
 pub use Rattle.notes.specs.declared.Note.{Note}
@@ -88,3 +91,16 @@ midsBy n l s i w c =
 -- the numbers of the new nodes of row i
 unfoldable pub midsAt : ℕ → List ℕ → List ℕ → ℕ → Mids
 midsAt n l s i = midsBy n l s i (rowAt l i) (noteAt s i)
+
+-- ---- the same by document 01's numbers: 0 for an edge that is not split
+
+abbrev pub orZero : Option ℕ → ℕ
+orZero none = 0
+orZero (some k) = k
+
+abbrev pub num : ℕ → List Edge → Edge → ℕ
+num n es e = orZero (numberOf n es e)
+
+-- those of the edges of a row
+abbrev pub numbersOf : ℕ → List Edge → Tri → Mids
+numbersOf n es w = mids (num n es (base w)) (num n es (edge (w .p) (w .q))) (num n es (edge (w .r) (w .p)))

@@ -1,10 +1,9 @@
 -- What the notes say: which edges of a row are in a set, which of these the scan of document 01 meets first in this row, and how many
 -- it has met before. So each row can tell the numbers of its edges: the places in the order of the scan. Assumes nothing.
 use mathlib.Core.Path.{_≡_, refl, sym, ap, _∙_, subst}
-use mathlib.Core.Logic.{_⊎_, inl, inr, ⊎-elim}
-use mathlib.Core.Bool.{Bool, true, false, not, _&&_, _||_}
+use mathlib.Core.Logic.{_⊎_, inl, inr}
+use mathlib.Core.Bool.{Bool, true, false, not, _&&_}
 use mathlib.Core.List.{List, [], _∷_, _++_, append-assoc, append-nil, List·Memᴰ}
-use mathlib.Core.Option.{Option, none, some}
 use Prim.Native.Nat.{ℕ, zero, suc, _+_, _*_, _%_, _≤_, _<_}
 use native.Mathlib.Omega.{arith}
 use native.Mathlib.Decide.{ℕ-discrete, decLt}
@@ -14,46 +13,32 @@ use lib.ListN.{length, getD, set, length-set, length-append}
 use lib.Seq.{getD-set-same, getD-set-other}
 use Rattle.lists.specs.declared.Found.{Found}
 use Rattle.lists.specs.declared.Found.the-variants.{At, Nothing}
-use Rattle.lists.specs.Lists.{any, only, consIf, once, joined, upTo, cases}
-use Rattle.lists.specs.ListsLaw.{clash, and-both, and-left, and-right, any-at, any-row, both-ways}
+use Rattle.lists.specs.Lists.{nil, cons, any, only, consIf, once, joined, upTo, cases}
+use Rattle.lists.specs.ListsLaw.{clash, and-both, and-left, and-right, or-no, any-at, any-row, both-ways}
 use Rattle.lists.specs.MembersLaw.{only-in, joined-in}
-use Rattle.lists.specs.Tally.{bit}
+use Rattle.lists.specs.Tally.{bit, bit-one}
 use Rattle.lists.specs.Search.{lowest, items, iter}
 use Rattle.lists.specs.SearchLaw.{lowest-below, lowest-nothing}
 use Rattle.lists.specs.ItemsLaw.{joined-append, items-snoc, items-none, iter-carries}
 use Rattle.lists.specs.ByNumberLaw.{items-in, items-of, items-around, lowest-no, lowest-cut, lowest-past, lowest-none-below}
 use Rattle.lists.specs.AnyLaw.{any-append}
-use Rattle.lists.specs.PartsLaw.{not-so, only-append, consIf-append, in-only, in-joined, where-nowhere}
+use Rattle.lists.specs.PartsLaw.{not-so, only-append, in-only, in-joined, where-nowhere}
 use Rattle.meaning.specs.declared.Tri.{Tri}
-use Rattle.meaning.specs.declared.Mids.{Mids}
 use Rattle.meaning.specs.Mesh.{Edge, edge, edges, base, sameEdge}
 use Rattle.meaning.specs.Lawful.{Named}
-use Rattle.meaning.specs.Split.{numberOf}
 use Rattle.meaning.specs.Tables.{rowAt}
+use Rattle.laws.specs.Midpoints.{edges-differ}
 use Rattle.laws.specs.Edges.{edge-comm, sameEdge-eq, sameEdge-refl}
 use Rattle.tables.specs.Arrow.{arrowAt}
 use Rattle.notes.specs.declared.Note.{Note}
-use Rattle.notes.specs.Notes.{note, packed, unpacked, Tight, noteAt, ownM, ownU, ownV, ownOn, across, midFor, mids, midsAt}
+use Rattle.notes.specs.Notes.{note, packed, unpacked, Tight, noteAt, ownM, ownU, ownV, ownOn, across, midFor, midsAt, num, numbersOf}
 use Rattle.notes.specs.Notes as Noted
 use Rattle.notes.specs.Met as Met
 use Rattle.notes.specs.NotesLaw.{unpacked-packed, mids-path}
 use Rattle.close.specs.Drawn.{onFound}
 use Rattle.close.specs.EdgeLaw.{OnceAt, Side, side-m, side-u, side-v, side-at, side-edge, edge-side, edge-ends, found-is, found-side}
 use Rattle.number.specs.Numbered.{Met, met, baseSplit, metBy, metBase, metAcross, noteBy, noteOf, Numbers, numbers, numberRow}
-use Rattle.number.specs.OnceLaw.{any-once, once-add, once-place}
-
--- ---- numbers of edges, 0 for none
-
-abbrev pub orZero : Option ℕ → ℕ
-orZero none = 0
-orZero (some k) = k
-
-abbrev pub num : ℕ → List Edge → Edge → ℕ
-num n s e = orZero (numberOf n s e)
-
--- the numbers of a row's edges
-abbrev pub numsOf : ℕ → List Edge → Tri → Mids
-numsOf n s w = mids (num n s (base w)) (num n s (edge (w .p) (w .q))) (num n s (edge (w .r) (w .p)))
+use Rattle.number.specs.OnceLaw.{edge-sym, Apart, none, apart, newTo, any-once-edge, once-more, once-place}
 
 -- ---- a scan of the rows of a table, for the edges of a set
 
@@ -67,14 +52,11 @@ scanOf l mem i = once sameEdge (only mem (joined edges (items (rowAt l) 0 i)))
 
 -- e is in the set, and not met below row i
 abbrev pub newsIn : List ℕ → (Edge → Bool) → ℕ → Edge → Bool
-newsIn l mem i e = mem e && not (any (sameEdge e) (metIn l mem i))
+newsIn l mem i e = newTo mem (metIn l mem i) e
 
 -- the edges first met in row i
 abbrev pub firstsIn : List ℕ → (Edge → Bool) → ℕ → List Edge
-firstsIn l mem i =
-    consIf (newsIn l mem i (base (rowAt l i))) (base (rowAt l i))
-    (consIf (newsIn l mem i (edge (rowAt l i .p) (rowAt l i .q))) (edge (rowAt l i .p) (rowAt l i .q))
-    (consIf (newsIn l mem i (edge (rowAt l i .r) (rowAt l i .p))) (edge (rowAt l i .r) (rowAt l i .p)) []))
+firstsIn l mem i = only (newsIn l mem i) (edges (rowAt l i))
 
 -- what the note of row i is to say
 abbrev pub noteIn : List ℕ → (Edge → Bool) → ℕ → Note
@@ -88,49 +70,62 @@ noteIn l mem i =
 met-path : (a b c d : ℕ) → a ≡ c → b ≡ d → met a b ≡ met c d
 met-path a b c d p q = cc
 
-bit-one : (b : Bool) → eqb (bit b) 1 ≡ b
-bit-one true = refl
-bit-one false = refl
+bit-is-one : (b : Bool) → eqb (bit b) 1 ≡ b
+bit-is-one true = refl
+bit-is-one false = refl
 
 cases-bit : (b : Bool) → cases b 1 0 ≡ bit b
 cases-bit true = refl
 cases-bit false = refl
 
-bit-le : (b : Bool) → bit b ≤ 1
-bit-le true = omega arith
-bit-le false = omega arith
-
 and-true : (a : Bool) → a && true ≡ a
 and-true true = refl
 and-true false = refl
 
-length-if : (b : Bool) (e : Edge) → length (consIf b e []) ≡ bit b
-length-if true e = refl
-length-if false e = refl
+length-front : (b : Bool) (e : Edge) (l : List Edge) → length (consIf b e l) ≡ bit b + length l
+length-front true e l = omega arith
+length-front false e l = omega arith
 
-not-same : (a b c d : ℕ) → (a ≡ c → b ≡ d → ⊥) → (a ≡ d → b ≡ c → ⊥) → sameEdge (edge a b) (edge c d) ≡ false
-not-same a b c d f g =
-    not-so (sameEdge (edge a b) (edge c d))
-    (λ t. ⊎-elim (λ h. f (h .0) (h .1)) (λ h. g (h .0) (h .1)) (edge-ends a b c d (sameEdge-eq (edge a b) (edge c d) t)))
+none-only : (f g : Edge → Bool) (l : List Edge) → any g l ≡ false → any g (only f l) ≡ false
+none-only f g [] n = refl
+none-only f g (x ∷ xs) n = let h = or-no (g x) (any g xs) n in go (f x) (h .0) (none-only f g xs (h .1))
+  where
+    go : (b : Bool) → g x ≡ false → any g (only f xs) ≡ false → any g (consIf b x (only f xs)) ≡ false
+    go true p q = rw (p, q)
+    go false p q = q
 
-any-if : (e d : Edge) (b : Bool) → sameEdge e d ≡ false → any (sameEdge e) (consIf b d []) ≡ false
-any-if e d true n = rw n
-any-if e d false n = refl
+edge-other : (a b c : ℕ) → (c ≡ a → ⊥) → sameEdge (edge a b) (edge b c) ≡ false
+edge-other a b c n = not-so (sameEdge (edge a b) (edge b c)) (λ t. edges-differ a b c n (sameEdge-eq (edge a b) (edge b c) t))
 
-or-false : (a : Bool) → a || false ≡ a
-or-false true = refl
-or-false false = refl
+-- ---- a side of a row: the edges of the row before it and after it, and the number that a note has for it
 
-any-still : (e d : Edge) (P : List Edge) (b : Bool) → sameEdge e d ≡ false → any (sameEdge e) (P ++ consIf b d []) ≡ any (sameEdge e) P
-any-still e d P b n = any-append (sameEdge e) P (consIf b d []) ∙ ap (λ (c : Bool). any (sameEdge e) P || c) (any-if e d b n) ∙ or-false (any (sameEdge e) P)
+abbrev earlier : {w : Tri} {x y : ℕ} → Side w x y → List Edge
+earlier side-m = []
+earlier {w} side-u = base w ∷ []
+earlier {w} side-v = base w ∷ edge (w .p) (w .q) ∷ []
+
+abbrev following : {w : Tri} {x y : ℕ} → Side w x y → List Edge
+following {w} side-m = edge (w .p) (w .q) ∷ edge (w .r) (w .p) ∷ []
+following {w} side-u = edge (w .r) (w .p) ∷ []
+following side-v = []
+
+row-around : {w : Tri} {x y : ℕ} (s : Side w x y) (L : List Edge) → edges w ++ L ≡ earlier s ++ (edge x y ∷ (following s ++ L))
+row-around side-m L = refl
+row-around side-u L = refl
+row-around side-v L = refl
+
+abbrev ownAt : {w : Tri} {x y : ℕ} → Side w x y → ℕ → Note → ℕ
+ownAt side-m n c = ownM n c
+ownAt side-u n c = ownU n c
+ownAt side-v n c = ownV n c
 
 -- where the rows lie in a table, no directed edge occurs twice, the corners of a row differ; a set of edges that with an edge of a row
 -- holds its refinement edge, and holds nothing but refinement edges
 module _ (l : List ℕ) (t n : ℕ) (only-one : OnceAt l t) (named : (i : ℕ) → i < t → Named n (rowAt l i)) (mem : Edge → Bool)
     (pull : (i : ℕ) (e : Edge) → i < t → List·Memᴰ e (edges (rowAt l i)) → mem e ≡ true → mem (base (rowAt l i)) ≡ true)
     (held : (e : Edge) → mem e ≡ true → (j : ℕ) × (j < t) × (base (rowAt l j) ≡ e)) where
-  abbrev metTo : ℕ → List Edge
-  metTo i = metIn l mem i
+  abbrev metBelow : ℕ → List Edge
+  metBelow i = metIn l mem i
 
   abbrev scanned : List Edge
   scanned = scanOf l mem t
@@ -144,20 +139,20 @@ module _ (l : List ℕ) (t n : ℕ) (only-one : OnceAt l t) (named : (i : ℕ) �
   abbrev firsts : ℕ → List Edge
   firsts i = firstsIn l mem i
 
-  -- ---- met before
+  -- ---- met before: at most one other row holds an edge of row i, the one across, and the edge was met before exactly if that row is lower
 
   one-below : (i : ℕ) → i ≤ t → OnceAt l i
   one-below i h a b x y p q = only-one a b x y (omega arith) (omega arith)
 
   -- an edge is met below row i exactly if a row there holds it the other way round
-  met-old : (i j x y : ℕ) → i ≤ t → lowest (arrowAt l y x) 0 i ≡ At j → mem (edge x y) ≡ true → any (sameEdge (edge x y)) (metTo i) ≡ true
+  met-old : (i j x y : ℕ) → i ≤ t → lowest (arrowAt l y x) 0 i ≡ At j → mem (edge x y) ≡ true → any (sameEdge (edge x y)) (metBelow i) ≡ true
   met-old i j x y h e m =
       let f = found-side l i (one-below i h) j y x e in
       let k : List·Memᴰ (edge x y) (edges (rowAt l j)) = subst (λ (d : Edge). List·Memᴰ d (edges (rowAt l j))) (edge-comm y x) (side-edge (rowAt l j) (f .1)) in
       any-at (sameEdge (edge x y)) (sameEdge-refl (edge x y)) (only-in mem (joined-in edges (items-in (rowAt l) i j (f .0)) k) m)
 
-  met-new : (i x y : ℕ) → i < t → Side (rowAt l i) x y → lowest (arrowAt l y x) 0 i ≡ Nothing → any (sameEdge (edge x y)) (metTo i) ≡ false
-  met-new i x y h s e = not-so (any (sameEdge (edge x y)) (metTo i)) (λ a. go (any-row (sameEdge (edge x y)) (metTo i) a))
+  met-new : (i x y : ℕ) → i < t → Side (rowAt l i) x y → lowest (arrowAt l y x) 0 i ≡ Nothing → any (sameEdge (edge x y)) (metBelow i) ≡ false
+  met-new i x y h s e = not-so (any (sameEdge (edge x y)) (metBelow i)) (λ a. go (any-row (sameEdge (edge x y)) (metBelow i) a))
     where
       side : (d : Edge) (j : ℕ) → j < i → sameEdge (edge x y) d ≡ true → (a : ℕ) × (c : ℕ) × Side (rowAt l j) a c × (d ≡ edge a c) → ⊥
       side d j b q (a, c, u, g) = ends (edge-ends x y a c (sameEdge-eq (edge x y) d q ∙ g))
@@ -173,10 +168,10 @@ module _ (l : List ℕ) (t n : ℕ) (only-one : OnceAt l t) (named : (i : ℕ) �
           let r = items-of (rowAt l) i k in
           side d (r .0) (r .1) q (edge-side (rowAt l (r .0)) d (subst (λ (v : Tri). List·Memᴰ d (edges v)) (r .2) o))
 
-      go : (d : Edge) × List·Memᴰ d (metTo i) × (sameEdge (edge x y) d ≡ true) → ⊥
+      go : (d : Edge) × List·Memᴰ d (metBelow i) × (sameEdge (edge x y) d ≡ true) → ⊥
       go (d, m, q) = row d q (in-joined edges (items (rowAt l) 0 i) (in-only mem (joined edges (items (rowAt l) 0 i)) m .0))
 
-  -- ---- the parts of a note
+  -- ---- the parts of a note: each edge is judged by the row across
 
   -- the row across is j
   by-is : (i j x y : ℕ) → i < t → Side (rowAt l i) x y → lowest (arrowAt l y x) 0 t ≡ At j →
@@ -184,7 +179,7 @@ module _ (l : List ℕ) (t n : ℕ) (only-one : OnceAt l t) (named : (i : ℕ) �
   unfolding metBy
   by-is i j x y h s e = go (decLt j i) (mem (edge x y)) refl
     where
-      go : Dec (j < i) → (b : Bool) → mem (edge x y) ≡ b → cases (ltb j i) (met (bit b) 0) (met (bit b) (bit b)) ≡ met (bit b) (bit (b && not (any (sameEdge (edge x y)) (metTo i))))
+      go : Dec (j < i) → (b : Bool) → mem (edge x y) ≡ b → cases (ltb j i) (met (bit b) 0) (met (bit b) (bit b)) ≡ met (bit b) (bit (b && not (any (sameEdge (edge x y)) (metBelow i))))
       go (yes a) true q = let m = met-old i j x y (omega arith) (lowest-cut (arrowAt l y x) t i j e a) q in rw (lt-ltb j i a, m)
       go (yes a) false q = rw (lt-ltb j i a)
       go (no a) b q =
@@ -220,11 +215,11 @@ module _ (l : List ℕ) (t n : ℕ) (only-one : OnceAt l t) (named : (i : ℕ) �
                 absurd (other (ap (λ (k : ℕ). rowAt l k .q) q ∙ c) (ap (λ (k : ℕ). rowAt l k .r) q ∙ d))
             ends (inr (c, d)) = (j, rw (← c, ← d) (found-is l t only-one j (rowAt l j .q) (rowAt l j .r) k side-m), c, d)
 
-    split-is : (j : ℕ) → lowest (arrowAt l y x) 0 t ≡ At j → baseSplit (rowAt l j) (noteAt s j .m) y x ≡ bit (mem (edge x y))
+    base-split-is : (j : ℕ) → lowest (arrowAt l y x) 0 t ≡ At j → baseSplit (rowAt l j) (noteAt s j .m) y x ≡ bit (mem (edge x y))
     unfolding baseSplit
-    split-is j e =
+    base-split-is j e =
         let b = bits j (lowest-below (arrowAt l y x) t j e) in
-        rw (b, bit-one (mem (base (rowAt l j))))
+        rw (b, bit-is-one (mem (base (rowAt l j))))
         (cases-bit (mem (base (rowAt l j)) && eqb (rowAt l j .q) y && eqb (rowAt l j .r) x)
         ∙ ap bit (both-ways (mem (base (rowAt l j)) && eqb (rowAt l j .q) y && eqb (rowAt l j .r) x) (mem (edge x y)) there back))
       where
@@ -253,21 +248,21 @@ module _ (l : List ℕ) (t n : ℕ) (only-one : OnceAt l t) (named : (i : ℕ) �
       where
         go : (w : Found) → lowest (arrowAt l y x) 0 t ≡ w →
             onFound w (λ j. metBy (baseSplit (rowAt l j) (noteAt s j .m) y x) j i) (met 0 0) ≡ met (bit (mem (edge x y))) (bit (news i (edge x y)))
-        go (At j) e = ap (λ (b : ℕ). metBy b j i) (split-is j e) ∙ by-is i j x y h side e
+        go (At j) e = ap (λ (b : ℕ). metBy b j i) (base-split-is j e) ∙ by-is i j x y h side e
         go Nothing e =
             let f = not-so (mem (edge x y)) (λ m. let r = held-across m in let c : At (r .0) ≡ Nothing = sym (r .1) ∙ e in let z : _≡_ {A = ℕ} 0 1 = cc in omega arith) in
             rw f
 
   -- ---- the note of row i
 
-  of-is : (s : List ℕ) → ((j : ℕ) → j < t → noteAt s j .m ≡ bit (mem (base (rowAt l j)))) → (i : ℕ) → i < t → noteOf l t s i (length (once sameEdge (metTo i))) ≡ noteFor i
+  of-is : (s : List ℕ) → ((j : ℕ) → j < t → noteAt s j .m ≡ bit (mem (base (rowAt l j)))) → (i : ℕ) → i < t → noteOf l t s i (length (once sameEdge (metBelow i))) ≡ noteFor i
   unfolding noteOf
   of-is s bits i h = go (mem (base (rowAt l i))) refl
     where
       go : (b : Bool) → mem (base (rowAt l i)) ≡ b →
-          cases (eqb (noteAt s i .m) 0) (note 0 0 0 0 0 0 (length (once sameEdge (metTo i))))
+          cases (eqb (noteAt s i .m) 0) (note 0 0 0 0 0 0 (length (once sameEdge (metBelow i))))
           (noteBy (metBase l t i (rowAt l i .q) (rowAt l i .r)) (metAcross l t s i (rowAt l i .p) (rowAt l i .q)) (metAcross l t s i (rowAt l i .r) (rowAt l i .p))
-          (length (once sameEdge (metTo i)))) ≡ noteFor i
+          (length (once sameEdge (metBelow i)))) ≡ noteFor i
       go true m =
           let c = across-is s bits i (rowAt l i .p) (rowAt l i .q) h side-u (λ x y. named i h .p≢q (sym x)) in
           let d = across-is s bits i (rowAt l i .r) (rowAt l i .p) h side-v (λ x y. named i h .q≢r x) in
@@ -276,116 +271,59 @@ module _ (l : List ℕ) (t n : ℕ) (only-one : OnceAt l t) (named : (i : ℕ) �
           let n : (e : Edge) → List·Memᴰ e (edges (rowAt l i)) → mem e ≡ false = λ e k. not-so (mem e) (λ q. clash (sym (pull i e h k q) ∙ m)) in
           rw (bits i h, m, n (edge (rowAt l i .p) (rowAt l i .q)) (side-edge (rowAt l i) side-u), n (edge (rowAt l i .r) (rowAt l i .p)) (side-edge (rowAt l i) side-v))
 
-  -- ---- one row more
+  -- ---- one row more: its edges differ, so the scan adds those that it meets for the first time, in order
 
-  abbrev afterM : ℕ → List Edge
-  afterM i = metTo i ++ consIf (mem (base (rowAt l i))) (base (rowAt l i)) []
-
-  abbrev afterU : ℕ → List Edge
-  afterU i = afterM i ++ consIf (mem (edge (rowAt l i .p) (rowAt l i .q))) (edge (rowAt l i .p) (rowAt l i .q)) []
-
-  abbrev afterV : ℕ → List Edge
-  afterV i = afterU i ++ consIf (mem (edge (rowAt l i .r) (rowAt l i .p))) (edge (rowAt l i .r) (rowAt l i .p)) []
-
-  if-front : (b : Bool) (e : Edge) (P xs : List Edge) → P ++ consIf b e xs ≡ (P ++ consIf b e []) ++ xs
-  if-front b e P xs = ap (λ (r : List Edge). P ++ r) (consIf-append b e [] xs) ∙ sym (append-assoc P (consIf b e []) xs)
-
-  three : (P A B C : List Edge) (a b c : Bool) (d e f : Edge) → A ≡ P ++ consIf a d [] → B ≡ A ++ consIf b e [] → C ≡ B ++ consIf c f [] →
-      C ≡ P ++ consIf a d (consIf b e (consIf c f []))
-  three P A B C a b c d e f p q r =
-      r ∙ ap (λ (x : List Edge). x ++ consIf c f []) q ∙ sym (if-front b e A (consIf c f []))
-      ∙ ap (λ (x : List Edge). x ++ consIf b e (consIf c f [])) p ∙ sym (if-front a d P (consIf b e (consIf c f [])))
-
+  -- no two edges of a row are the same
   module _ (i : ℕ) (h : i < t) where
-    abbrev later : List Edge
-    later = only mem (joined edges (items (rowAt l) (i + 1) t))
-
-    split-m : metTo t ≡ metTo i ++ consIf (mem (base (rowAt l i))) (base (rowAt l i))
-        (consIf (mem (edge (rowAt l i .p) (rowAt l i .q))) (edge (rowAt l i .p) (rowAt l i .q))
-        (consIf (mem (edge (rowAt l i .r) (rowAt l i .p))) (edge (rowAt l i .r) (rowAt l i .p)) later))
-    split-m =
-        ap (λ (ts : List Tri). only mem (joined edges ts)) (items-around (rowAt l) t i h)
-        ∙ ap (only mem) (joined-append edges (items (rowAt l) 0 i) (rowAt l i ∷ items (rowAt l) (i + 1) t))
-        ∙ only-append mem (joined edges (items (rowAt l) 0 i)) (joined edges (rowAt l i ∷ items (rowAt l) (i + 1) t))
-
-    split-u : metTo t ≡ afterM i ++ consIf (mem (edge (rowAt l i .p) (rowAt l i .q))) (edge (rowAt l i .p) (rowAt l i .q))
-        (consIf (mem (edge (rowAt l i .r) (rowAt l i .p))) (edge (rowAt l i .r) (rowAt l i .p)) later)
-    split-u = split-m ∙ if-front (mem (base (rowAt l i))) (base (rowAt l i)) (metTo i) _
-
-    split-v : metTo t ≡ afterU i ++ consIf (mem (edge (rowAt l i .r) (rowAt l i .p))) (edge (rowAt l i .r) (rowAt l i .p)) later
-    split-v = split-u ∙ if-front (mem (edge (rowAt l i .p) (rowAt l i .q))) (edge (rowAt l i .p) (rowAt l i .q)) (afterM i) _
-
-    met-next : metTo (i + 1) ≡ afterV i
-    met-next =
-        ap (λ (ts : List Tri). only mem (joined edges ts)) (items-snoc (rowAt l) 0 i (omega arith))
-        ∙ ap (only mem) (joined-append edges (items (rowAt l) 0 i) (rowAt l i ∷ []))
-        ∙ only-append mem (joined edges (items (rowAt l) 0 i)) (joined edges (rowAt l i ∷ []))
-        ∙ if-front (mem (base (rowAt l i))) (base (rowAt l i)) (metTo i) _
-        ∙ if-front (mem (edge (rowAt l i .p) (rowAt l i .q))) (edge (rowAt l i .p) (rowAt l i .q)) (afterM i) _
-
-    -- the edges of a row differ
     u-m : sameEdge (edge (rowAt l i .p) (rowAt l i .q)) (base (rowAt l i)) ≡ false
-    u-m = not-same (rowAt l i .p) (rowAt l i .q) (rowAt l i .q) (rowAt l i .r) (λ a b. named i h .p≢q a) (λ a b. named i h .r≢p (sym a))
+    u-m = edge-other (rowAt l i .p) (rowAt l i .q) (rowAt l i .r) (named i h .r≢p)
 
     v-m : sameEdge (edge (rowAt l i .r) (rowAt l i .p)) (base (rowAt l i)) ≡ false
-    v-m = not-same (rowAt l i .r) (rowAt l i .p) (rowAt l i .q) (rowAt l i .r) (λ a b. named i h .q≢r (sym a)) (λ a b. named i h .p≢q b)
+    v-m = edge-sym (edge (rowAt l i .r) (rowAt l i .p)) (base (rowAt l i)) ∙ edge-other (rowAt l i .q) (rowAt l i .r) (rowAt l i .p) (named i h .p≢q)
 
     v-u : sameEdge (edge (rowAt l i .r) (rowAt l i .p)) (edge (rowAt l i .p) (rowAt l i .q)) ≡ false
-    v-u = not-same (rowAt l i .r) (rowAt l i .p) (rowAt l i .p) (rowAt l i .q) (λ a b. named i h .r≢p a) (λ a b. named i h .q≢r (sym a))
+    v-u = edge-other (rowAt l i .r) (rowAt l i .p) (rowAt l i .q) (named i h .q≢r)
 
-    any-u : any (sameEdge (edge (rowAt l i .p) (rowAt l i .q))) (afterM i) ≡ any (sameEdge (edge (rowAt l i .p) (rowAt l i .q))) (metTo i)
-    any-u = any-still (edge (rowAt l i .p) (rowAt l i .q)) (base (rowAt l i)) (metTo i) (mem (base (rowAt l i))) u-m
-
-    any-v : any (sameEdge (edge (rowAt l i .r) (rowAt l i .p))) (afterU i) ≡ any (sameEdge (edge (rowAt l i .r) (rowAt l i .p))) (metTo i)
-    any-v =
-        any-still (edge (rowAt l i .r) (rowAt l i .p)) (edge (rowAt l i .p) (rowAt l i .q)) (afterM i) (mem (edge (rowAt l i .p) (rowAt l i .q))) v-u
-        ∙ any-still (edge (rowAt l i .r) (rowAt l i .p)) (base (rowAt l i)) (metTo i) (mem (base (rowAt l i))) v-m
-
-    once-m : once sameEdge (afterM i) ≡ once sameEdge (metTo i) ++ consIf (news i (base (rowAt l i))) (base (rowAt l i)) []
-    once-m = once-add (metTo i) (mem (base (rowAt l i))) (base (rowAt l i))
-
-    once-u : once sameEdge (afterU i) ≡ once sameEdge (afterM i) ++ consIf (news i (edge (rowAt l i .p) (rowAt l i .q))) (edge (rowAt l i .p) (rowAt l i .q)) []
-    once-u = once-add (afterM i) (mem (edge (rowAt l i .p) (rowAt l i .q))) (edge (rowAt l i .p) (rowAt l i .q)) ∙ rw any-u
-
-    once-v : once sameEdge (afterV i) ≡ once sameEdge (afterU i) ++ consIf (news i (edge (rowAt l i .r) (rowAt l i .p))) (edge (rowAt l i .r) (rowAt l i .p)) []
-    once-v = once-add (afterU i) (mem (edge (rowAt l i .r) (rowAt l i .p))) (edge (rowAt l i .r) (rowAt l i .p)) ∙ rw any-v
+    -- and so of those that come before one of them
+    earlier-apart : {x y : ℕ} (s : Side (rowAt l i) x y) → Apart (earlier s) × (any (sameEdge (edge x y)) (earlier s) ≡ false)
+    earlier-apart side-m = (none, refl)
+    earlier-apart side-u = (apart nil none, rw u-m)
+    earlier-apart side-v = (apart (cons u-m nil) (apart nil none), rw (v-m, v-u))
 
     -- row i adds the edges first met in it
-    pub firsts-next : once sameEdge (metTo (i + 1)) ≡ once sameEdge (metTo i) ++ firsts i
+    firsts-next : once sameEdge (metBelow (i + 1)) ≡ once sameEdge (metBelow i) ++ firsts i
     firsts-next =
-        ap (once sameEdge) met-next
-        ∙ three (once sameEdge (metTo i)) (once sameEdge (afterM i)) (once sameEdge (afterU i)) (once sameEdge (afterV i))
-        (news i (base (rowAt l i))) (news i (edge (rowAt l i .p) (rowAt l i .q))) (news i (edge (rowAt l i .r) (rowAt l i .p)))
-        (base (rowAt l i)) (edge (rowAt l i .p) (rowAt l i .q)) (edge (rowAt l i .r) (rowAt l i .p)) once-m once-u once-v
+        ap (λ (ts : List Tri). once sameEdge (only mem (joined edges ts))) (items-snoc (rowAt l) 0 i (omega arith))
+        ∙ ap (λ (es : List Edge). once sameEdge (only mem es)) (joined-append edges (items (rowAt l) 0 i) (rowAt l i ∷ []))
+        ∙ ap (once sameEdge) (only-append mem (joined edges (items (rowAt l) 0 i)) (joined edges (rowAt l i ∷ [])))
+        ∙ once-more mem (metBelow i) (apart (cons u-m (cons v-m nil)) (apart (cons v-u nil) (apart nil none)))
 
-    length-m : length (once sameEdge (afterM i)) ≡ length (once sameEdge (metTo i)) + bit (news i (base (rowAt l i)))
-    length-m = ap length once-m ∙ length-append (once sameEdge (metTo i)) _ ∙ ap (λ (k : ℕ). length (once sameEdge (metTo i)) + k) (length-if (news i (base (rowAt l i))) (base (rowAt l i)))
+    length-next : length (once sameEdge (metBelow (i + 1))) ≡
+        length (once sameEdge (metBelow i)) + bit (news i (base (rowAt l i))) + bit (news i (edge (rowAt l i .p) (rowAt l i .q))) + bit (news i (edge (rowAt l i .r) (rowAt l i .p)))
+    length-next =
+        ap length firsts-next ∙ length-append (once sameEdge (metBelow i)) (firsts i)
+        ∙ omega (
+          arith,
+          length-front (news i (base (rowAt l i))) (base (rowAt l i)) (only (news i) (edge (rowAt l i .p) (rowAt l i .q) ∷ edge (rowAt l i .r) (rowAt l i .p) ∷ [])),
+          length-front (news i (edge (rowAt l i .p) (rowAt l i .q))) (edge (rowAt l i .p) (rowAt l i .q)) (only (news i) (edge (rowAt l i .r) (rowAt l i .p) ∷ [])),
+          length-front (news i (edge (rowAt l i .r) (rowAt l i .p))) (edge (rowAt l i .r) (rowAt l i .p)) [],
+        )
 
-    length-u : length (once sameEdge (afterU i)) ≡ length (once sameEdge (afterM i)) + bit (news i (edge (rowAt l i .p) (rowAt l i .q)))
-    length-u =
-        ap length once-u ∙ length-append (once sameEdge (afterM i)) _
-        ∙ ap (λ (k : ℕ). length (once sameEdge (afterM i)) + k) (length-if (news i (edge (rowAt l i .p) (rowAt l i .q))) (edge (rowAt l i .p) (rowAt l i .q)))
-
-    length-v : length (once sameEdge (metTo (i + 1))) ≡ length (once sameEdge (afterU i)) + bit (news i (edge (rowAt l i .r) (rowAt l i .p)))
-    length-v =
-        ap (λ (r : List Edge). length (once sameEdge r)) met-next ∙ ap length once-v ∙ length-append (once sameEdge (afterU i)) _
-        ∙ ap (λ (k : ℕ). length (once sameEdge (afterU i)) + k) (length-if (news i (edge (rowAt l i .r) (rowAt l i .p))) (edge (rowAt l i .r) (rowAt l i .p)))
-
-  -- ---- the numbers, from n on
+  -- ---- the numbers, from n on: an edge has the number of its place in the scan, which counts the edges met before it
 
   num-out : (e : Edge) → mem e ≡ false → num n scanned e ≡ 0
   num-out e q = rw (where-nowhere (sameEdge e) scanned none-there)
     where
       none-there : any (sameEdge e) scanned ≡ false
-      none-there = any-once e (metTo t) ∙ not-so (any (sameEdge e) (metTo t)) (λ a. go (any-row (sameEdge e) (metTo t) a))
+      none-there = any-once-edge e (metBelow t) ∙ not-so (any (sameEdge e) (metBelow t)) (λ a. go (any-row (sameEdge e) (metBelow t) a))
         where
-          go : (x : Edge) × List·Memᴰ x (metTo t) × (sameEdge e x ≡ true) → ⊥
+          go : (x : Edge) × List·Memᴰ x (metBelow t) × (sameEdge e x ≡ true) → ⊥
           go (x, i, a) =
               let m = in-only mem (joined edges (items (rowAt l) 0 t)) i .1 in
               let f : true ≡ false = sym m ∙ ap mem (sym (sameEdge-eq e x a)) ∙ q in
               clash f
 
-  num-new : (P Q : List Edge) (e : Edge) → metTo t ≡ P ++ consIf (mem e) e Q → mem e ≡ true → any (sameEdge e) P ≡ false → num n scanned e ≡ n + length (once sameEdge P)
+  num-new : (P Q : List Edge) (e : Edge) → metBelow t ≡ P ++ consIf (mem e) e Q → mem e ≡ true → any (sameEdge e) P ≡ false → num n scanned e ≡ n + length (once sameEdge P)
   num-new P Q e q m a =
       let f : scanned ≡ once sameEdge (P ++ (e ∷ Q)) = ap (once sameEdge) (q ∙ ap (λ (b : Bool). P ++ consIf b e Q) m) in
       rw (f, once-place P Q e a)
@@ -395,47 +333,52 @@ module _ (l : List ℕ) (t n : ℕ) (only-one : OnceAt l t) (named : (i : ℕ) �
   not-yes false e = refl
 
   news-in : (i : ℕ) (e : Edge) → news i e ≡ true → mem e ≡ true
-  news-in i e a = and-left (mem e) (not (any (sameEdge e) (metTo i))) a
+  news-in i e a = and-left (mem e) (not (any (sameEdge e) (metBelow i))) a
 
-  news-none : (i : ℕ) (e : Edge) → news i e ≡ true → any (sameEdge e) (metTo i) ≡ false
-  news-none i e a = not-yes (any (sameEdge e) (metTo i)) (and-right (mem e) (not (any (sameEdge e) (metTo i))) a)
+  news-none : (i : ℕ) (e : Edge) → news i e ≡ true → any (sameEdge e) (metBelow i) ≡ false
+  news-none i e a = not-yes (any (sameEdge e) (metBelow i)) (and-right (mem e) (not (any (sameEdge e) (metBelow i))) a)
 
-  -- a row's own numbers
-  module _ (i : ℕ) (h : i < t) where
-    own-m : news i (base (rowAt l i)) ≡ true → ownM n (noteFor i) ≡ num n scanned (base (rowAt l i))
-    own-m a = sym (num-new (metTo i) _ (base (rowAt l i)) (split-m i h) (news-in i (base (rowAt l i)) a) (news-none i (base (rowAt l i)) a))
+  -- a row's own numbers: after all edges met below it, and those that come before in it
+  own-count : (i : ℕ) {x y : ℕ} (s : Side (rowAt l i) x y) → ownAt s n (noteFor i) ≡ n + (length (once sameEdge (metBelow i)) + length (only (news i) (earlier s)))
+  own-count i side-m = omega arith
+  own-count i side-u = omega (arith, length-front (news i (base (rowAt l i))) (base (rowAt l i)) [])
+  own-count i side-v = omega (
+    arith,
+    length-front (news i (base (rowAt l i))) (base (rowAt l i)) (only (news i) (edge (rowAt l i .p) (rowAt l i .q) ∷ [])),
+    length-front (news i (edge (rowAt l i .p) (rowAt l i .q))) (edge (rowAt l i .p) (rowAt l i .q)) [],
+  )
 
-    own-u : news i (edge (rowAt l i .p) (rowAt l i .q)) ≡ true → ownU n (noteFor i) ≡ num n scanned (edge (rowAt l i .p) (rowAt l i .q))
-    own-u a =
-        let e : Edge = edge (rowAt l i .p) (rowAt l i .q) in
-        let k = num-new (afterM i) _ e (split-u i h) (news-in i e a) (any-u i h ∙ news-none i e a) in
-        let g = length-m i h in
-        let z : ownU n (noteFor i) ≡ n + length (once sameEdge (afterM i)) = omega arith in
-        z ∙ sym k
-
-    own-v : news i (edge (rowAt l i .r) (rowAt l i .p)) ≡ true → ownV n (noteFor i) ≡ num n scanned (edge (rowAt l i .r) (rowAt l i .p))
-    own-v a =
-        let e : Edge = edge (rowAt l i .r) (rowAt l i .p) in
-        let k = num-new (afterU i) _ e (split-v i h) (news-in i e a) (any-v i h ∙ news-none i e a) in
-        let g = length-m i h in
-        let f = length-u i h in
-        let z : ownV n (noteFor i) ≡ n + length (once sameEdge (afterU i)) = omega arith in
-        z ∙ sym k
+  own-num : (i : ℕ) → i < t → {x y : ℕ} (s : Side (rowAt l i) x y) → news i (edge x y) ≡ true → ownAt s n (noteFor i) ≡ num n scanned (edge x y)
+  own-num i h {x} {y} s a =
+      let e : Edge = edge x y in
+      let B : List Edge = earlier s in
+      let L : List Edge = joined edges (items (rowAt l) (i + 1) t) in
+      let p = earlier-apart i h s in
+      let around : metBelow t ≡ (metBelow i ++ only mem (earlier s)) ++ consIf (mem (edge x y)) (edge x y) (only mem (following s ++ joined edges (items (rowAt l) (i + 1) t))) =
+      ap (λ (ts : List Tri). only mem (joined edges ts)) (items-around (rowAt l) t i h)
+      ∙ ap (only mem) (joined-append edges (items (rowAt l) 0 i) (rowAt l i ∷ items (rowAt l) (i + 1) t) ∙ ap (λ (es : List Edge). joined edges (items (rowAt l) 0 i) ++ es) (row-around s L))
+      ∙ only-append mem (joined edges (items (rowAt l) 0 i)) (B ++ (e ∷ (following s ++ L)))
+      ∙ ap (λ (es : List Edge). metBelow i ++ es) (only-append mem B (e ∷ (following s ++ L))) ∙ sym (append-assoc (metBelow i) (only mem B) (only mem (e ∷ (following s ++ L)))) in
+      let fresh : any (sameEdge (edge x y)) (metBelow i ++ only mem (earlier s)) ≡ false =
+      any-append (sameEdge e) (metBelow i) (only mem B) ∙ rw (news-none i e a, none-only mem (sameEdge e) B (p .1)) in
+      let counted : length (once sameEdge (metBelow i ++ only mem (earlier s))) ≡ length (once sameEdge (metBelow i)) + length (only (news i) (earlier s)) =
+      ap length (once-more mem (metBelow i) (p .0)) ∙ length-append (once sameEdge (metBelow i)) (only (news i) B) in
+      own-count i s ∙ sym (num-new (metBelow i ++ only mem (earlier s)) _ e around (news-in i e a) fresh ∙ ap (λ (k : ℕ). n + k) counted)
 
   own-is : (i : ℕ) → i < t → {x y : ℕ} → Side (rowAt l i) x y → news i (edge x y) ≡ true → ownOn n (rowAt l i) (noteFor i) x y ≡ num n scanned (edge x y)
   unfolding ownOn
-  own-is i h side-m a = rw (eq-eqb (rowAt l i .q) (rowAt l i .q) refl, eq-eqb (rowAt l i .r) (rowAt l i .r) refl) (own-m i h a)
+  own-is i h side-m a = rw (eq-eqb (rowAt l i .q) (rowAt l i .q) refl, eq-eqb (rowAt l i .r) (rowAt l i .r) refl) (own-num i h side-m a)
   own-is i h side-u a =
       rw (ne-eqb (rowAt l i .q) (rowAt l i .p) (λ e. named i h .p≢q (sym e)), eq-eqb (rowAt l i .p) (rowAt l i .p) refl, eq-eqb (rowAt l i .q) (rowAt l i .q) refl)
-      (own-u i h a)
+      (own-num i h side-u a)
   own-is i h side-v a =
       rw (ne-eqb (rowAt l i .q) (rowAt l i .r) (named i h .q≢r), ne-eqb (rowAt l i .p) (rowAt l i .r) (λ e. named i h .r≢p (sym e)))
-      (own-v i h a)
+      (own-num i h side-v a)
 
   -- where the notes of the rows up to i say what they are to say
   module _ (s : List ℕ) (i : ℕ) (h : i < t) (notes : (j : ℕ) → j ≤ i → noteAt s j ≡ noteFor j) where
     -- the edge was met in a lower row, the one across
-    across-num : (x y : ℕ) → Side (rowAt l i) x y → mem (edge x y) ≡ true → any (sameEdge (edge x y)) (metTo i) ≡ true → across n l s i x y ≡ num n scanned (edge x y)
+    across-num : (x y : ℕ) → Side (rowAt l i) x y → mem (edge x y) ≡ true → any (sameEdge (edge x y)) (metBelow i) ≡ true → across n l s i x y ≡ num n scanned (edge x y)
     unfolding across
     across-num x y side m a = go (lowest (arrowAt l y x) 0 i) refl
       where
@@ -450,44 +393,39 @@ module _ (l : List ℕ) (t n : ℕ) (only-one : OnceAt l t) (named : (i : ℕ) �
             let d : news j (edge y x) ≡ true = and-both c (ap not (met-new j y x (omega arith) (f .1) first)) in
             ap (λ (w : Note). ownOn n (rowAt l j) w y x) (notes j (omega arith)) ∙ own-is j (omega arith) (f .1) d ∙ ap (num n scanned) (edge-comm y x)
 
-    for-num : (x y own : ℕ) → Side (rowAt l i) x y → (news i (edge x y) ≡ true → own ≡ num n scanned (edge x y)) →
-        midFor n l s i (bit (mem (edge x y))) (bit (news i (edge x y))) own x y ≡ num n scanned (edge x y)
+    for-num : {x y : ℕ} (side : Side (rowAt l i) x y) →
+        midFor n l s i (bit (mem (edge x y))) (bit (news i (edge x y))) (ownAt side n (noteFor i)) x y ≡ num n scanned (edge x y)
     unfolding midFor
-    for-num x y own side f = go (mem (edge x y)) refl (any (sameEdge (edge x y)) (metTo i)) refl f
+    for-num {x} {y} side = go (mem (edge x y)) refl (any (sameEdge (edge x y)) (metBelow i)) refl (own-num i h side)
       where
-        go : (b : Bool) → mem (edge x y) ≡ b → (c : Bool) → any (sameEdge (edge x y)) (metTo i) ≡ c → (b && not c ≡ true → own ≡ num n scanned (edge x y)) →
-            cases (eqb (bit b) 0) 0 (cases (eqb (bit (b && not c)) 1) own (across n l s i x y)) ≡ num n scanned (edge x y)
+        go : (b : Bool) → mem (edge x y) ≡ b → (c : Bool) → any (sameEdge (edge x y)) (metBelow i) ≡ c → (b && not c ≡ true → ownAt side n (noteFor i) ≡ num n scanned (edge x y)) →
+            cases (eqb (bit b) 0) 0 (cases (eqb (bit (b && not c)) 1) (ownAt side n (noteFor i)) (across n l s i x y)) ≡ num n scanned (edge x y)
         go true m true a g = across-num x y side m a
         go true m false a g = g refl
         go false m c a g = sym (num-out (edge x y) m)
 
-    pub mids-num : midsAt n l s i ≡ numsOf n scanned (rowAt l i)
+    pub mids-num : midsAt n l s i ≡ numbersOf n scanned (rowAt l i)
     unfolding midsAt
-    mids-num =
-        rw (notes i (omega arith))
-        (mids-path _ _ _ _ _ _
-        (for-num (rowAt l i .q) (rowAt l i .r) (ownM n (noteFor i)) side-m (own-m i h))
-        (for-num (rowAt l i .p) (rowAt l i .q) (ownU n (noteFor i)) side-u (own-u i h))
-        (for-num (rowAt l i .r) (rowAt l i .p) (ownV n (noteFor i)) side-v (own-v i h)))
+    mids-num = rw (notes i (omega arith)) (mids-path _ _ _ _ _ _ (for-num side-m) (for-num side-u) (for-num side-v))
 
-  -- ---- all rows
+  -- ---- all rows: each turn makes the note of one row, and leaves bit 0 of the others
 
   -- the sweep has reached row i; N is the length of scratch
   pub record Reached (N i : ℕ) (st : Numbers) : Type 0 where
     pub done : (j : ℕ) → j < i → noteAt (st .table) j ≡ noteFor j
     pub todo : (j : ℕ) → i ≤ j → j < t → noteAt (st .table) j .m ≡ bit (mem (base (rowAt l j)))
-    pub counted : st .count ≡ length (once sameEdge (metTo i))
+    pub counted : st .count ≡ length (once sameEdge (metBelow i))
     pub few : st .count ≤ 3 * i
     pub long : length (st .table) ≡ N
 
-  for-tight : (i : ℕ) → length (once sameEdge (metTo i)) ≤ 16_777_216 → Tight (noteFor i)
+  for-tight : (i : ℕ) → length (once sameEdge (metBelow i)) ≤ 16_777_216 → Tight (noteFor i)
   for-tight i k = record {
-    m-bit = bit-le (mem (base (rowAt l i)));
-    u-bit = bit-le (mem (edge (rowAt l i .p) (rowAt l i .q)));
-    v-bit = bit-le (mem (edge (rowAt l i .r) (rowAt l i .p)));
-    fm-bit = bit-le (news i (base (rowAt l i)));
-    fu-bit = bit-le (news i (edge (rowAt l i .p) (rowAt l i .q)));
-    fv-bit = bit-le (news i (edge (rowAt l i .r) (rowAt l i .p)));
+    m-bit = bit-one (mem (base (rowAt l i)));
+    u-bit = bit-one (mem (edge (rowAt l i .p) (rowAt l i .q)));
+    v-bit = bit-one (mem (edge (rowAt l i .r) (rowAt l i .p)));
+    fm-bit = bit-one (news i (base (rowAt l i)));
+    fu-bit = bit-one (news i (edge (rowAt l i .p) (rowAt l i .q)));
+    fv-bit = bit-one (news i (edge (rowAt l i .r) (rowAt l i .p)));
     few = k;
   }
 
@@ -497,12 +435,12 @@ module _ (l : List ℕ) (t n : ℕ) (only-one : OnceAt l t) (named : (i : ℕ) �
     reach i st h d = rw is (record {
       done = λ j a. at j a (ℕ-discrete j i);
       todo = λ j a c. ap (λ (k : ℕ). unpacked k .m) (getD-set-other (st .table) i j (packed (noteFor i)) 0 (omega arith)) ∙ d .todo j (omega arith) c;
-      counted = (let a = length-m i h in let b = length-u i h in let c = length-v i h in let k = d .counted in omega arith);
+      counted = (let a = length-next i h in let k = d .counted in omega arith);
       few = (let a = for-tight i few′ in let k = d .few in omega arith);
       long = length-set (st .table) i (packed (noteFor i)) ∙ d .long;
     })
       where
-        few′ : length (once sameEdge (metTo i)) ≤ 16_777_216
+        few′ : length (once sameEdge (metBelow i)) ≤ 16_777_216
         few′ = let a = d .counted in let b = d .few in omega arith
 
         bits : (j : ℕ) → j < t → noteAt (st .table) j .m ≡ bit (mem (base (rowAt l j)))
@@ -537,18 +475,18 @@ module _ (l : List ℕ) (t n : ℕ) (only-one : OnceAt l t) (named : (i : ℕ) �
         mod-bit true = refl
         mod-bit false = refl
 
-        none-met : 0 ≡ length (once sameEdge (metTo 0))
+        none-met : 0 ≡ length (once sameEdge (metBelow 0))
         none-met = let z : items (rowAt l) 0 0 ≡ [] = items-none (rowAt l) 0 0 (omega arith) in rw z
 
-  -- ---- the scan
+  -- ---- the scan: the edges that the notes call first met are the scan itself
 
   row-met : (s : List ℕ) (i : ℕ) → noteAt s i ≡ noteFor i → Met.metAt l s i ≡ firsts i
   unfolding Met.metAt
   row-met s i e =
-      rw (e, bit-one (news i (base (rowAt l i))), bit-one (news i (edge (rowAt l i .p) (rowAt l i .q))), bit-one (news i (edge (rowAt l i .r) (rowAt l i .p))))
+      rw (e, bit-is-one (news i (base (rowAt l i))), bit-is-one (news i (edge (rowAt l i .p) (rowAt l i .q))), bit-is-one (news i (edge (rowAt l i .r) (rowAt l i .p))))
 
   -- where the notes of the rows below i say what they are to say, the edges first met in them are those of the scan
-  pub scan-met : (s : List ℕ) (i : ℕ) → i ≤ t → ((j : ℕ) → j < i → noteAt s j ≡ noteFor j) → Met.metTo l s i ≡ once sameEdge (metTo i)
+  pub scan-met : (s : List ℕ) (i : ℕ) → i ≤ t → ((j : ℕ) → j < i → noteAt s j ≡ noteFor j) → Met.metTo l s i ≡ once sameEdge (metBelow i)
   unfolding Met.metTo Met.metAt
   scan-met s zero h f = rw (items-none (rowAt l) 0 0 (omega arith))
   scan-met s (suc i) h f =
@@ -556,5 +494,5 @@ module _ (l : List ℕ) (t n : ℕ) (only-one : OnceAt l t) (named : (i : ℕ) �
       let a : i < t = omega arith in
       joined-append (Met.metAt l s) (upTo i) (i ∷ [])
       ∙ ap (λ (r : List Edge). r ++ (Met.metAt l s i ++ [])) (scan-met s i (omega arith) (λ j k. f j (omega arith)))
-      ∙ ap (λ (r : List Edge). once sameEdge (metTo i) ++ r) (append-nil (Met.metAt l s i) ∙ row-met s i (f i (omega arith)))
-      ∙ sym (firsts-next i a) ∙ ap (λ (k : ℕ). once sameEdge (metTo k)) (sym e)
+      ∙ ap (λ (r : List Edge). once sameEdge (metBelow i) ++ r) (append-nil (Met.metAt l s i) ∙ row-met s i (f i (omega arith)))
+      ∙ sym (firsts-next i a) ∙ ap (λ (k : ℕ). once sameEdge (metBelow k)) (sym e)

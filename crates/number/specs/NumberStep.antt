@@ -6,7 +6,7 @@ use Prim.Native.Nat.{ℕ, _+_, _*_, _≤_, _<_}
 use native.Mathlib.Omega.{arith}
 use borrow.Author.Tests.{eq-eqb, ne-eqb, lt-ltb, le-ltb}
 use lib.Dec.{eqb, ltb}
-use lib.ListN.{length, set, length-set}
+use lib.ListN.{length, set}
 use Rattle.lists.specs.declared.Found.{Found}
 use Rattle.lists.specs.declared.Found.the-variants.{At, Nothing}
 use Rattle.lists.specs.Lists.{cases}
@@ -40,29 +40,29 @@ by-first on j i h = rw (le-ltb j i h)
 
 -- a row that was found is in the table, and its note in scratch
 module _ (l : List ℕ) (L t j x y : ℕ) (r : Found) (e : r ≡ lowest (arrowAt l x y) 0 t) (a : r ≡ At j) where
-  pub found-row : 3 * t ≤ L → 3 * j + 3 ≤ L
-  found-row h = let b = lowest-below (arrowAt l x y) t j (sym e ∙ a) in omega arith
+  pub row-in-table : 3 * t ≤ L → 3 * j + 3 ≤ L
+  row-in-table h = let b = lowest-below (arrowAt l x y) t j (sym e ∙ a) in omega arith
 
-  pub found-note : t ≤ L → j < L
-  found-note h = let b = lowest-below (arrowAt l x y) t j (sym e ∙ a) in omega arith
+  pub note-in-scratch : t ≤ L → j < L
+  note-in-scratch h = let b = lowest-below (arrowAt l x y) t j (sym e ∙ a) in omega arith
 
 module _ (l : List ℕ) (t i x y : ℕ) (r : Found) (e : r ≡ lowest (arrowAt l y x) 0 t) where
-  pub base-found : (j : ℕ) (g : Met) → r ≡ At j → g ≡ metBy 1 j i → g ≡ metBase l t i x y
+  pub met-base-found : (j : ℕ) (g : Met) → r ≡ At j → g ≡ metBy 1 j i → g ≡ metBase l t i x y
   unfolding metBase
-  base-found j g a f = rw (← e, a) f
+  met-base-found j g a f = rw (← e, a) f
 
-  pub base-alone : r ≡ Nothing → met 1 1 ≡ metBase l t i x y
+  pub met-base-alone : r ≡ Nothing → met 1 1 ≡ metBase l t i x y
   unfolding metBase
-  base-alone a = rw (← e, a)
+  met-base-alone a = rw (← e, a)
 
-  pub across-found : (s : List ℕ) (j b on : ℕ) (w : Tri) (g : Met) → r ≡ At j → w ≡ rowAt l j → b ≡ noteAt s j .m → on ≡ baseSplit w b y x → g ≡ metBy on j i →
+  pub met-found : (s : List ℕ) (j b on : ℕ) (w : Tri) (g : Met) → r ≡ At j → w ≡ rowAt l j → b ≡ noteAt s j .m → on ≡ baseSplit w b y x → g ≡ metBy on j i →
       g ≡ metAcross l t s i x y
   unfolding metAcross
-  across-found s j b on w g a f k h q = rw (← e, a, ← f, ← k, ← h) q
+  met-found s j b on w g a f k h q = rw (← e, a, ← f, ← k, ← h) q
 
-  pub across-alone : (s : List ℕ) → r ≡ Nothing → met 0 0 ≡ metAcross l t s i x y
+  pub met-alone : (s : List ℕ) → r ≡ Nothing → met 0 0 ≡ metAcross l t s i x y
   unfolding metAcross
-  across-alone s a = rw (← e, a)
+  met-alone s a = rw (← e, a)
 
 module _ (l : List ℕ) (t : ℕ) (s : List ℕ) (i k b : ℕ) (f : b ≡ noteAt s i .m) where
   pub note-whole : b ≡ 0 → note 0 0 0 0 0 0 k ≡ noteOf l t s i k
@@ -109,7 +109,7 @@ across-bits l t s i x y = go (lowest (arrowAt l y x) 0 t)
     go (At j) = by-bits (baseSplit (rowAt l j) (noteAt s j .m) y x) j i (split-le (rowAt l j) (noteAt s j .m) y x)
     go Nothing = (omega arith, omega arith)
 
-pub tight-of : (l : List ℕ) (t : ℕ) (s : List ℕ) (i k : ℕ) → k ≤ 16_777_216 → Tight (noteOf l t s i k)
+tight-of : (l : List ℕ) (t : ℕ) (s : List ℕ) (i k : ℕ) → k ≤ 16_777_216 → Tight (noteOf l t s i k)
 unfolding noteOf
 tight-of l t s i k h = go (eqb (noteAt s i .m) 0)
   where
@@ -149,9 +149,6 @@ module _ (l s s′ : List ℕ) (t i k r : ℕ) (e : numbers s′ r ≡ numberRow
 
   pub ready-next : (nc : ℕ) → i < t → 3 * t ≤ length l → Ready s nc l t → Ready s′ nc l t
   ready-next nc h b a = ready-put s s′ l nc t i (packed (noteOf l t s i k)) (omega arith) table-next a
-
-  pub length-next : length s′ ≡ length s
-  length-next = ap length table-next ∙ length-set s i (packed (noteOf l t s i k))
 
 pub row-noted : (l s s′ : List ℕ) (t i k p r : ℕ) (c : Note) → c ≡ noteOf l t s i k → p ≡ packed c → s′ ≡ set s i p → r ≡ k + c .fm + c .fu + c .fv →
     numbers s′ r ≡ numberRow l t i (numbers s k)

@@ -54,8 +54,8 @@ pub record Numbers : Type 0 where
 abbrev pub numbers : List ℕ → ℕ → Numbers
 numbers s k = record { table = s; count = k }
 
-abbrev pub noted : Note → ℕ → Numbers → Numbers
-noted c i st = numbers (set (st .table) i (packed c)) (st .count + c .fm + c .fu + c .fv)
+abbrev pub withNote : Note → ℕ → Numbers → Numbers
+withNote c i st = numbers (set (st .table) i (packed c)) (st .count + c .fm + c .fu + c .fv)
 
 unfoldable pub numberRow : List ℕ → ℕ → ℕ → Numbers → Numbers
-numberRow l t i st = noted (noteOf l t (st .table) i (st .count)) i st
+numberRow l t i st = withNote (noteOf l t (st .table) i (st .count)) i st

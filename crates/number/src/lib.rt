@@ -17,11 +17,11 @@ pub struct Met {
     pub first: u32,
 }
 
-fn split_bit(s: &[u32], j: usize) -> u32
-    requires { ⌜ j < length (now s) ⌝ }
-    ensures { λ r. ⌜ r ≡ noteAt (now (s .entry)) j .m ⌝ }
+fn split_bit(scratch: &[u32], j: usize) -> u32
+    requires { ⌜ j < length (now scratch) ⌝ }
+    ensures { λ r. ⌜ r ≡ noteAt (now (scratch .entry)) j .m ⌝ }
 {
-    let c = notes::note_at(s, j);
+    let c = notes::note_at(scratch, j);
     c.m
 }
 
@@ -46,26 +46,26 @@ fn met_by(on: u32, j: usize, i: usize) -> Met
 }
 
 // The refinement edge x→y of row i, which is split.
-fn met_base(tri: &[u32], s: &[u32], nc: usize, t: usize, i: usize, x: u32, y: u32) -> Met
-    requires { ⌜ Ready (now s) nc (now tri) t ⌝ }
-    ensures { λ r. ⌜ r ≡ metBase (now (tri .entry)) t i x y ⌝ }
+fn met_base(rows: &[u32], scratch: &[u32], nc: usize, t: usize, i: usize, x: u32, y: u32) -> Met
+    requires { ⌜ Ready (now scratch) nc (now rows) t ⌝ }
+    ensures { λ r. ⌜ r ≡ metBase (now (rows .entry)) t i x y ⌝ }
 {
-    match tables::find_edge(tri, s, nc, t, y, x) {
+    match tables::find_edge(rows, scratch, nc, t, y, x) {
         Found::At(j) => met_by(1, j, i),
         Found::Nothing => Met { on: 1, first: 1 },
     }
 }
 
 // Another edge x→y of row i, which is split: this one is, where it is the refinement edge of a split row.
-fn met_across(tri: &[u32], s: &[u32], nc: usize, t: usize, i: usize, x: u32, y: u32) -> Met
-    requires { ⌜ 3 * t ≤ length (now tri) ⌝ }
-    requires { ⌜ t ≤ length (now s) ⌝ }
-    requires { ⌜ Ready (now s) nc (now tri) t ⌝ }
-    ensures { λ r. ⌜ r ≡ metAcross (now (tri .entry)) t (now (s .entry)) i x y ⌝ }
+fn met_across(rows: &[u32], scratch: &[u32], nc: usize, t: usize, i: usize, x: u32, y: u32) -> Met
+    requires { ⌜ 3 * t ≤ length (now rows) ⌝ }
+    requires { ⌜ t ≤ length (now scratch) ⌝ }
+    requires { ⌜ Ready (now scratch) nc (now rows) t ⌝ }
+    ensures { λ r. ⌜ r ≡ metAcross (now (rows .entry)) t (now (scratch .entry)) i x y ⌝ }
 {
-    match tables::find_edge(tri, s, nc, t, y, x) {
+    match tables::find_edge(rows, scratch, nc, t, y, x) {
         Found::At(j) => met_by(
-            base_split(tables::row_at(tri, j), split_bit(s, j), y, x),
+            base_split(tables::row_at(rows, j), split_bit(scratch, j), y, x),
             j,
             i,
         ),
@@ -74,14 +74,14 @@ fn met_across(tri: &[u32], s: &[u32], nc: usize, t: usize, i: usize, x: u32, y: 
 }
 
 // The note of row i, where lower rows have k new nodes.
-fn note_of(tri: &[u32], s: &[u32], nc: usize, t: usize, i: usize, k: u32) -> Note
+fn note_of(rows: &[u32], scratch: &[u32], nc: usize, t: usize, i: usize, k: u32) -> Note
     requires { ⌜ i < t ⌝ }
-    requires { ⌜ 3 * t ≤ length (now tri) ⌝ }
-    requires { ⌜ t ≤ length (now s) ⌝ }
-    requires { ⌜ Ready (now s) nc (now tri) t ⌝ }
-    ensures { λ r. ⌜ r ≡ noteOf (now (tri .entry)) t (now (s .entry)) i k ⌝ }
+    requires { ⌜ 3 * t ≤ length (now rows) ⌝ }
+    requires { ⌜ t ≤ length (now scratch) ⌝ }
+    requires { ⌜ Ready (now scratch) nc (now rows) t ⌝ }
+    ensures { λ r. ⌜ r ≡ noteOf (now (rows .entry)) t (now (scratch .entry)) i k ⌝ }
 {
-    if split_bit(s, i) == 0 {
+    if split_bit(scratch, i) == 0 {
         return Note {
             m: 0,
             u: 0,
@@ -92,10 +92,10 @@ fn note_of(tri: &[u32], s: &[u32], nc: usize, t: usize, i: usize, k: u32) -> Not
             before: k,
         };
     }
-    let w = tables::row_at(tri, i);
-    let a = met_base(tri, s, nc, t, i, w.q, w.r);
-    let b = met_across(tri, s, nc, t, i, w.p, w.q);
-    let c = met_across(tri, s, nc, t, i, w.r, w.p);
+    let w = tables::row_at(rows, i);
+    let a = met_base(rows, scratch, nc, t, i, w.q, w.r);
+    let b = met_across(rows, scratch, nc, t, i, w.p, w.q);
+    let c = met_across(rows, scratch, nc, t, i, w.r, w.p);
     Note {
         m: a.on,
         u: b.on,
@@ -116,30 +116,30 @@ fn with_new(k: u32, c: Note) -> u32
 }
 
 // Puts the note of row i, and returns how many new nodes the rows up to it have.
-fn number_row(tri: &[u32], s: &mut [u32], nc: usize, t: usize, i: usize, k: u32) -> u32
+fn number_row(rows: &[u32], scratch: &mut [u32], nc: usize, t: usize, i: usize, k: u32) -> u32
     requires { ⌜ i < t ⌝ }
-    requires { ⌜ 3 * t ≤ length (now tri) ⌝ }
-    requires { ⌜ t ≤ length (now s) ⌝ }
-    requires { ⌜ Ready (now s) nc (now tri) t ⌝ }
+    requires { ⌜ 3 * t ≤ length (now rows) ⌝ }
+    requires { ⌜ t ≤ length (now scratch) ⌝ }
+    requires { ⌜ Ready (now scratch) nc (now rows) t ⌝ }
     requires { ⌜ k ≤ 3 * i ⌝ }
-    ensures { λ r. ⌜ numbers (now (s .exit)) r ≡ numberRow (now (tri .entry)) t i (numbers (now (s .entry)) k) ⌝ }
+    ensures { λ r. ⌜ numbers (now (scratch .exit)) r ≡ numberRow (now (rows .entry)) t i (numbers (now (scratch .entry)) k) ⌝ }
 {
-    let c = note_of(tri, s, nc, t, i, k);
-    tables::put_note(s, i, notes::pack(c));
+    let c = note_of(rows, scratch, nc, t, i, k);
+    tables::put_note(scratch, i, notes::pack(c));
     with_new(k, c)
 }
 
 // The notes are 1 where a row is split, else 0. Returns how many new nodes there are.
-pub fn number(tri: &[u32], s: &mut [u32], nc: usize, t: usize) -> u32
-    requires { ⌜ 3 * t ≤ length (now tri) ⌝ }
-    requires { ⌜ t ≤ length (now s) ⌝ }
-    requires { ⌜ Ready (now s) nc (now tri) t ⌝ }
-    ensures { λ r. ⌜ numbers (now (s .exit)) r ≡ iter (numberRow (now (tri .entry)) t) 0 t (numbers (now (s .entry)) 0) ⌝ }
+pub fn number(rows: &[u32], scratch: &mut [u32], nc: usize, t: usize) -> u32
+    requires { ⌜ 3 * t ≤ length (now rows) ⌝ }
+    requires { ⌜ t ≤ length (now scratch) ⌝ }
+    requires { ⌜ Ready (now scratch) nc (now rows) t ⌝ }
+    ensures { λ r. ⌜ numbers (now (scratch .exit)) r ≡ iter (numberRow (now (rows .entry)) t) 0 t (numbers (now (scratch .entry)) 0) ⌝ }
 {
     let mut k = 0;
     let mut i = 0;
     while i < t {
-        k = number_row(tri, s, nc, t, i, k);
+        k = number_row(rows, scratch, nc, t, i, k);
         i += 1;
     }
     k

@@ -13,8 +13,8 @@ use Rattle.whole.specs.Bound.{abs-add, fits-abs}
 use Rattle.whole.specs.Diff.{onℤ}
 use Rattle.whole.specs.Tests.{tests, ofZ-inj}
 
-pub wide : (z : ℤ) → SFits w32 z → SFits w64 z
-wide z h = record { sfits = omega (arith, h .sfits) }
+pub fits-wide : (z : ℤ) → SFits w32 z → SFits w64 z
+fits-wide z h = record { sfits = omega (arith, h .sfits) }
 
 pub wide-sum : (a b : ℤ) → SFits w32 a → SFits w32 b → SFits w64 (a +ℤ b)
 wide-sum a b f g = fits-abs w64 (abs-add a b (natAbs-le a (f .sfits)) (natAbs-le b (g .sfits))) tt

@@ -30,7 +30,7 @@ fn cross(u: Span, v: Span) -> i64
 }
 
 // Twice the signed area of the triangle a, b, c.
-pub fn twice_area(a: Place, b: Place, c: Place) -> i64
+fn twice_area(a: Place, b: Place, c: Place) -> i64
     requires { ⌜ InRange a × InRange b × InRange c ⌝ }
     ensures { λ r. ⌜ r ≡ turn a b c ⌝ }
 {

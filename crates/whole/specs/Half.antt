@@ -1,16 +1,14 @@
 -- Halving in ℤ, as the machine does it: `quotZ z 2` rounds toward zero, `remZ z 2` has z's sign; z is even where |z| is.
-use mathlib.Core.Path.{_≡_, refl, sym, ap, subst, _∙_}
-use mathlib.Core.Logic.{_↔_}
-use Prim.Native.Nat.{ℕ, zero, suc, _+_, _*_, _-_, _^_, _<_, _≤_, _/_, _%_}
+use mathlib.Core.Path.{_≡_, refl, ap}
+use Prim.Native.Nat.{ℕ, zero, suc, _*_, _-_, _^_, _<_, _≤_, _/_, _%_}
 use native.Mathlib.Nat.{div-le-self}
 use native.Mathlib.Omega.{arith}
 use lib.Dec.{lit≤}
-use lib.IntN.{ℤ, pos, negsuc, negℤ, natAbs, _+ℤ_, _-ℤ_, _*ℤ_}
+use lib.IntN.{ℤ, pos, negsuc, negℤ, natAbs, _*ℤ_}
 use lib.Signed.{quotZ, remZ}
 use mir.Syntax.{Width, w8, w16, w32, w64, w128}
-use mir.Val.{SFits, hbits, bits, ofZ}
-use Rattle.whole.specs.Diff.{onℤ, mulℤ}
-use Rattle.whole.specs.Bound.{abs-neg, abs-times}
+use mir.Val.{bits, ofZ}
+use Rattle.whole.specs.Bound.{abs-neg}
 
 -- a quotient is no larger
 pub abs-quot : (z d : ℤ) → natAbs (quotZ z d) ≤ natAbs z
@@ -27,17 +25,6 @@ neg-two n (suc j) e = rw e
 pub half-even : (z : ℤ) → natAbs z % 2 ≡ 0 → pos 2 *ℤ quotZ z (pos 2) ≡ z
 half-even (pos n) e = ap pos (omega arith)
 half-even (negsuc n) e = neg-two n (suc n / 2) (omega arith)
-
--- what is twice something is even
-pub twice-even : (m z : ℤ) → pos 2 *ℤ m ≡ z → natAbs z % 2 ≡ 0
-twice-even m z e = omega (arith, ap natAbs e, abs-times (pos 2) m)
-
--- the half is the only one
-pub cancel2 : (x y : ℤ) → pos 2 *ℤ x ≡ pos 2 *ℤ y → x ≡ y
-cancel2 x y e = omega (arith, onℤ, mulℤ (pos 2) x, mulℤ (pos 2) y)
-
-pub half-of : (m z : ℤ) → pos 2 *ℤ m ≡ z → quotZ z (pos 2) ≡ m
-half-of m z e = cancel2 (quotZ z (pos 2)) m (half-even z (twice-even m z e) ∙ sym e)
 
 -- the machine's test, at any width
 two-bits : (w : Width) → 2 ≤ 2 ^ bits w

@@ -2,7 +2,7 @@
 use mathlib.Core.Path.{_≡_, refl, sym, ap, ap₂, subst, _∙_}
 use mathlib.Core.Bool.{Bool, true, false, _&&_}
 use mathlib.Core.List.{List, [], _∷_}
-use Prim.Native.Nat.{ℕ, zero, suc, _+_, _*_}
+use Prim.Native.Nat.{ℕ, zero, suc}
 use native.Mathlib.Omega.{arith}
 use lib.Dec.{T, eqb, eqb→eq}
 use lib.IntN.{ℤ, pos, negsuc, negℤ, _+ℤ_, _-ℤ_, _*ℤ_}
@@ -199,7 +199,7 @@ zero-ok (x ∷ ρ) p t = all-ok (value ρ) x (zeroP ρ) (zero-ok ρ) p t
 apart : (a b : ℤ) → a -ℤ b ≡ pos 0 → a ≡ b
 apart a b = rw (rep a, rep b) (simp diffs (omega arith))
 
-pub solve : (ρ : List ℤ) (e f : Expr) → T (zeroP ρ (norm ρ (e :- f))) → eval ρ e ≡ eval ρ f
+solve : (ρ : List ℤ) (e f : Expr) → T (zeroP ρ (norm ρ (e :- f))) → eval ρ e ≡ eval ρ f
 solve ρ e f t = apart (eval ρ e) (eval ρ f) (sym (norm-ok ρ (e :- f)) ∙ zero-ok ρ (norm ρ (e :- f)) t)
 
 -- ---- with the variables bound by a λ: `ring3 (λ x y z. ((x :+ y) :* z, x :* z :+ y :* z)) a b c tt`
@@ -224,55 +224,15 @@ ring3 q a b c t = by-check (a ∷ b ∷ c ∷ []) (q (X 0) (X 1) (X 2)) t
 pub ring4 : (q : Expr → Expr → Expr → Expr → Expr × Expr) (a b c d : ℤ) → Checks (a ∷ b ∷ c ∷ d ∷ []) (q (X 0) (X 1) (X 2) (X 3)) → Holds (a ∷ b ∷ c ∷ d ∷ []) (q (X 0) (X 1) (X 2) (X 3))
 ring4 q a b c d t = by-check (a ∷ b ∷ c ∷ d ∷ []) (q (X 0) (X 1) (X 2) (X 3)) t
 
-pub ring5 : (q : Expr → Expr → Expr → Expr → Expr → Expr × Expr) (a b c d e : ℤ) → Checks (a ∷ b ∷ c ∷ d ∷ e ∷ []) (q (X 0) (X 1) (X 2) (X 3) (X 4)) → Holds (a ∷ b ∷ c ∷ d ∷ e ∷ []) (q (X 0) (X 1) (X 2) (X 3) (X 4))
-ring5 q a b c d e t = by-check (a ∷ b ∷ c ∷ d ∷ e ∷ []) (q (X 0) (X 1) (X 2) (X 3) (X 4)) t
-
 pub ring6 : (q : Expr → Expr → Expr → Expr → Expr → Expr → Expr × Expr) (a b c d e f : ℤ) → Checks (a ∷ b ∷ c ∷ d ∷ e ∷ f ∷ []) (q (X 0) (X 1) (X 2) (X 3) (X 4) (X 5)) → Holds (a ∷ b ∷ c ∷ d ∷ e ∷ f ∷ []) (q (X 0) (X 1) (X 2) (X 3) (X 4) (X 5))
 ring6 q a b c d e f t = by-check (a ∷ b ∷ c ∷ d ∷ e ∷ f ∷ []) (q (X 0) (X 1) (X 2) (X 3) (X 4) (X 5)) t
-
-pub ring7 : (q : Expr → Expr → Expr → Expr → Expr → Expr → Expr → Expr × Expr) (a b c d e f g : ℤ) → Checks (a ∷ b ∷ c ∷ d ∷ e ∷ f ∷ g ∷ []) (q (X 0) (X 1) (X 2) (X 3) (X 4) (X 5) (X 6)) → Holds (a ∷ b ∷ c ∷ d ∷ e ∷ f ∷ g ∷ []) (q (X 0) (X 1) (X 2) (X 3) (X 4) (X 5) (X 6))
-ring7 q a b c d e f g t = by-check (a ∷ b ∷ c ∷ d ∷ e ∷ f ∷ g ∷ []) (q (X 0) (X 1) (X 2) (X 3) (X 4) (X 5) (X 6)) t
 
 pub ring8 : (q : Expr → Expr → Expr → Expr → Expr → Expr → Expr → Expr → Expr × Expr) (a b c d e f g h : ℤ) → Checks (a ∷ b ∷ c ∷ d ∷ e ∷ f ∷ g ∷ h ∷ []) (q (X 0) (X 1) (X 2) (X 3) (X 4) (X 5) (X 6) (X 7)) → Holds (a ∷ b ∷ c ∷ d ∷ e ∷ f ∷ g ∷ h ∷ []) (q (X 0) (X 1) (X 2) (X 3) (X 4) (X 5) (X 6) (X 7))
 ring8 q a b c d e f g h t = by-check (a ∷ b ∷ c ∷ d ∷ e ∷ f ∷ g ∷ h ∷ []) (q (X 0) (X 1) (X 2) (X 3) (X 4) (X 5) (X 6) (X 7)) t
 
-pub ring9 : (q : Expr → Expr → Expr → Expr → Expr → Expr → Expr → Expr → Expr → Expr × Expr) (a b c d e f g h i : ℤ) → Checks (a ∷ b ∷ c ∷ d ∷ e ∷ f ∷ g ∷ h ∷ i ∷ []) (q (X 0) (X 1) (X 2) (X 3) (X 4) (X 5) (X 6) (X 7) (X 8)) → Holds (a ∷ b ∷ c ∷ d ∷ e ∷ f ∷ g ∷ h ∷ i ∷ []) (q (X 0) (X 1) (X 2) (X 3) (X 4) (X 5) (X 6) (X 7) (X 8))
-ring9 q a b c d e f g h i t = by-check (a ∷ b ∷ c ∷ d ∷ e ∷ f ∷ g ∷ h ∷ i ∷ []) (q (X 0) (X 1) (X 2) (X 3) (X 4) (X 5) (X 6) (X 7) (X 8)) t
-
-pub ring10 : (q : Expr → Expr → Expr → Expr → Expr → Expr → Expr → Expr → Expr → Expr → Expr × Expr) (a b c d e f g h i j : ℤ) → Checks (a ∷ b ∷ c ∷ d ∷ e ∷ f ∷ g ∷ h ∷ i ∷ j ∷ []) (q (X 0) (X 1) (X 2) (X 3) (X 4) (X 5) (X 6) (X 7) (X 8) (X 9)) → Holds (a ∷ b ∷ c ∷ d ∷ e ∷ f ∷ g ∷ h ∷ i ∷ j ∷ []) (q (X 0) (X 1) (X 2) (X 3) (X 4) (X 5) (X 6) (X 7) (X 8) (X 9))
-ring10 q a b c d e f g h i j t = by-check (a ∷ b ∷ c ∷ d ∷ e ∷ f ∷ g ∷ h ∷ i ∷ j ∷ []) (q (X 0) (X 1) (X 2) (X 3) (X 4) (X 5) (X 6) (X 7) (X 8) (X 9)) t
-
--- ---- with equations as hypotheses (Lean's `linear_combination`): a - b is c times what the equation's sides differ by
-none₁ : (a b c r : ℤ) → a -ℤ b ≡ c *ℤ (r -ℤ r) → a ≡ b
-none₁ a b c r = rw (rep a, rep b, rep c, rep r) (simp diffs (omega arith))
-
+-- ---- with equations as hypotheses (Lean's `linear_combination`): a - b is c times what one equation's sides differ by, and d times the other's
 none₂ : (a b c r d s : ℤ) → a -ℤ b ≡ c *ℤ (r -ℤ r) +ℤ d *ℤ (s -ℤ s) → a ≡ b
 none₂ a b c r d s = rw (rep a, rep b, rep c, rep r, rep d, rep s) (simp diffs (omega arith))
 
-pub combine₁ : {a b l r : ℤ} (c : ℤ) → l ≡ r → a -ℤ b ≡ c *ℤ (l -ℤ r) → a ≡ b
-combine₁ {a} {b} {l} {r} c h e = none₁ a b c r (rw h at e)
-
 pub combine₂ : {a b l r m s : ℤ} (c d : ℤ) → l ≡ r → m ≡ s → a -ℤ b ≡ c *ℤ (l -ℤ r) +ℤ d *ℤ (m -ℤ s) → a ≡ b
 combine₂ {a} {b} {l} {r} {m} {s} c d h i e = none₂ a b c r d s (rw (h, i) at e)
-
--- ---- the laws that `lib.IntN` lacks, by name
-pub mul-assoc : (a b c : ℤ) → (a *ℤ b) *ℤ c ≡ a *ℤ (b *ℤ c)
-mul-assoc a b c = ring3 (λ x y z. ((x :* y) :* z, x :* (y :* z))) a b c tt
-
-pub mul-left-comm : (a b c : ℤ) → a *ℤ (b *ℤ c) ≡ b *ℤ (a *ℤ c)
-mul-left-comm a b c = ring3 (λ x y z. (x :* (y :* z), y :* (x :* z))) a b c tt
-
-pub add-left-comm : (a b c : ℤ) → a +ℤ (b +ℤ c) ≡ b +ℤ (a +ℤ c)
-add-left-comm a b c = ring3 (λ x y z. (x :+ (y :+ z), y :+ (x :+ z))) a b c tt
-
-pub add-mul : (a b c : ℤ) → (a +ℤ b) *ℤ c ≡ a *ℤ c +ℤ b *ℤ c
-add-mul a b c = ring3 (λ x y z. ((x :+ y) :* z, x :* z :+ y :* z)) a b c tt
-
-pub mul-add : (a b c : ℤ) → a *ℤ (b +ℤ c) ≡ a *ℤ b +ℤ a *ℤ c
-mul-add a b c = ring3 (λ x y z. (x :* (y :+ z), x :* y :+ x :* z)) a b c tt
-
-pub neg-mul : (a b : ℤ) → negℤ a *ℤ b ≡ negℤ (a *ℤ b)
-neg-mul a b = ring2 (λ x y. (neg x :* y, neg (x :* y))) a b tt
-
-pub mul-neg : (a b : ℤ) → a *ℤ negℤ b ≡ negℤ (a *ℤ b)
-mul-neg a b = ring2 (λ x y. (x :* neg y, neg (x :* y))) a b tt

@@ -1,12 +1,12 @@
 -- A signed test, as a branch leaves it (`ltZ a b ≡ true`), as a fact and as what `omega` reads; and a test from a fact.
 use mathlib.Core.Path.{_≡_, refl, sym, ap, subst, _∙_}
 use mathlib.Core.Bool.{Bool, true, false, not}
-use Prim.Native.Nat.{ℕ, zero, suc, _+_, _<_, _≤_}
+use Prim.Native.Nat.{_+_, _<_, _≤_}
 use native.Mathlib.Omega.{arith}
-use lib.Dec.{T, ltb, leb}
+use lib.Dec.{T, ltb}
 use lib.IntN.{ℤ, pos, negsuc}
 use lib.Signed.{ltZ, leZ, _≤ℤ_, _<ℤ_, ltZ-yes, leZ-yes, ltZ-no}
-use borrow.Author.Tests.{ltb-true, ltb-false, leb-true, leb-false, lt-ltb, le-ltb, le-leb, lt-leb}
+use borrow.Author.Tests.{leb-false, lt-ltb}
 use mir.Syntax.{Width}
 use mir.Val.{SFits, toZ, ofZ}
 use mir.Facts.{toZ-ofZ}
@@ -22,12 +22,6 @@ is-true : (b : Bool) → T b → b ≡ true
 is-true true t = refl
 is-true false t = absurd t
 
-nle : (a b : ℤ) → leZ a b ≡ false → b <ℤ a
-nle (pos a) (pos b) e = record { lt = holds (ltb b a) (lt-ltb b a (leb-false a b e)) }
-nle (pos a) (negsuc b) e = record { lt = tt }
-nle (negsuc a) (pos b) e = absurd (fails true e)
-nle (negsuc a) (negsuc b) e = record { lt = holds (ltb a b) (lt-ltb a b (leb-false b a e)) }
-
 pub ltZ-true : (a b : ℤ) → ltZ a b ≡ true → a <ℤ b
 ltZ-true a b e = ltZ-yes (holds (ltZ a b) e)
 
@@ -38,7 +32,10 @@ pub leZ-true : (a b : ℤ) → leZ a b ≡ true → a ≤ℤ b
 leZ-true a b e = leZ-yes (holds (leZ a b) e)
 
 pub leZ-false : (a b : ℤ) → leZ a b ≡ false → b <ℤ a
-leZ-false a b e = nle a b e
+leZ-false (pos a) (pos b) e = record { lt = holds (ltb b a) (lt-ltb b a (leb-false a b e)) }
+leZ-false (pos a) (negsuc b) e = record { lt = tt }
+leZ-false (negsuc a) (pos b) e = absurd (fails true e)
+leZ-false (negsuc a) (negsuc b) e = record { lt = holds (ltb a b) (lt-ltb a b (leb-false b a e)) }
 
 -- a test from a fact
 not-both : (b : Bool) → (b ≡ true → ⊥) → b ≡ false
@@ -87,9 +84,3 @@ pub ruleset tests = (ltZ-true-ud, ltZ-false-ud, leZ-true-ud, leZ-false-ud, ud-lt
 -- a test `x == y` of two signed numbers is a fact of their bits
 pub ofZ-inj : {w : Width} {x y : ℤ} → SFits w x → SFits w y → ofZ w x ≡ ofZ w y → x ≡ y
 ofZ-inj {w} f g e = sym (toZ-ofZ f) ∙ ap (toZ w) e ∙ toZ-ofZ g
-
-ex1 : (x y : ℤ) → ltZ x y ≡ true → leZ y x ≡ false
-ex1 x y h = omega (arith, onℤ, tests)
-
-ex2 : (x : ℤ) → ltZ x (negsuc 5) ≡ true → x <ℤ pos 0
-ex2 x h = omega (arith, onℤ, tests)

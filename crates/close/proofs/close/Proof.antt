@@ -11,10 +11,10 @@ use Rattle.close.proofs.close.Statement.{statement}
 use Rattle.close.proofs.close.Tie as tie
 
 abbrev Inv-loop : tie.InvT-loop
-Inv-loop tri s₀ nc t marks i₀ s i = (i ≤ t) × (length s ≡ length s₀) × Ready s nc tri t × (iter (drawMarked tri t marks) i t s ≡ iter (drawMarked tri t marks) 0 t s₀)
+Inv-loop rows s₀ nc t marks i₀ s i = (i ≤ t) × (length s ≡ length s₀) × Ready s nc rows t × (iter (drawMarked rows t marks) i t s ≡ iter (drawMarked rows t marks) 0 t s₀)
 
 abbrev μ-loop : tie.MeasureT-loop
-μ-loop tri s₀ nc t marks i₀ s i = t - i
+μ-loop rows s₀ nc t marks i₀ s i = t - i
 
 draw-marked-requires : tie.Need-draw-marked-requires Inv-loop μ-loop
 draw-marked-requires c κs = (search needs, (search needs, (search needs, (search needs, search needs))))

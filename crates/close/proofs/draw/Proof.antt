@@ -9,10 +9,10 @@ use Rattle.close.proofs.draw.Statement.{statement}
 use Rattle.close.proofs.draw.Tie as tie
 
 abbrev Inv-loop : tie.InvT-loop
-Inv-loop tri s₀ nc t i j₀ s j = (j < t) × (length s ≡ length s₀) × Ready s nc tri t × (draws tri t j s ≡ draws tri t i s₀)
+Inv-loop rows s₀ nc t i j₀ s j = (j < t) × (length s ≡ length s₀) × Ready s nc rows t × (draws rows t j s ≡ draws rows t i s₀)
 
 abbrev μ-loop : tie.MeasureT-loop
-μ-loop tri s₀ nc t i j₀ s j = zeros s
+μ-loop rows s₀ nc t i j₀ s j = zeros s
 
 across-requires : tie.Need-across-requires Inv-loop μ-loop
 across-requires c κs = search (needs, ready-note)

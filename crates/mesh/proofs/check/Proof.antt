@@ -1,5 +1,5 @@
-use Rattle.mesh.specs.Check.{zeroed}
-use Rattle.mesh.specs.Check.{checked}
+use Rattle.mesh.specs.Judge.{zeroed}
+use Rattle.mesh.specs.Check.{check-call}
 use borrow.Author.Needs.{needs}
 use Rattle.mesh.proofs.check.Statement.{statement}
 use Rattle.mesh.proofs.check.Tie as tie
@@ -8,7 +8,7 @@ check-number-requires : tie.Need-check-number-requires
 check-number-requires c κs = search (needs, zeroed)
 
 returns : tie.Need-returns
-returns c = search (needs, checked)
+returns c = search (needs, check-call)
 
 pub check-spec : {M : Type 1} → statement M
 check-spec =

@@ -1,29 +1,34 @@
-use Rattle.mesh.specs.Check.{number-one, fits-sizes, fits-nodes, fits-rows, number-fault, number-ten, number-none}
+use Rattle.mesh.specs.Check.{check-early, check-ten, check-none}
 use borrow.Author.Needs.{needs}
 use Rattle.mesh.proofs.check_number.Statement.{statement}
 use Rattle.mesh.proofs.check_number.Tie as tie
 
 returns : tie.Need-returns
-returns c = search (needs, number-one)
-
-lowest-fault-requires : tie.Need-lowest-fault-requires
-lowest-fault-requires c κs = (search (needs, fits-sizes), ((search (needs, fits-nodes), search (needs, fits-rows)), search needs))
-
-returns-2 : tie.Need-returns-2
-returns-2 c = search (needs, number-fault)
+returns c = search (needs, check-early)
 
 first-clash-requires : tie.Need-first-clash-requires
-first-clash-requires c κs = (search (needs, fits-rows), c .before .before .before .before .before .lowest-fault .ensures .1 .ready (c .before .if2 .left))
+first-clash-requires c κs =
+    let judge = c .before .before .before .before .judge .ensures in
+    let a = judge .1 (c .before .if1 .left) in
+    (a .rows-fit, a .ready)
+
+returns-2 : tie.Need-returns-2
+returns-2 c =
+    let clash = c .before .before in
+    let go-on = clash .before .before in
+    let judge = go-on .before .before .before .judge .ensures in
+    check-ten _ _ _ _ _ _ (judge .0) (go-on .if1 .left) _ (judge .1 (go-on .if1 .left)) _ _ (clash .first-clash .ensures) (c .before .is-found .ensures) (c .if2 .taken)
 
 returns-3 : tie.Need-returns-3
-returns-3 c = search (needs, number-ten)
-
-returns-4 : tie.Need-returns-4
-returns-4 c = search (needs, number-none)
+returns-3 c =
+    let clash = c .before .before in
+    let go-on = clash .before .before in
+    let judge = go-on .before .before .before .judge .ensures in
+    check-none _ _ _ _ _ _ (judge .0) (go-on .if1 .left) _ (judge .1 (go-on .if1 .left)) _ _ (clash .first-clash .ensures) (c .before .is-found .ensures) (c .if2 .left)
 
 pub check-number-spec : {M : Type 1} → statement M
 check-number-spec =
     tie.close
     (tie.spec
-    (λ c κs. search needs) returns lowest-fault-requires (λ c. search needs) returns-2 first-clash-requires
-    (λ c κs. search needs) (λ c. search needs) returns-3 (λ c. search needs) returns-4)
+    (λ c. search needs) (λ c κs. search needs) (λ c. search needs) returns first-clash-requires
+    (λ c κs. search needs) (λ c. search needs) returns-2 (λ c. search needs) returns-3)

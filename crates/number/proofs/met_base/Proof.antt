@@ -1,13 +1,13 @@
-use Rattle.number.specs.NumberStep.{base-found, base-alone}
+use Rattle.number.specs.NumberStep.{met-base-found, met-base-alone}
 use borrow.Author.Needs.{needs}
 use Rattle.number.proofs.met_base.Statement.{statement}
 use Rattle.number.proofs.met_base.Tie as tie
 
 returns : tie.Need-returns
-returns c = search (needs, base-found)
+returns c = search (needs, met-base-found)
 
 returns-2 : tie.Need-returns-2
-returns-2 c = search (needs, base-alone)
+returns-2 c = search (needs, met-base-alone)
 
 pub met-base-spec : {M : Type 1} → statement M
 met-base-spec =

@@ -11,10 +11,10 @@ use Rattle.number.proofs.number.Statement.{statement}
 use Rattle.number.proofs.number.Tie as tie
 
 abbrev Inv-loop : tie.InvT-loop
-Inv-loop tri s₀ nc t k₀ i₀ s k i = (i ≤ t) × (length s ≡ length s₀) × Ready s nc tri t × (k ≤ 3 * i) × (iter (numberRow tri t) i t (numbers s k) ≡ iter (numberRow tri t) 0 t (numbers s₀ 0))
+Inv-loop rows s₀ nc t k₀ i₀ s k i = (i ≤ t) × (length s ≡ length s₀) × Ready s nc rows t × (k ≤ 3 * i) × (iter (numberRow rows t) i t (numbers s k) ≡ iter (numberRow rows t) 0 t (numbers s₀ 0))
 
 abbrev μ-loop : tie.MeasureT-loop
-μ-loop tri s₀ nc t k₀ i₀ s k i = t - i
+μ-loop rows s₀ nc t k₀ i₀ s k i = t - i
 
 number-row-requires : tie.Need-number-row-requires Inv-loop μ-loop
 number-row-requires c κs = (search needs, (search needs, (search needs, (search needs, search needs))))

@@ -1,24 +1,25 @@
 use native.Mathlib.Omega.{arith}
-use Rattle.mesh.specs.CoarsenLaw.{left-refused, left-done}
+use Rattle.mesh.specs.Coarsen.{law-at, coarsen-refused, coarsen-worked}
 use borrow.Author.Needs.{needs}
 use Rattle.mesh.proofs.coarsening.work.Statement.{statement}
 use Rattle.mesh.proofs.coarsening.work.Tie as tie
 
 returns : tie.Need-returns
-returns c = search (needs, left-refused)
+returns c = search (needs, coarsen-refused)
 
 take-out-requires : tie.Need-take-out-requires
 take-out-requires c κs =
     let refused = c .before .before .before in
     let a = refused .before .before .before .judge .ensures .1 (refused .if1 .left) in
-    (a .law, (a .sizes, ((a .nodes-fit, a .rows-fit), ((omega arith, a .few), (a .marks-fit, (a .notes, a .ready))))))
+    (law-at _ _ _ _ (a .law), (a .sizes, ((a .nodes-fit, a .rows-fit), ((omega arith, omega arith), (omega arith, (a .notes, a .ready))))))
 
 returns-2 : tie.Need-returns-2
-returns-2 c = search (needs, left-done)
+returns-2 c = search (needs, coarsen-worked)
 
 pub work-spec : {M : Type 1} → statement M
 work-spec =
     tie.close
     (tie.spec
-    (λ c κs. search needs) (λ c. search needs) (λ c. search needs) (λ c. search needs) returns
-    take-out-requires (λ c. search needs) (λ c. search needs) (λ c. search needs) returns-2)
+    (λ c κs. search needs) (λ c κs. search needs) (λ c. search needs) (λ c. search needs) (λ c. search needs)
+    returns take-out-requires (λ c κs. search needs) (λ c. search needs) (λ c. search needs)
+    (λ c. search needs) returns-2)

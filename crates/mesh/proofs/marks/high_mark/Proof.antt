@@ -1,7 +1,7 @@
-use Rattle.mesh.specs.Refine.{markHigh}
+use Rattle.mesh.specs.Marks.{markHigh}
 use borrow.Author.Needs.{needs}
-use Rattle.mesh.proofs.refining.high_mark.Statement.{statement}
-use Rattle.mesh.proofs.refining.high_mark.Tie as tie
+use Rattle.mesh.proofs.marks.high_mark.Statement.{statement}
+use Rattle.mesh.proofs.marks.high_mark.Tie as tie
 
 returns : tie.Need-returns
 unfolding markHigh

@@ -1,0 +1,164 @@
+-- What the three calls share. Each judges 1 to 7 first (`early`), then what is its own (`late`: 10, or 8 and 9, or nothing), then works;
+-- scratch is cleared before and after, and counts by its length alone. Assumes nothing.
+use mathlib.Core.Path.{_≡_, refl, sym, ap, _∙_}
+use mathlib.Core.Bool.{Bool, true, false, not}
+use mathlib.Core.List.{List}
+use Prim.Native.Nat.{ℕ, zero, suc, _*_, _/_, _≤_}
+use borrow.Author.Tests.{not-true, not-false, eqb-true}
+use lib.Dec.{eqb, leb}
+use lib.IntN.{ℤ, pos}
+use lib.ListN.{length, take, replicate, length-replicate}
+use Rattle.lists.specs.Lists.{all, cases}
+use Rattle.lists.specs.ListsLaw.{and-left}
+use Rattle.lists.specs.Search.{items}
+use Rattle.meaning.specs.declared.Answer.{Answer}
+use Rattle.meaning.specs.declared.Fault.{Fault}
+use Rattle.meaning.specs.Mesh.{Mesh, mesh}
+use Rattle.meaning.specs.Lawful.{Lawful, faultOf, refusal}
+use Rattle.meaning.specs.Tables.{Given, given, Outcome, outcome, answer, meshOf, rowAt, placeAt, flatNodes, flatRows, filled}
+use Rattle.meaning.specs.Calls.{Reply, says, unless, orElse, marksFit, sizesFit, untouched, leaves, left, sized}
+use Rattle.laws.specs.Lawful.{refusal-lawful}
+use Rattle.tables.specs.Sized.{Sized, indexAt}
+use Rattle.tables.specs.Ready.{Ready}
+use Rattle.lawful.specs.FaultLaw.{Judged}
+use Rattle.mesh.specs.Sizes.{fitting, fitting-is, Fit, fit}
+
+-- the mesh in the tables
+abbrev pub meshIn : List ℤ → List ℕ → ℕ → ℕ → Mesh
+meshIn nodes rows n t = mesh (items (placeAt nodes) 0 n) (items (rowAt rows) 0 t)
+
+-- ---- 1 to 7, where k marks are wanted
+
+unfoldable pub early : Given → ℕ → ℕ → List ℕ → ℕ
+early g n0 k marks = cases (sizesFit g n0) (unless (marksFit k marks) 2 (refusal (meshOf g))) 1
+
+-- after 0: the mesh is lawful, tables and marks fit, scratch holds notes of 0 and the index of all rows
+pub record Admitted (nodes : List ℤ) (rows scratch marks : List ℕ) (k n t : ℕ) : Type 0 where
+  pub law : Lawful (meshIn nodes rows n t)
+  pub sizes : Sized (length nodes / 2) (length rows) (length scratch)
+  pub nodes-fit : 2 * n ≤ length nodes
+  pub rows-fit : 3 * t ≤ length rows
+  pub few : length nodes / 2 ≤ 1024
+  pub marks-fit : length marks ≡ k
+  pub notes : take (indexAt (length nodes / 2) (length rows)) scratch ≡ replicate (indexAt (length nodes / 2) (length rows)) 0
+  pub ready : Ready scratch (length nodes / 2) rows t
+
+-- each test in the form in which the code has it
+module _ (nodes : List ℤ) (rows s marks : List ℕ) (k n0 n t : ℕ) (b : Bool) (e : b ≡ fitting (length nodes) (length rows) (length s) n0 n t) where
+  fits-are : sizesFit (given nodes rows s n t) n0 ≡ b
+  fits-are = sym (e ∙ fitting-is nodes rows s n0 n t)
+
+  pub early-one : not b ≡ true → 1 ≡ early (given nodes rows s n t) n0 k marks
+  unfolding early
+  early-one h = rw (fits-are, not-true b h)
+
+  module _ (h : not b ≡ false) where
+    all-fit : Fit (length nodes) (length rows) (length s) n0 n t
+    all-fit = fit (length nodes) (length rows) (length s) n0 n t (sym e ∙ not-false b h)
+
+    pub fits-sizes : Sized (length nodes / 2) (length rows) (length s)
+    fits-sizes = all-fit .sizes
+
+    pub fits-nodes : 2 * n ≤ length nodes
+    fits-nodes = all-fit .nodes
+
+    pub fits-rows : 3 * t ≤ length rows
+    fits-rows = all-fit .rows
+
+    module _ (c : Bool) (q : c ≡ marksFit k marks) where
+      early-on : early (given nodes rows s n t) n0 k marks ≡ unless c 2 (refusal (meshOf (given nodes rows s n t)))
+      unfolding early
+      early-on = rw (fits-are, not-false b h, ← q)
+
+      pub early-two : not c ≡ true → 2 ≡ early (given nodes rows s n t) n0 k marks
+      early-two y = sym (early-on ∙ rw (not-true c y))
+
+      module _ (y : not c ≡ false) (f : Fault) (d : f ≡ faultOf (meshOf (given nodes rows s n t))) where
+        refusal-is : refusal (meshOf (given nodes rows s n t)) ≡ f .number
+        unfolding refusal
+        refusal-is = rw d
+
+        pub early-fault : f .number ≡ early (given nodes rows s n t) n0 k marks
+        early-fault = sym (early-on ∙ rw (not-false c y) refusal-is)
+
+        pub admitted : (s′ : List ℕ) → length s′ ≡ length s → Judged f s′ (length nodes / 2) rows t → f .number ≡ 0 → Admitted nodes rows s′ marks k n t
+        unfolding meshOf
+        admitted s′ len j z = record {
+          law = refusal-lawful (meshOf (given nodes rows s n t)) (refusal-is ∙ z);
+          sizes = rw len fits-sizes;
+          nodes-fit = fits-nodes;
+          rows-fit = fits-rows;
+          few = all-fit .few;
+          marks-fit = eqb-true (length marks) k (and-left (eqb (length marks) k) (all (λ b. leb b 1) marks) (sym q ∙ not-false c y));
+          notes = j .notes;
+          ready = j .ready z;
+        }
+
+-- ---- the number of a call, and what it leaves
+
+-- the first of two that is not 0
+pub first-of : (j late : ℕ) → (j ≡ 0 → ⊥) → j ≡ orElse j late
+first-of zero late o = absurd (o refl)
+first-of (suc j) late o = refl
+
+module _ (g : Given) (n0 k : ℕ) (marks : List ℕ) (late : ℕ) where
+  -- 1 comes first, and then 2
+  pub number-late : cases (sizesFit g n0) (unless (marksFit k marks) 2 (orElse (refusal (meshOf g)) late)) 1 ≡ orElse (early g n0 k marks) late
+  unfolding early
+  number-late = go (sizesFit g n0) (marksFit k marks)
+    where
+      go : (b c : Bool) → cases b (unless c 2 (orElse (refusal (meshOf g)) late)) 1 ≡ orElse (cases b (unless c 2 (refusal (meshOf g))) 1) late
+      go true true = refl
+      go true false = refl
+      go false c = refl
+
+  pub leaves-late : (after : Mesh) → sized g n0 (left g (says (unless (marksFit k marks) 2 (orElse (refusal (meshOf g)) late)) (meshOf g) after 0)) ≡
+      leaves g (orElse (early g n0 k marks) late) after 0
+  leaves-late after = go (sizesFit g n0) (unless (marksFit k marks) 2 (orElse (refusal (meshOf g)) late)) ∙ ap (λ (j : ℕ). leaves g j after 0) number-late
+    where
+      go : (b : Bool) (j : ℕ) → cases b (left g (says j (meshOf g) after 0)) (untouched g 1) ≡ leaves g (cases b j 1) after 0
+      go true zero = refl
+      go true (suc j) = refl
+      go false j = refl
+
+module _ (nodes : List ℤ) (rows s : List ℕ) (n t : ℕ) (after : Mesh) (z : s ≡ replicate (length s) 0) where
+  -- refused: nothing is written
+  pub leaves-refused : (j : ℕ) (r : Answer) → (j ≡ 0 → ⊥) → r ≡ answer j n t 0 → outcome r nodes rows s ≡ leaves (given nodes rows s n t) j after 0
+  leaves-refused zero r o e = absurd (o refl)
+  leaves-refused (suc j) r o e = rw e (ap (outcome (answer (suc j) n t 0) nodes rows) z)
+
+  -- done: both tables hold the mesh after
+  pub leaves-done : (r : Answer) (a : List ℤ) (b : List ℕ) (n1 t1 : ℕ) → n1 ≡ length (after .nodes) → t1 ≡ length (after .tris) →
+      a ≡ filled (pos 0) (length nodes) (flatNodes (after .nodes)) → b ≡ filled 0 (length rows) (flatRows (after .tris)) → r ≡ answer 0 n1 t1 0 →
+      outcome r a b s ≡ leaves (given nodes rows s n t) 0 after 0
+  leaves-done r a b n1 t1 p q x y e = rw (e, x, y, p, q) (ap (outcome _ _ _) z)
+
+-- ---- scratch before the call does not matter, but for its length
+
+module _ (nodes : List ℤ) (rows s s′ : List ℕ) (n0 n t : ℕ) (e : length s′ ≡ length s) where
+  pub sized-same : (o o′ : Outcome) → o′ ≡ o → sized (given nodes rows s′ n t) n0 o′ ≡ sized (given nodes rows s n t) n0 o
+  sized-same o o′ f =
+      let fits : sizesFit (given nodes rows s′ n t) n0 ≡ sizesFit (given nodes rows s n t) n0 =
+      sym (fitting-is nodes rows s′ n0 n t) ∙ ap (λ (k : ℕ). fitting (length nodes) (length rows) k n0 n t) e ∙ fitting-is nodes rows s n0 n t in
+      rw (fits, f, e)
+
+  pub left-same : (r : Reply) → sized (given nodes rows s′ n t) n0 (left (given nodes rows s′ n t) r) ≡ sized (given nodes rows s n t) n0 (left (given nodes rows s n t) r)
+  left-same r = sized-same _ _ (go (r .number) (r .after) (r .passes))
+    where
+      go : (k : ℕ) (m : Mesh) (p : ℕ) → leaves (given nodes rows s′ n t) k m p ≡ leaves (given nodes rows s n t) k m p
+      go zero m p = rw e
+      go (suc k) m p = rw e
+
+-- scratch is s before the call, then s₁, s₂ after the work, and s₃ at the end
+module _ (s s₁ : List ℕ) (p : s₁ ≡ replicate (length s) 0) where
+  cleared-length : length s₁ ≡ length s
+  cleared-length = ap length p ∙ length-replicate (length s) 0
+
+  pub zeroed : s₁ ≡ replicate (length s₁) 0
+  zeroed = rw cleared-length p
+
+  pub call-out : (out : List ℕ → Outcome) → ((s s′ : List ℕ) → length s′ ≡ length s → out s′ ≡ out s) → (r : Answer) (a : List ℤ) (b s₂ s₃ : List ℕ) →
+      outcome r a b s₁ ≡ out s₁ → length s₂ ≡ length s₁ → s₃ ≡ replicate (length s₂) 0 → outcome r a b s₃ ≡ out s
+  call-out out same r a b s₂ s₃ q c d =
+      let f : s₃ ≡ s₁ = d ∙ ap (λ (k : ℕ). replicate k 0) (c ∙ cleared-length) ∙ sym p in
+      ap (outcome r a b) f ∙ q ∙ same s s₁ cleared-length

@@ -22,7 +22,7 @@ use Rattle.meaning.specs.Coarsen.{marked}
 use Rattle.meaning.specs.Tables.{rowAt, placeAt, flatRows, flatNodes, filled}
 use Rattle.tables.specs.Put.{setRow, setPlace}
 use Rattle.tables.specs.PutLaw.{row-set-same, row-set-other, place-set-same, place-set-other}
-use Rattle.good.specs.Meshes.{Fair}
+use Rattle.laws.specs.Meshes.{Fair}
 use Rattle.gather.specs.Goes.{Small, takeAt, fateNo, fateAt, goneNode, nextNumber, numberBelow, goneRow, fatherBy, renamedBy, newRow}
 
 -- ---- which nodes go

@@ -24,3 +24,4 @@ pub mod EdgeArrow
 pub mod TableMesh
 pub mod OneOutcome
 pub mod StillLaw
+pub mod Meshes

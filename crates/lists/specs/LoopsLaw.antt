@@ -90,22 +90,6 @@ pub ruleset noting = (noted-turn, noted-end)
 
 -- ---- kept: those below k are done, those from i on are to do, w is the whole. `a` and `a′` are the table before and after a turn
 
-from-agree : {R : Type 0} (f g : ℕ → Bool) (a b : ℕ → R) (i k : ℕ) → ((j : ℕ) → i ≤ j → j < i + k → f j ≡ g j) → ((j : ℕ) → i ≤ j → j < i + k → a j ≡ b j) →
-    keptFrom f a i k ≡ keptFrom g b i k
-unfolding keptFrom
-from-agree f g a b i zero h e = refl
-from-agree f g a b i (suc k) h e =
-    rw (
-      h i (omega arith) (omega arith),
-      e i (omega arith) (omega arith),
-      from-agree f g a b (i + 1) k (λ j l u. h j (omega arith) (omega arith)) (λ j l u. e j (omega arith) (omega arith)),
-    )
-
-pub kept-agree : {R : Type 0} (f g : ℕ → Bool) (a b : ℕ → R) (i t : ℕ) → ((j : ℕ) → i ≤ j → j < t → f j ≡ g j) → ((j : ℕ) → i ≤ j → j < t → a j ≡ b j) →
-    kept f a i t ≡ kept g b i t
-unfolding kept
-kept-agree f g a b i t h e = from-agree f g a b i (t - i) (λ j l u. h j l (omega arith)) (λ j l u. e j l (omega arith))
-
 kept-cons : {R : Type 0} (f : ℕ → Bool) (a : ℕ → R) (i t : ℕ) → i < t → kept f a i t ≡ cases (f i) (kept f a (i + 1) t) (a i ∷ kept f a (i + 1) t)
 unfolding kept keptFrom
 kept-cons f a i t h = let e : t - i ≡ suc (t - (i + 1)) = omega arith in rw e

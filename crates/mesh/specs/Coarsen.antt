@@ -10,7 +10,7 @@ use Rattle.meaning.specs.Tables.{Given, meshOf}
 use Rattle.meaning.specs.Calls.{sizesFit, coarsenNo}
 use Rattle.tables.specs.Sized.{Sized, indexAt}
 use Rattle.tables.specs.Ready.{Ready}
-use Rattle.good.specs.Meshes.{meshAt}
+use Rattle.laws.specs.Meshes.{meshAt}
 
 -- document 01's 1 to 7
 unfoldable pub coarsenNumber : Given → ℕ → List ℕ → ℕ

@@ -21,7 +21,7 @@ use Rattle.laws.specs.Lawful.{refusal-lawful}
 use Rattle.tables.specs.Sized.{Sized, indexAt}
 use Rattle.tables.specs.Ready.{Ready}
 use Rattle.lawful.specs.FaultLaw.{Judged}
-use Rattle.good.specs.Meshes.{meshAt, mesh-is, count-nodes}
+use Rattle.laws.specs.Meshes.{meshAt, mesh-is, count-nodes}
 use Rattle.gather.specs.Whole as Gather
 use Rattle.gather.specs.declared.Counts.{Counts}
 use Rattle.mesh.specs.Sizes.{fitting, fitting-is, Fit, fit}

@@ -13,7 +13,7 @@ use Rattle.meaning.specs.declared.Tri.{Tri}
 use Rattle.meaning.specs.Mesh.{tri}
 use Rattle.meaning.specs.Coarsen.{marked}
 use Rattle.meaning.specs.Tables.{rowAt}
-use Rattle.good.specs.Meshes.{Fair}
+use Rattle.laws.specs.Meshes.{Fair}
 use Rattle.gather.specs.Goes.{Small, takeAt, fateNo, fateAt, goneNode, nextNumber, numberBelow, fatherBy, renamedBy, newRow}
 
 -- ---- which nodes go

@@ -20,7 +20,7 @@ use Rattle.meaning.specs.Good.{good}
 use Rattle.meaning.specs.Coarsen.{marked, taken, fate, renumber, renamed, staying, without, coarsened}
 use Rattle.meaning.specs.Tables.{rowAt, placeAt, flatNodes, flatRows, filled}
 use Rattle.laws.specs.CoarsenRows.{brood}
-use Rattle.good.specs.Meshes.{meshAt, count-nodes, named-at}
+use Rattle.laws.specs.Meshes.{meshAt, count-nodes, row-named}
 use Rattle.good.specs.Sign.{signFrom}
 use Rattle.good.specs.Rival.{judged}
 use Rattle.good.specs.RivalLaw.{sign-few}
@@ -123,7 +123,7 @@ module _ (nodes : List ℤ) (l : List ℕ) (n0 n t nc : ℕ) (marks : List ℕ) 
         let r = r0 in
         let a : getD s₄ (2 * nc + i) 0 ≡ getD s₃ (2 * nc + i) 0 = rw e₄ (noted-above 0 (numberBelow (goneNode s₃ nc)) n s₃ (2 * nc + i) 0 (omega arith)) in
         let b : getD s₃ (2 * nc + i) 0 ≡ fateAt l s₂ nc i = rw e₃ (noted-at (2 * nc) (fateAt l s₂ nc) t s₂ i 0 h (omega arith)) in
-        a ∙ b ∙ ap (λ (x : ℕ). fateNo x (rowAt l i)) (g .pairs (rowAt l i .p) (named-at nodes l n t law i h .p-below))
+        a ∙ b ∙ ap (λ (x : ℕ). fateNo x (rowAt l i)) (g .pairs (rowAt l i .p) (row-named nodes l n t law i h .p-below))
 
     gone₃ : (z : ℕ) → z < n → goneNode s₃ nc z ≡ any (eqb z) (taken n0 (meshAt nodes l n t) marks)
     unfolding goneNode

@@ -16,7 +16,7 @@ ghost use Rattle.meaning.specs.Tables.{rowAt, placeAt, flatRows, flatNodes, fil
 ghost use Rattle.tables.specs.Sized.{Sized, indexAt};
 ghost use Rattle.tables.specs.Put.{setRow, setPlace};
 ghost use Rattle.tables.specs.Ready.{Ready};
-ghost use Rattle.good.specs.Meshes.{meshAt, Fair};
+ghost use Rattle.laws.specs.Meshes.{meshAt, Fair};
 ghost use Rattle.gather.specs.Whole.{Going, Settled, left, leftOf};
 ghost use Rattle.gather.specs.Goes.{Small, takeAt, fateNo, fateAt, goneNode, nextNumber, numberBelow, goneRow, fatherBy, renamedBy, newRow};
 use meaning::Place;

@@ -1,12 +1,5 @@
-pub mod Meshes
-pub mod Round
-pub mod RoundNeeds
-pub mod NotesLaw
-pub mod RoundLaw
-pub mod Pair
-pub mod PairLaw
 pub mod Sign
 pub mod SignLaw
 pub mod Rival
 pub mod RivalLaw
-pub mod RivalNeeds
+pub mod WalkLaw

@@ -1,37 +1,40 @@
--- A walk along the nodes with one remainder finds a rival where there is one; G5 and good by it. Assumes nothing.
-use mathlib.Core.Path.{_≡_, refl, sym, subst, ap, _∙_}
+-- A node of a lawful mesh is good exactly if it has a number that no other node has. Assumes nothing.
+use mathlib.Core.Path.{_≡_, refl, sym, ap, _∙_}
 use mathlib.Core.Logic.{_≢_}
-use mathlib.Core.Bool.{Bool, true, false, not, _&&_, _||_}
-use mathlib.Core.List.{List, [], _∷_, List·Memᴰ}
-use Prim.Native.Nat.{ℕ, zero, suc, _+_, _-_, _*_, _/_, _%_, _≤_, _<_, min, max}
+use mathlib.Core.Bool.{Bool, true, false, not, _&&_}
+use mathlib.Core.List.{List, [], _∷_}
+use Prim.Native.Nat.{ℕ, _+_, _*_, _/_, _≤_, _<_, min, max}
 use native.Mathlib.Omega.{arith}
-use native.Mathlib.Nat.{mod-lt}
-use borrow.Author.Tests.{eqb-true, eqb-false, eq-eqb, ne-eqb, leb-true, le-leb}
+use borrow.Author.Tests.{eqb-true, eqb-false, eq-eqb, leb-true, le-leb}
 use lib.Dec.{eqb, leb}
 use lib.IntN.{ℤ}
 use lib.ListN.{length, getD}
 use Rattle.lists.specs.declared.Found.{Found}
 use Rattle.lists.specs.declared.Found.the-variants.{At, Nothing}
-use Rattle.lists.specs.Lists.{cases, any, isFound, All, nil, cons}
-use Rattle.lists.specs.ListsLaw.{clash, and-both, and-left, and-right, both-ways, All-at}
+use Rattle.lists.specs.Lists.{cases, isFound, All, cons}
+use Rattle.lists.specs.ListsLaw.{clash, and-both, and-left, and-right, both-ways, All-at, count-le-length}
 use Rattle.lists.specs.PartsLaw.{not-so}
-use Rattle.lists.specs.Search.{lowest}
-use Rattle.lists.specs.SearchLaw.{lowest-below, lowest-true, lowest-some, not-found}
-use Rattle.lists.specs.Loops.{code}
-use Rattle.lists.specs.ChainLaw.{On, over, at, on-start, on-next, ahead, ahead-less, from-yes}
-use Rattle.meaning.specs.declared.Tri.{Tri}
-use Rattle.meaning.specs.Mesh.{Mesh, Edge, edge}
-use Rattle.meaning.specs.Lawful.{Lawful, Named}
-use Rattle.meaning.specs.Good.{Brothers, rowsOf, pairs, spanOf, span, G1, G2, G3, G4, G1-4, G5, good}
-use Rattle.laws.specs.Star.{Pair, Star, test-star, test-count, G5-alone, alone-G5, good-meets, good-added, good-alone, good-yes}
-use Rattle.good.specs.Sign.{pairNo, signOf, signFrom}
+use Rattle.lists.specs.Tally.{bit}
+use Rattle.lists.specs.Search.{lowest, items}
+use Rattle.lists.specs.SearchLaw.{lowest-below, lowest-true, lowest-some}
+use Rattle.lists.specs.IterLaw.{length-items}
+use Rattle.lists.specs.Loops.{noted}
+use Rattle.lists.specs.LoopsLaw.{noted-at}
+use Rattle.meaning.specs.Mesh.{Mesh, Edge, holdsNode}
+use Rattle.meaning.specs.Lawful.{Lawful}
+use Rattle.meaning.specs.Good.{Brothers, pairs, spanOf, span, G1-4, G5, good}
+use Rattle.meaning.specs.Tables.{placeAt, rowAt}
+use Rattle.laws.specs.Star.{Pair, test-star, G5-alone, alone-G5, good-meets, good-added, good-alone, good-yes}
+use Rattle.laws.specs.Meshes.{meshAt, count-nodes}
+use Rattle.good.specs.Sign.{pairNo, signOf, signFrom, fresh}
 use Rattle.good.specs.SignLaw.{pair-some, pair-le, pair-one}
-use Rattle.good.specs.Rival.{rivals, keyOf, sameKey, Signed, rivalAt}
+use Rattle.good.specs.Rival.{numbersAt, rivals, lone, tagged, Tags, judged}
+use Rattle.good.specs.WalkLaw.{tagged-agree}
 
 -- ---- the number of a node
 
 module _ (n0 : ℕ) (m : Mesh) (z : ℕ) where
-  pub sign-meets : signFrom n0 m z ≢ 0 → (n0 ≤ z) × (G1-4 m z ≡ true) × (signFrom n0 m z ≡ pairNo (span m z))
+  sign-meets : signFrom n0 m z ≢ 0 → (n0 ≤ z) × (G1-4 m z ≡ true) × (signFrom n0 m z ≡ pairNo (span m z))
   unfolding signFrom signOf
   sign-meets o = go (leb n0 z) refl (G1-4 m z) refl o
     where
@@ -46,7 +49,7 @@ module _ (n0 : ℕ) (m : Mesh) (z : ℕ) where
   meets-sign a b = rw (le-leb n0 z a, b)
 
   -- no number: not good
-  pub good-no : signFrom n0 m z ≡ 0 → false ≡ good n0 m z
+  good-no : signFrom n0 m z ≡ 0 → false ≡ good n0 m z
   good-no e = sym (not-so (good n0 m z) never)
     where
       never : good n0 m z ≡ true → ⊥
@@ -56,7 +59,7 @@ module _ (n0 : ℕ) (m : Mesh) (z : ℕ) where
           omega arith
 
   -- a number: G5 decides
-  pub good-by : (r : Bool) → signFrom n0 m z ≢ 0 → r ≡ G5 n0 m z → r ≡ good n0 m z
+  good-by : (r : Bool) → signFrom n0 m z ≢ 0 → r ≡ G5 n0 m z → r ≡ good n0 m z
   good-by r o e =
       let h = sign-meets o in
       e ∙ both-ways (G5 n0 m z) (good n0 m z) (λ g. good-yes n0 m z (h .0) (h .1) g) (λ g. good-alone n0 m z g)
@@ -90,27 +93,9 @@ module _ (n0 : ℕ) (m : Mesh) (z : ℕ) where
           bound : (d : Edge) → signFrom n0 m z ≡ pairNo d → d .lo < 32_768 → d .hi < 32_768 → signFrom n0 m z ≤ 1_073_741_824
           bound d e a b = rw e (pair-le d a b)
 
-  first-yes : G1-4 m z ≡ true → G1 m z ≡ true
-  unfolding G1-4
-  first-yes t = and-left (G1 m z) (G2 m z) (and-left (G1 m z && G2 m z) (G3 m z) (and-left (G1 m z && G2 m z && G3 m z) (G4 m z) t))
-
-  no-rows : m .tris ≡ [] → G1 m z ≡ false
-  no-rows e = rw e
-
-  -- there is a row
-  pub sign-rows : Lawful m → signFrom n0 m z ≢ 0 → 0 < length (m .tris)
-  sign-rows law o = go (m .tris) refl (sign-meets o .1)
-    where
-      go : (ts : List Tri) → m .tris ≡ ts → G1-4 m z ≡ true → 0 < length ts
-      go [] e g = clash (sym (first-yes g) ∙ no-rows e)
-      go (t ∷ ts) e g = omega arith
-
 -- ---- G5
 
 module _ (n0 : ℕ) (m : Mesh) (z : ℕ) (law : Lawful m) (few : length (m .nodes) ≤ 32_768) (o : signFrom n0 m z ≢ 0) where
-  sg : ℕ → ℕ
-  sg = signFrom n0 m
-
   mine : (n0 ≤ z) × (G1-4 m z ≡ true) × (signFrom n0 m z ≡ pairNo (span m z))
   mine = sign-meets n0 m z o
 
@@ -142,92 +127,39 @@ module _ (n0 : ℕ) (m : Mesh) (z : ℕ) (law : Lawful m) (few : length (m .node
               let f = lowest-some (rivals (signFrom n0 m) z) (length (m .nodes)) y l (and-both (eq-eqb (signFrom n0 m y) (signFrom n0 m z) q) (ap not w)) in
               clash (sym e ∙ ap not f)
 
-  pub G5-is : (n : ℕ) (r : Bool) → length (m .nodes) ≡ n → r ≡ isFound (lowest (rivals (signFrom n0 m) z) 0 n) → not r ≡ G5 n0 m z
-  G5-is n r k e =
-      let e′ : r ≡ isFound (lowest (rivals (signFrom n0 m) z) 0 (length (m .nodes))) = rw k e in
-      rw e′ (both-ways _ (G5 n0 m z) back there)
+  G5-is : not (isFound (lowest (rivals (signFrom n0 m) z) 0 (length (m .nodes)))) ≡ G5 n0 m z
+  G5-is = both-ways _ (G5 n0 m z) back there
 
--- ---- the walk
+-- ---- good
 
-same-key : (t : ℕ) (sg : ℕ → ℕ) (z y : ℕ) → rivals sg z y ≡ true → sameKey t sg z y ≡ true
-same-key t sg z y e =
-    let q = eqb-true (sg y) (sg z) (and-left (eqb (sg y) (sg z)) (not (eqb y z)) e) in
-    eq-eqb (keyOf t (sg y)) (keyOf t (sg z)) (ap (keyOf t) q)
+-- A NODE IS GOOD EXACTLY IF IT HAS A NUMBER THAT NO OTHER NODE HAS
+lone-good : (n0 : ℕ) (m : Mesh) (z : ℕ) → Lawful m → length (m .nodes) ≤ 32_768 → lone (signFrom n0 m) (length (m .nodes)) z ≡ good n0 m z
+lone-good n0 m z law few = go (eqb (signFrom n0 m z) 0) refl
+  where
+    go : (b : Bool) → eqb (signFrom n0 m z) 0 ≡ b → not b && not (isFound (lowest (rivals (signFrom n0 m) z) 0 (length (m .nodes)))) ≡ good n0 m z
+    go true e = good-no n0 m z (eqb-true (signFrom n0 m z) 0 e)
+    go false e = let o = eqb-false (signFrom n0 m z) 0 e in good-by n0 m z _ o (G5-is n0 m z law few o)
 
--- the walk for a rival of z
-abbrev pub Walk : ℕ → Mesh → ℕ → ℕ → ℕ → ℕ → Type 0
-Walk n0 m n t z k = On (rivals (signFrom n0 m) z) (sameKey t (signFrom n0 m) z) n k
+module _ (nodes : List ℤ) (rows : List ℕ) (n0 n t : ℕ) (law : Lawful (meshAt nodes rows n t)) where
+  -- where there is a node there is a row
+  pub some-row : 0 < n → 0 < t
+  unfolding meshAt
+  some-row h =
+      let m = meshAt nodes rows n t in
+      let a = law .used 0 (rw (length-items (placeAt nodes) n) h) in
+      let b = count-le-length (holdsNode 0) (items (rowAt rows) 0 t) in
+      let c = length-items (rowAt rows) t in
+      omega arith
 
-module _ (s : List ℕ) (nc n0 : ℕ) (m : Mesh) (n t z : ℕ) (d : Signed s nc n0 m n t) (l : z < n) (os : signFrom n0 m z ≡ 0 → ⊥) (some : 0 < t) where
-  key-is : keyOf t (signFrom n0 m z) ≡ signFrom n0 m z % t
-  key-is = rw (ne-eqb (signFrom n0 m z) 0 os)
-
-  key-in : keyOf t (signFrom n0 m z) < t
-  key-in = rw key-is (mod-lt (signFrom n0 m z) some)
-
-  pub walk-in : (v b : ℕ) → b ≡ v / 2 % t → 2 * nc + b < length s
-  walk-in v b e = let q = mod-lt (v / 2) some in let u = d .long in omega arith
-
-  pub walk-start : (v b k : ℕ) → v ≡ getD s (nc + z) 0 → b ≡ v / 2 % t → k ≡ getD s (2 * nc + b) 0 → Walk n0 m n t z k
-  walk-start v b k e f g =
-      let p : v / 2 ≡ signFrom n0 m z = rw e (d .signs z l) in
-      let q : b ≡ keyOf t (signFrom n0 m z) = f ∙ ap (λ (x : ℕ). x % t) p ∙ sym key-is in
-      let w : k ≡ code (lowest (sameKey t (signFrom n0 m) z) 0 n) = g ∙ rw q (d .chain .heads (keyOf t (signFrom n0 m z)) key-in) in
-      rw w (on-start (rivals (signFrom n0 m) z) (sameKey t (signFrom n0 m) z) n (same-key t (signFrom n0 m) z))
-
-  rival-is : (y : ℕ) → y < n → rivalAt s nc z y ≡ rivals (signFrom n0 m) z y
-  unfolding rivalAt
-  rival-is y h = rw (d .signs y h, d .signs z l)
-
-  pub walk-below : (k : ℕ) → (k ≡ 0 → ⊥) → Walk n0 m n t z k → k - 1 < n
-  walk-below k o (over e) = absurd (o refl)
-  walk-below k o (at j h e f) = omega arith
-
-  pub walk-note : (k y : ℕ) → (k ≡ 0 → ⊥) → y ≡ k - 1 → Walk n0 m n t z k → nc + y < length s
-  walk-note k y o e w = let a = walk-below k o w in let b = d .room in let u = d .long in omega arith
-
-  pub walk-next : (k y : ℕ) → (k ≡ 0 → ⊥) → y ≡ k - 1 → Walk n0 m n t z k → y < length s
-  walk-next k y o e w = let a = walk-below k o w in let b = d .room in let u = d .long in omega arith
-
-  hit : (k : ℕ) (r : Bool) → (k ≡ 0 → ⊥) → Walk n0 m n t z k → r ≡ rivalAt s nc z (k - 1) → r ≡ true → true ≡ isFound (lowest (rivals (signFrom n0 m) z) 0 n)
-  hit k r o (over x) e y = absurd (o refl)
-  hit k r o (at j h x f) e y =
-      let q : j + 1 - 1 ≡ j = omega arith in
-      let p : rivals (signFrom n0 m) z j ≡ true = sym (rival-is j h) ∙ (rw q at (sym e)) ∙ y in
-      sym (lowest-some (rivals (signFrom n0 m) z) n j h p)
-
-  step : (k k′ : ℕ) (r : Bool) → (k ≡ 0 → ⊥) → Walk n0 m n t z k → r ≡ rivalAt s nc z (k - 1) → r ≡ false → k′ ≡ getD s (k - 1) 0 →
-      (Walk n0 m n t z k′) × (ahead n k′ < ahead n k)
-  step k k′ r o (over x) e y g = absurd (o refl)
-  step k k′ r o (at j h x f) e y g =
-      let q : j + 1 - 1 ≡ j = omega arith in
-      let q0 : 0 + j ≡ j = omega arith in
-      let qs : j + 1 ≡ suc j = omega arith in
-      let p : rivals (signFrom n0 m) z j ≡ false = sym (rival-is j h) ∙ (rw q at (sym e)) ∙ y in
-      let same : keyOf t (signFrom n0 m j) ≡ keyOf t (signFrom n0 m z) = eqb-true (keyOf t (signFrom n0 m j)) (keyOf t (signFrom n0 m z)) x in
-      let w : k′ ≡ code (lowest (sameKey t (signFrom n0 m) z) (j + 1) n) =
-      (rw q at g) ∙ (rw (q0, same) at (d .chain .nexts j (omega arith) h (rw same key-in))) in (
-        rw w (on-next (rivals (signFrom n0 m) z) (sameKey t (signFrom n0 m) z) n (same-key t (signFrom n0 m) z) j h f p),
-        rw w (less j k′ w h),
-      )
+  -- the numbers noted by s₁, tagged by s₂
+  pub all-judged : (s s₁ s₂ : List ℕ) (nc : ℕ) → s₁ ≡ noted nc (fresh n0 (meshAt nodes rows n t)) n s →
+      Tags s₁ s₂ nc n → n ≤ 32_768 → nc + n ≤ length s → (z : ℕ) → z < n → getD s₂ (nc + z) 0 ≡ judged n0 (meshAt nodes rows n t) z
+  unfolding tagged
+  all-judged s s₁ s₂ nc e f few room z h =
+      f .each z h ∙ tagged-agree (numbersAt s₁ nc) (signFrom n0 (meshAt nodes rows n t)) n z h number
+      ∙ ap (λ (b : Bool). 2 * signFrom n0 (meshAt nodes rows n t) z + bit b) (rw (count-nodes nodes rows n t) at (lone-good n0 (meshAt nodes rows n t) z law (rw (count-nodes nodes rows n t) few)))
     where
-      less : (j k′ : ℕ) → k′ ≡ code (lowest (sameKey t (signFrom n0 m) z) (j + 1) n) → j < n → ahead n (code (lowest (sameKey t (signFrom n0 m) z) (j + 1) n)) < ahead n (j + 1)
-      less j k′ w h = let qs : j + 1 ≡ suc j = omega arith in rw-end (ahead-less (sameKey t (signFrom n0 m) z) n j h) qs
-        where
-          rw-end : ahead n (code (lowest (sameKey t (signFrom n0 m) z) (j + 1) n)) < n - j → j + 1 ≡ suc j →
-              ahead n (code (lowest (sameKey t (signFrom n0 m) z) (j + 1) n)) < ahead n (j + 1)
-          rw-end a q = subst (λ (x : ℕ). ahead n (code (lowest (sameKey t (signFrom n0 m) z) (j + 1) n)) < ahead n x) (sym q) a
-
-  module _ (k y : ℕ) (r : Bool) (o : k ≡ 0 → ⊥) (q : y ≡ k - 1) (w : Walk n0 m n t z k) (e : r ≡ rivalAt s nc z y) where
-    pub walk-hit : r ≡ true → true ≡ isFound (lowest (rivals (signFrom n0 m) z) 0 n)
-    walk-hit x = hit k r o w (rw q at e) x
-
-    pub walk-on : (k′ : ℕ) → r ≡ false → k′ ≡ getD s y 0 → Walk n0 m n t z k′
-    walk-on k′ x g = step k k′ r o w (rw q at e) x (rw q at g) .0
-
-    pub walk-less : (k′ : ℕ) → r ≡ false → k′ ≡ getD s y 0 → ahead n k′ < ahead n k
-    walk-less k′ x g = step k k′ r o w (rw q at e) x (rw q at g) .1
-
-  pub walk-over : (k : ℕ) → k ≡ 0 → Walk n0 m n t z k → false ≡ isFound (lowest (rivals (signFrom n0 m) z) 0 n)
-  walk-over k e (over x) = sym (ap isFound x)
-  walk-over k e (at j h x f) = absurd (omega arith)
+      number : (y : ℕ) → y < n → numbersAt s₁ nc y ≡ signFrom n0 (meshAt nodes rows n t) y
+      number y l =
+          let q : getD s₁ (nc + y) 0 ≡ fresh n0 (meshAt nodes rows n t) y = rw e (noted-at nc (fresh n0 (meshAt nodes rows n t)) n s y 0 l room) in
+          omega arith

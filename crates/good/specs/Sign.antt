@@ -20,3 +20,7 @@ signOf m z = cases (G1-4 m z) (pairNo (span m z)) 0
 -- 0 for the base nodes
 unfoldable pub signFrom : ℕ → Mesh → ℕ → ℕ
 signFrom n0 m z = cases (leb n0 z) (signOf m z) 0
+
+-- as it is noted
+abbrev pub fresh : ℕ → Mesh → ℕ → ℕ
+fresh n0 m z = 2 * signFrom n0 m z

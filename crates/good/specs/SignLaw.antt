@@ -8,12 +8,14 @@ use native.Mathlib.Omega.{arith}
 use borrow.Author.Tests.{not-true, not-false, lt-leb, le-leb, eqb-true, eq-eqb, ne-eqb}
 use lib.Dec.{eqb, leb}
 use lib.IntN.{ℤ}
-use lib.ListN.{length, getD}
+use lib.ListN.{set}
 use Rattle.lists.specs.declared.Found.{Found}
 use Rattle.lists.specs.Lists.{cases, any, isFound}
 use Rattle.lists.specs.ListsLaw.{clash, and-left, and-right}
 use Rattle.lists.specs.Search.{lowest, items}
 use Rattle.lists.specs.SearchLaw.{lowest-any}
+use Rattle.lists.specs.Loops.{noted}
+use Rattle.lists.specs.LoopsLaw.{noted-turn}
 use Rattle.meaning.specs.declared.Place.{Place}
 use Rattle.meaning.specs.declared.Tri.{Tri}
 use Rattle.meaning.specs.Mesh.{Mesh, Edge, edge, arrow, holdsArrow, holdsEdge, at}
@@ -21,29 +23,27 @@ use Rattle.meaning.specs.Good.{Brothers, isMiddle, pairs, spanOf, span, G1, G2,
 use Rattle.meaning.specs.Tables.{placeAt, rowAt}
 use Rattle.laws.specs.EdgeArrow.{edge-arrows}
 use Rattle.tables.specs.Arrow.{arrowAt}
-use Rattle.good.specs.declared.Ends.{Ends}
-use Rattle.good.specs.Meshes.{meshAt, rowsAlone, Fair, at-is}
-use Rattle.good.specs.Round.{Around}
-use Rattle.good.specs.PairLaw.{span-below}
-use Rattle.good.specs.Pair.{edgeOf}
-use Rattle.good.specs.Sign.{pairNo, signOn, signOf, signFrom}
+use Rattle.round.specs.declared.Ends.{Ends}
+use Rattle.laws.specs.Meshes.{meshAt, rowsAlone, place-is}
+use Rattle.round.specs.Pair.{edgeOf}
+use Rattle.good.specs.Sign.{pairNo, signOn, signOf, signFrom, fresh}
 
 -- ---- G1, G2 and the pair ask for no place
 
-module _ (nodes : List ℤ) (tri : List ℕ) (n t z : ℕ) where
-  pub first-same : G1 (meshAt nodes tri n t) z ≡ G1 (rowsAlone tri t) z
+module _ (nodes : List ℤ) (rows : List ℕ) (n t z : ℕ) where
+  first-same : G1 (meshAt nodes rows n t) z ≡ G1 (rowsAlone rows t) z
   unfolding meshAt
   first-same = refl
 
-  pub second-same : G2 (meshAt nodes tri n t) z ≡ G2 (rowsAlone tri t) z
+  second-same : G2 (meshAt nodes rows n t) z ≡ G2 (rowsAlone rows t) z
   unfolding meshAt pairs
   second-same = refl
 
-  pub span-same : span (meshAt nodes tri n t) z ≡ span (rowsAlone tri t) z
+  span-same : span (meshAt nodes rows n t) z ≡ span (rowsAlone rows t) z
   unfolding meshAt pairs span
   span-same = refl
 
-  pub fourth-same : G4 (meshAt nodes tri n t) z ≡ G4 (rowsAlone tri t) z
+  fourth-same : G4 (meshAt nodes rows n t) z ≡ G4 (rowsAlone rows t) z
   unfolding meshAt
   fourth-same = rw span-same
 
@@ -89,15 +89,15 @@ held-either l t z e f g a b k p q r u =
 
 -- ---- G3
 
-pub middle-is : (nodes : List ℤ) (tri : List ℕ) (n t z : ℕ) (e : Ends) (a b c : Place) (r : Bool) → edgeOf e ≡ span (rowsAlone tri t) z → z < n → e .lo < n → e .hi < n →
-    a ≡ placeAt nodes z → b ≡ placeAt nodes (e .lo) → c ≡ placeAt nodes (e .hi) → r ≡ isMiddle a b c → r ≡ G3 (meshAt nodes tri n t) z
-middle-is nodes tri n t z e a b c r k zn ln hn p q u v =
-    let s : span (meshAt nodes tri n t) z ≡ edgeOf e = span-same nodes tri n t z ∙ sym k in
-    v ∙ rw (p, q, u) (sym (rw (s, at-is nodes tri n t z zn, at-is nodes tri n t (e .lo) ln, at-is nodes tri n t (e .hi) hn)))
+pub G3-is : (nodes : List ℤ) (rows : List ℕ) (n t z : ℕ) (e : Ends) (a b c : Place) (r : Bool) → edgeOf e ≡ span (rowsAlone rows t) z → z < n → e .lo < n → e .hi < n →
+    a ≡ placeAt nodes z → b ≡ placeAt nodes (e .lo) → c ≡ placeAt nodes (e .hi) → r ≡ isMiddle a b c → r ≡ G3 (meshAt nodes rows n t) z
+G3-is nodes rows n t z e a b c r k zn ln hn p q u v =
+    let s : span (meshAt nodes rows n t) z ≡ edgeOf e = span-same nodes rows n t z ∙ sym k in
+    v ∙ rw (p, q, u) (sym (rw (s, place-is nodes rows n t z zn, place-is nodes rows n t (e .lo) ln, place-is nodes rows n t (e .hi) hn)))
 
 -- ---- all
 
-module _ (nodes : List ℤ) (tri : List ℕ) (n t z : ℕ) where
+module _ (nodes : List ℤ) (rows : List ℕ) (n t z : ℕ) where
   four : (a b c d : Bool) → a ≡ false → a && b && c && d ≡ false
   four a b c d e = rw e
 
@@ -105,46 +105,36 @@ module _ (nodes : List ℤ) (tri : List ℕ) (n t z : ℕ) where
   four2 true b c d e = rw e
   four2 false b c d e = refl
 
-  pub sign-not-1 : (b : Bool) → b ≡ G1 (rowsAlone tri t) z → not b ≡ true → 0 ≡ signOf (meshAt nodes tri n t) z
+  pub sign-not-1 : (b : Bool) → b ≡ G1 (rowsAlone rows t) z → not b ≡ true → 0 ≡ signOf (meshAt nodes rows n t) z
   unfolding signOf G1-4
   sign-not-1 b e h =
-      rw (four (G1 (meshAt nodes tri n t) z) (G2 (meshAt nodes tri n t) z) (G3 (meshAt nodes tri n t) z) (G4 (meshAt nodes tri n t) z) (first-same nodes tri n t z ∙ sym e ∙ not-true b h))
+      rw (four (G1 (meshAt nodes rows n t) z) (G2 (meshAt nodes rows n t) z) (G3 (meshAt nodes rows n t) z) (G4 (meshAt nodes rows n t) z) (first-same nodes rows n t z ∙ sym e ∙ not-true b h))
 
-  pub sign-not-2 : (b : Bool) → b ≡ G2 (rowsAlone tri t) z → not b ≡ true → 0 ≡ signOf (meshAt nodes tri n t) z
+  pub sign-not-2 : (b : Bool) → b ≡ G2 (rowsAlone rows t) z → not b ≡ true → 0 ≡ signOf (meshAt nodes rows n t) z
   unfolding signOf G1-4
   sign-not-2 b e h =
-      rw (four2 (G1 (meshAt nodes tri n t) z) (G2 (meshAt nodes tri n t) z) (G3 (meshAt nodes tri n t) z) (G4 (meshAt nodes tri n t) z) (second-same nodes tri n t z ∙ sym e ∙ not-true b h))
+      rw (four2 (G1 (meshAt nodes rows n t) z) (G2 (meshAt nodes rows n t) z) (G3 (meshAt nodes rows n t) z) (G4 (meshAt nodes rows n t) z) (second-same nodes rows n t z ∙ sym e ∙ not-true b h))
 
-  module _ (a b : Bool) (ga : a ≡ G1 (rowsAlone tri t) z) (ha : not a ≡ false) (gb : b ≡ G2 (rowsAlone tri t) z) (hb : not b ≡ false) where
-    first-yes : G1 (rowsAlone tri t) z ≡ true
+  module _ (a b : Bool) (ga : a ≡ G1 (rowsAlone rows t) z) (ha : not a ≡ false) (gb : b ≡ G2 (rowsAlone rows t) z) (hb : not b ≡ false) where
+    first-yes : G1 (rowsAlone rows t) z ≡ true
     first-yes = sym ga ∙ not-false a ha
 
-    second-yes : G2 (rowsAlone tri t) z ≡ true
+    second-yes : G2 (rowsAlone rows t) z ≡ true
     second-yes = sym gb ∙ not-false b hb
 
-    module _ (s : List ℕ) (nc : ℕ) (f : Fair tri n t) (r : Around s nc tri t z) (e : Ends) (ge : edgeOf e ≡ span (rowsAlone tri t) z) where
-      in-span : (span (rowsAlone tri t) z .lo < n) × (span (rowsAlone tri t) z .hi < n)
-      in-span = span-below tri n t z f s nc r first-yes second-yes
-
-      pub lo-in : e .lo < n
-      lo-in = rw (ap (λ (d : Edge). d .lo) ge) (in-span .0)
-
-      pub hi-in : e .hi < n
-      hi-in = rw (ap (λ (d : Edge). d .hi) ge) (in-span .1)
-
-    pub sign-all : (r : ℕ) → r ≡ signOn (meshAt nodes tri n t) z → r ≡ signOf (meshAt nodes tri n t) z
+    pub sign-all : (r : ℕ) → r ≡ signOn (meshAt nodes rows n t) z → r ≡ signOf (meshAt nodes rows n t) z
     unfolding signOn signOf G1-4
-    sign-all r g = g ∙ rw (first-same nodes tri n t z, first-yes, second-same nodes tri n t z, second-yes)
+    sign-all r g = g ∙ rw (first-same nodes rows n t z, first-yes, second-same nodes rows n t z, second-yes)
 
-  module _ (e : Ends) (ge : edgeOf e ≡ span (rowsAlone tri t) z) (c d : Bool) (gc : c ≡ G3 (meshAt nodes tri n t) z) (gd : d ≡ G4 (rowsAlone tri t) z) where
-    both-same : G3 (meshAt nodes tri n t) z && G4 (meshAt nodes tri n t) z ≡ c && d
-    both-same = rw (← gc, fourth-same nodes tri n t z, ← gd)
+  module _ (e : Ends) (ge : edgeOf e ≡ span (rowsAlone rows t) z) (c d : Bool) (gc : c ≡ G3 (meshAt nodes rows n t) z) (gd : d ≡ G4 (rowsAlone rows t) z) where
+    both-same : G3 (meshAt nodes rows n t) z && G4 (meshAt nodes rows n t) z ≡ c && d
+    both-same = rw (← gc, fourth-same nodes rows n t z, ← gd)
 
-    pub sign-yes : (r : ℕ) → c && d ≡ true → r ≡ pairNo (edgeOf e) → r ≡ signOn (meshAt nodes tri n t) z
+    pub sign-yes : (r : ℕ) → c && d ≡ true → r ≡ pairNo (edgeOf e) → r ≡ signOn (meshAt nodes rows n t) z
     unfolding signOn
-    sign-yes r h g = g ∙ rw (both-same, h, span-same nodes tri n t z, ← ge)
+    sign-yes r h g = g ∙ rw (both-same, h, span-same nodes rows n t z, ← ge)
 
-    pub sign-no : c && d ≡ false → 0 ≡ signOn (meshAt nodes tri n t) z
+    pub sign-no : c && d ≡ false → 0 ≡ signOn (meshAt nodes rows n t) z
     unfolding signOn
     sign-no h = rw (both-same, h)
 
@@ -161,10 +151,6 @@ sign-added n0 z r m h e = rw (le-leb n0 z h) e
 
 -- ---- the number of a pair says the pair
 
-pub pair-made : (e : Ends) (r : ℕ) → r ≡ e .lo * 32_768 + e .hi + 1 → r ≡ pairNo (edgeOf e)
-unfolding pairNo
-pair-made e r g = g
-
 pub pair-some : (e : Edge) → 0 < pairNo e
 unfolding pairNo
 pair-some e = omega arith
@@ -179,3 +165,8 @@ pair-one d e h k q =
     let a : d .lo ≡ e .lo = omega arith in
     let b : d .hi ≡ e .hi = omega arith in
     λ i. record { lo = a i; hi = b i }
+
+-- ---- noted
+
+pub sign-put : (n0 v o z : ℕ) (m : Mesh) (s₀ s s′ : List ℕ) → s ≡ noted o (fresh n0 m) z s₀ → v ≡ signFrom n0 m z → s′ ≡ set s (o + z) (2 * v) → s′ ≡ noted o (fresh n0 m) (z + 1) s₀
+sign-put n0 v o z m s₀ s s′ e f g = noted-turn o (fresh n0 m) z s₀ s s′ e (g ∙ ap (λ (x : ℕ). set s (o + z) (2 * x)) f)

@@ -46,7 +46,7 @@ blankAt s z = eqb (getD s z 0) 0
 
 -- 10: u holds r→q of w, and not as its own q→r
 unfoldable pub clashWith : Tri → Tri → Bool
-clashWith w u = not (eqb (u .q) (w .r) && eqb (u .r) (w .q))
+clashWith w u = not (eqb (w .r) (u .q) && eqb (w .q) (u .r))
 
 abbrev pub clashFound : List ℕ → Tri → Found → Bool
 clashFound l w (At j) = clashWith w (rowAt l j)

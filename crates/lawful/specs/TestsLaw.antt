@@ -4,63 +4,40 @@ use mathlib.Core.Bool.{Bool, false}
 use mathlib.Core.List.{List}
 use Prim.Native.Nat.{ℕ, _+_, _*_, _≤_, _<_}
 use native.Mathlib.Omega.{arith}
-use borrow.Author.Tests.{leb-false, leb-true, eqb-false, not-false}
-use lib.Dec.{leb, eqb}
-use lib.IntN.{ℤ, natAbs}
+use lib.IntN.{ℤ}
 use lib.ListN.{length, take, set, length-set}
 use Rattle.lists.specs.declared.Found.{Found}
 use Rattle.lists.specs.declared.Found.the-variants.{At, Nothing}
-use Rattle.lists.specs.ListsLaw.{or-no}
 use Rattle.lists.specs.Search.{lowest}
 use Rattle.lists.specs.SearchLaw.{lowest-nothing, lowest-below}
 use Rattle.meaning.specs.declared.Place.{Place}
 use Rattle.meaning.specs.declared.Tri.{Tri}
-use Rattle.meaning.specs.Lawful.{InRange, Named, far, misnamed}
+use Rattle.meaning.specs.Lawful.{InRange, Named}
 use Rattle.meaning.specs.Tables.{placeAt, rowAt}
+use Rattle.laws.specs.Lawful.{in-range, named-yes}
 use Rattle.tables.specs.Arrow.{arrowAt}
 use Rattle.tables.specs.Sized.{Corners}
 use Rattle.lawful.specs.Tests.{outsideAt, misnamedAt, markStep, clashWith, clashAt}
 
 -- ---- 4 said no: three nodes below n, all different
 
-pub named-tri : (w : Tri) (n : ℕ) → misnamed n w ≡ false → Named n w
-named-tri w n e =
-    let a = or-no _ (eqb (w .r) (w .p)) e in
-    let b = or-no _ (eqb (w .q) (w .r)) (a .0) in
-    let c = or-no _ (eqb (w .p) (w .q)) (b .0) in
-    let d = or-no _ (leb n (w .r)) (c .0) in
-    let f = or-no (leb n (w .p)) (leb n (w .q)) (d .0) in
-    record {
-      p-below = leb-false n (w .p) (f .0);
-      q-below = leb-false n (w .q) (f .1);
-      r-below = leb-false n (w .r) (d .1);
-      p≢q = eqb-false (w .p) (w .q) (c .1);
-      q≢r = eqb-false (w .q) (w .r) (b .1);
-      r≢p = eqb-false (w .r) (w .p) (a .1);
-    }
-
-named-row : (w : Tri) (l : List ℕ) (n i : ℕ) → w ≡ rowAt l i → misnamedAt l n i ≡ false → Named n w
+pub named-row : (w : Tri) (l : List ℕ) (n i : ℕ) → w ≡ rowAt l i → misnamedAt l n i ≡ false → Named n w
 unfolding misnamedAt
-named-row w l n i e h = named-tri w n (rw e h)
+named-row w l n i e h = named-yes n w (rw e h)
 
-pub named-at : (l : List ℕ) (n t i : ℕ) → lowest (misnamedAt l n) 0 t ≡ Nothing → i < t → misnamedAt l n i ≡ false
-named-at l n t i e h = lowest-nothing (misnamedAt l n) t i e h
+pub not-misnamed : (l : List ℕ) (n t i : ℕ) → lowest (misnamedAt l n) 0 t ≡ Nothing → i < t → misnamedAt l n i ≡ false
+not-misnamed l n t i e h = lowest-nothing (misnamedAt l n) t i e h
 
 pub corners-at : (l : List ℕ) (nc n t i : ℕ) → n ≤ nc → lowest (misnamedAt l n) 0 t ≡ Nothing → i < t → Corners nc (rowAt l i)
 corners-at l nc n t i b e h =
-    let k = named-row (rowAt l i) l n i refl (named-at l n t i e h) in
+    let k = named-row (rowAt l i) l n i refl (not-misnamed l n t i e h) in
     record { p-in = omega arith; q-in = omega arith; r-in = omega arith }
 
 -- ---- 3 said no
 
-near : (x : ℤ) → far x ≡ false → natAbs x ≤ 1_048_576
-near x e = leb-true (natAbs x) 1_048_576 (not-false (leb (natAbs x) 1_048_576) e)
-
-pub in-range : (nodes : List ℤ) (n k : ℕ) → lowest (outsideAt nodes) 0 n ≡ Nothing → k < n → InRange (placeAt nodes k)
+place-near : (nodes : List ℤ) (n k : ℕ) → lowest (outsideAt nodes) 0 n ≡ Nothing → k < n → InRange (placeAt nodes k)
 unfolding outsideAt
-in-range nodes n k e h =
-    let a = or-no (far (placeAt nodes k .x)) (far (placeAt nodes k .y)) (lowest-nothing (outsideAt nodes) n k e h) in
-    record { x-near = near (placeAt nodes k .x) (a .0); y-near = near (placeAt nodes k .y) (a .1) }
+place-near nodes n k e h = in-range (placeAt nodes k) (lowest-nothing (outsideAt nodes) n k e h)
 
 -- ---- a corner of row i can be read, is in range, and can be marked
 
@@ -76,13 +53,13 @@ module _ (w : Tri) (l : List ℕ) (n i : ℕ) (e : w ≡ rowAt l i) (h : misname
 
   module _ (nodes : List ℤ) (a : Place) (f : lowest (outsideAt nodes) 0 n ≡ Nothing) where
     pub range-p : a ≡ placeAt nodes (w .p) → InRange a
-    range-p g = rw g (in-range nodes n (w .p) f (named-row w l n i e h .p-below))
+    range-p g = rw g (place-near nodes n (w .p) f (named-row w l n i e h .p-below))
 
     pub range-q : a ≡ placeAt nodes (w .q) → InRange a
-    range-q g = rw g (in-range nodes n (w .q) f (named-row w l n i e h .q-below))
+    range-q g = rw g (place-near nodes n (w .q) f (named-row w l n i e h .q-below))
 
     pub range-r : a ≡ placeAt nodes (w .r) → InRange a
-    range-r g = rw g (in-range nodes n (w .r) f (named-row w l n i e h .r-below))
+    range-r g = rw g (place-near nodes n (w .r) f (named-row w l n i e h .r-below))
 
   pub mark-p : (s : List ℕ) → n ≤ length s → w .p < length s
   mark-p s b = omega (arith, named-row w l n i e h)
@@ -108,8 +85,8 @@ notes-kept k s₀ s s′ e f = e ∙ f
 
 -- ---- 10: a row that was found
 
-pub found-row : (f : ℕ → Bool) (r : Found) (t j len : ℕ) → r ≡ lowest f 0 t → r ≡ At j → 3 * t ≤ len → 3 * j + 3 ≤ len
-found-row f r t j len e g h = let b = lowest-below f t j (sym e ∙ g) in omega arith
+pub met-row : (f : ℕ → Bool) (r : Found) (t j len : ℕ) → r ≡ lowest f 0 t → r ≡ At j → 3 * t ≤ len → 3 * j + 3 ≤ len
+met-row f r t j len e g h = let b = lowest-below f t j (sym e ∙ g) in omega arith
 
 module _ (l : List ℕ) (w : Tri) (f : Found) (t i : ℕ) (a : w ≡ rowAt l i) (b : f ≡ lowest (arrowAt l (w .r) (w .q)) 0 t) where
   pub clash-found : (u : Tri) (j : ℕ) (r : Bool) → f ≡ At j → u ≡ rowAt l j → r ≡ clashWith w u → r ≡ clashAt l t i

@@ -25,7 +25,7 @@ fn outside_at(nodes: &[i32], k: usize) -> bool
     plane::outside(tables::place_at(nodes, k))
 }
 
-pub fn first_outside(nodes: &[i32], n: usize) -> Found
+fn first_outside(nodes: &[i32], n: usize) -> Found
     requires { ⌜ 2 * n ≤ length (now nodes) ⌝ }
     ensures { λ r. ⌜ r ≡ lowest (outsideAt (now (nodes .entry))) 0 n ⌝ }
 {
@@ -53,20 +53,20 @@ fn misnamed(w: Tri, n: usize) -> bool
     past(w.p, n) | past(w.q, n) | past(w.r, n) | (w.p == w.q) | (w.q == w.r) | (w.r == w.p)
 }
 
-fn misnamed_at(tri: &[u32], n: usize, i: usize) -> bool
-    requires { ⌜ 3 * i + 3 ≤ length (now tri) ⌝ }
-    ensures { λ r. ⌜ r ≡ misnamedAt (now (tri .entry)) n i ⌝ }
+fn misnamed_at(rows: &[u32], n: usize, i: usize) -> bool
+    requires { ⌜ 3 * i + 3 ≤ length (now rows) ⌝ }
+    ensures { λ r. ⌜ r ≡ misnamedAt (now (rows .entry)) n i ⌝ }
 {
-    misnamed(tables::row_at(tri, i), n)
+    misnamed(tables::row_at(rows, i), n)
 }
 
-pub fn first_misnamed(tri: &[u32], n: usize, t: usize) -> Found
-    requires { ⌜ 3 * t ≤ length (now tri) ⌝ }
-    ensures { λ r. ⌜ r ≡ lowest (misnamedAt (now (tri .entry)) n) 0 t ⌝ }
+fn first_misnamed(rows: &[u32], n: usize, t: usize) -> Found
+    requires { ⌜ 3 * t ≤ length (now rows) ⌝ }
+    ensures { λ r. ⌜ r ≡ lowest (misnamedAt (now (rows .entry)) n) 0 t ⌝ }
 {
     let mut i = 0;
     while i < t {
-        if misnamed_at(tri, n, i) {
+        if misnamed_at(rows, n, i) {
             return Found::At(i);
         }
         i += 1;
@@ -76,40 +76,40 @@ pub fn first_misnamed(tri: &[u32], n: usize, t: usize) -> Found
 
 // ---- 5: a row has a directed edge that a lower row has
 
-fn edge_below(tri: &[u32], s: &[u32], nc: usize, i: usize, x: u32, y: u32) -> bool
-    requires { ⌜ Ready (now s) nc (now tri) i ⌝ }
-    ensures { λ r. ⌜ r ≡ arrowBelow (now (tri .entry)) i x y ⌝ }
+fn edge_below(rows: &[u32], scratch: &[u32], nc: usize, i: usize, x: u32, y: u32) -> bool
+    requires { ⌜ Ready (now scratch) nc (now rows) i ⌝ }
+    ensures { λ r. ⌜ r ≡ arrowBelow (now (rows .entry)) i x y ⌝ }
 {
-    tables::is_found(tables::find_edge(tri, s, nc, i, x, y))
+    tables::is_found(tables::find_edge(rows, scratch, nc, i, x, y))
 }
 
-fn repeat_at(tri: &[u32], s: &[u32], nc: usize, i: usize) -> bool
-    requires { ⌜ 3 * i + 3 ≤ length (now tri) ⌝ }
-    requires { ⌜ Ready (now s) nc (now tri) i ⌝ }
-    ensures { λ r. ⌜ r ≡ repeatAt (now (tri .entry)) i ⌝ }
+fn repeat_at(rows: &[u32], scratch: &[u32], nc: usize, i: usize) -> bool
+    requires { ⌜ 3 * i + 3 ≤ length (now rows) ⌝ }
+    requires { ⌜ Ready (now scratch) nc (now rows) i ⌝ }
+    ensures { λ r. ⌜ r ≡ repeatAt (now (rows .entry)) i ⌝ }
 {
-    let w = tables::row_at(tri, i);
-    edge_below(tri, s, nc, i, w.p, w.q)
-        | edge_below(tri, s, nc, i, w.q, w.r)
-        | edge_below(tri, s, nc, i, w.r, w.p)
+    let w = tables::row_at(rows, i);
+    edge_below(rows, scratch, nc, i, w.p, w.q)
+        | edge_below(rows, scratch, nc, i, w.q, w.r)
+        | edge_below(rows, scratch, nc, i, w.r, w.p)
 }
 
 // Row by row: each is asked about, then joins the index. Where no row is at fault, all are in the index.
-pub fn first_repeat(tri: &[u32], s: &mut [u32], nc: usize, n: usize, t: usize) -> Found
-    requires { ⌜ 3 * t ≤ length (now tri) ⌝ }
+fn first_repeat(rows: &[u32], scratch: &mut [u32], nc: usize, n: usize, t: usize) -> Found
+    requires { ⌜ 3 * t ≤ length (now rows) ⌝ }
     requires { ⌜ n ≤ nc ⌝ }
-    requires { ⌜ lowest (misnamedAt (now tri) n) 0 t ≡ Nothing ⌝ }
-    requires { ⌜ Ready (now s) nc (now tri) 0 ⌝ }
-    ensures answer { λ r. ⌜ r ≡ lowest (repeatAt (now (tri .entry))) 0 t ⌝ }
-    ensures notes { λ _. ⌜ take (indexAt nc (length (now (tri .entry)))) (now (s .exit)) ≡ take (indexAt nc (length (now (tri .entry)))) (now (s .entry)) ⌝ }
-    ensures ready { λ r. ⌜ (r ≡ Nothing → Ready (now (s .exit)) nc (now (tri .entry)) t) ⌝ }
+    requires { ⌜ lowest (misnamedAt (now rows) n) 0 t ≡ Nothing ⌝ }
+    requires { ⌜ Ready (now scratch) nc (now rows) 0 ⌝ }
+    ensures answer { λ r. ⌜ r ≡ lowest (repeatAt (now (rows .entry))) 0 t ⌝ }
+    ensures notes { λ _. ⌜ take (indexAt nc (length (now (rows .entry)))) (now (scratch .exit)) ≡ take (indexAt nc (length (now (rows .entry)))) (now (scratch .entry)) ⌝ }
+    ensures ready { λ r. ⌜ (r ≡ Nothing → Ready (now (scratch .exit)) nc (now (rows .entry)) t) ⌝ }
 {
     let mut i = 0;
     while i < t {
-        if repeat_at(tri, s, nc, i) {
+        if repeat_at(rows, scratch, nc, i) {
             return Found::At(i);
         }
-        tables::add_row(tri, s, nc, i);
+        tables::add_row(rows, scratch, nc, i);
         i += 1;
     }
     Found::Nothing
@@ -117,14 +117,14 @@ pub fn first_repeat(tri: &[u32], s: &mut [u32], nc: usize, n: usize, t: usize) -
 
 // ---- 6: a row's twice-area is not above 0
 
-fn flat_at(nodes: &[i32], tri: &[u32], n: usize, i: usize) -> bool
-    requires { ⌜ 3 * i + 3 ≤ length (now tri) ⌝ }
+fn flat_at(nodes: &[i32], rows: &[u32], n: usize, i: usize) -> bool
+    requires { ⌜ 3 * i + 3 ≤ length (now rows) ⌝ }
     requires { ⌜ 2 * n ≤ length (now nodes) ⌝ }
-    requires { ⌜ misnamedAt (now tri) n i ≡ false ⌝ }
+    requires { ⌜ misnamedAt (now rows) n i ≡ false ⌝ }
     requires { ⌜ lowest (outsideAt (now nodes)) 0 n ≡ Nothing ⌝ }
-    ensures { λ r. ⌜ r ≡ flatAt (now (nodes .entry)) (now (tri .entry)) i ⌝ }
+    ensures { λ r. ⌜ r ≡ flatAt (now (nodes .entry)) (now (rows .entry)) i ⌝ }
 {
-    let w = tables::row_at(tri, i);
+    let w = tables::row_at(rows, i);
     plane::flat(
         tables::corner(nodes, w.p),
         tables::corner(nodes, w.q),
@@ -132,16 +132,16 @@ fn flat_at(nodes: &[i32], tri: &[u32], n: usize, i: usize) -> bool
     )
 }
 
-pub fn first_flat(nodes: &[i32], tri: &[u32], n: usize, t: usize) -> Found
-    requires { ⌜ 3 * t ≤ length (now tri) ⌝ }
+fn first_flat(nodes: &[i32], rows: &[u32], n: usize, t: usize) -> Found
+    requires { ⌜ 3 * t ≤ length (now rows) ⌝ }
     requires { ⌜ 2 * n ≤ length (now nodes) ⌝ }
-    requires { ⌜ lowest (misnamedAt (now tri) n) 0 t ≡ Nothing ⌝ }
+    requires { ⌜ lowest (misnamedAt (now rows) n) 0 t ≡ Nothing ⌝ }
     requires { ⌜ lowest (outsideAt (now nodes)) 0 n ≡ Nothing ⌝ }
-    ensures { λ r. ⌜ r ≡ lowest (flatAt (now (nodes .entry)) (now (tri .entry))) 0 t ⌝ }
+    ensures { λ r. ⌜ r ≡ lowest (flatAt (now (nodes .entry)) (now (rows .entry))) 0 t ⌝ }
 {
     let mut i = 0;
     while i < t {
-        if flat_at(nodes, tri, n, i) {
+        if flat_at(nodes, rows, n, i) {
             return Found::At(i);
         }
         i += 1;
@@ -151,52 +151,52 @@ pub fn first_flat(nodes: &[i32], tri: &[u32], n: usize, t: usize) -> Found
 
 // ---- 7: a node is in no row
 
-fn mark(s: &mut [u32], k: u32)
-    requires { ⌜ k < length (now s) ⌝ }
-    ensures { λ _. ⌜ now (s .exit) ≡ set (now (s .entry)) k 1 ⌝ }
+fn mark(scratch: &mut [u32], k: u32)
+    requires { ⌜ k < length (now scratch) ⌝ }
+    ensures { λ _. ⌜ now (scratch .exit) ≡ set (now (scratch .entry)) k 1 ⌝ }
 {
-    tables::put_note(s, k as usize, 1);
+    tables::put_note(scratch, k as usize, 1);
 }
 
-fn mark_row(tri: &[u32], s: &mut [u32], n: usize, i: usize)
-    requires { ⌜ 3 * i + 3 ≤ length (now tri) ⌝ }
-    requires { ⌜ n ≤ length (now s) ⌝ }
-    requires { ⌜ misnamedAt (now tri) n i ≡ false ⌝ }
-    ensures { λ _. ⌜ now (s .exit) ≡ markStep (now (tri .entry)) i (now (s .entry)) ⌝ }
+fn mark_row(rows: &[u32], scratch: &mut [u32], n: usize, i: usize)
+    requires { ⌜ 3 * i + 3 ≤ length (now rows) ⌝ }
+    requires { ⌜ n ≤ length (now scratch) ⌝ }
+    requires { ⌜ misnamedAt (now rows) n i ≡ false ⌝ }
+    ensures { λ _. ⌜ now (scratch .exit) ≡ markStep (now (rows .entry)) i (now (scratch .entry)) ⌝ }
 {
-    let w = tables::row_at(tri, i);
-    mark(s, w.p);
-    mark(s, w.q);
-    mark(s, w.r);
+    let w = tables::row_at(rows, i);
+    mark(scratch, w.p);
+    mark(scratch, w.q);
+    mark(scratch, w.r);
 }
 
-fn mark_rows(tri: &[u32], s: &mut [u32], n: usize, t: usize)
-    requires { ⌜ 3 * t ≤ length (now tri) ⌝ }
-    requires { ⌜ n ≤ length (now s) ⌝ }
-    requires { ⌜ lowest (misnamedAt (now tri) n) 0 t ≡ Nothing ⌝ }
-    ensures { λ _. ⌜ now (s .exit) ≡ iter (markStep (now (tri .entry))) 0 t (now (s .entry)) ⌝ }
+fn mark_rows(rows: &[u32], scratch: &mut [u32], n: usize, t: usize)
+    requires { ⌜ 3 * t ≤ length (now rows) ⌝ }
+    requires { ⌜ n ≤ length (now scratch) ⌝ }
+    requires { ⌜ lowest (misnamedAt (now rows) n) 0 t ≡ Nothing ⌝ }
+    ensures { λ _. ⌜ now (scratch .exit) ≡ iter (markStep (now (rows .entry))) 0 t (now (scratch .entry)) ⌝ }
 {
     let mut i = 0;
     while i < t {
-        mark_row(tri, s, n, i);
+        mark_row(rows, scratch, n, i);
         i += 1;
     }
 }
 
-fn blank_at(s: &[u32], z: usize) -> bool
-    requires { ⌜ z < length (now s) ⌝ }
-    ensures { λ r. ⌜ r ≡ blankAt (now (s .entry)) z ⌝ }
+fn blank_at(scratch: &[u32], z: usize) -> bool
+    requires { ⌜ z < length (now scratch) ⌝ }
+    ensures { λ r. ⌜ r ≡ blankAt (now (scratch .entry)) z ⌝ }
 {
-    tables::note_at(s, z) == 0
+    tables::note_at(scratch, z) == 0
 }
 
-fn first_blank(s: &[u32], n: usize) -> Found
-    requires { ⌜ n ≤ length (now s) ⌝ }
-    ensures { λ r. ⌜ r ≡ lowest (blankAt (now (s .entry))) 0 n ⌝ }
+fn first_blank(scratch: &[u32], n: usize) -> Found
+    requires { ⌜ n ≤ length (now scratch) ⌝ }
+    ensures { λ r. ⌜ r ≡ lowest (blankAt (now (scratch .entry))) 0 n ⌝ }
 {
     let mut z = 0;
     while z < n {
-        if blank_at(s, z) {
+        if blank_at(scratch, z) {
             return Found::At(z);
         }
         z += 1;
@@ -205,17 +205,17 @@ fn first_blank(s: &[u32], n: usize) -> Found
 }
 
 // The nodes of all rows are marked in the notes; the marks are taken away again.
-pub fn first_unused(tri: &[u32], s: &mut [u32], n: usize, t: usize) -> Found
-    requires { ⌜ 3 * t ≤ length (now tri) ⌝ }
-    requires { ⌜ n ≤ length (now s) ⌝ }
-    requires { ⌜ lowest (misnamedAt (now tri) n) 0 t ≡ Nothing ⌝ }
-    requires { ⌜ take n (now s) ≡ replicate n 0 ⌝ }
-    ensures answer { λ r. ⌜ r ≡ lowest (unused (items (rowAt (now (tri .entry))) 0 t)) 0 n ⌝ }
-    ensures same { λ _. ⌜ now (s .exit) ≡ now (s .entry) ⌝ }
+fn first_unused(rows: &[u32], scratch: &mut [u32], n: usize, t: usize) -> Found
+    requires { ⌜ 3 * t ≤ length (now rows) ⌝ }
+    requires { ⌜ n ≤ length (now scratch) ⌝ }
+    requires { ⌜ lowest (misnamedAt (now rows) n) 0 t ≡ Nothing ⌝ }
+    requires { ⌜ take n (now scratch) ≡ replicate n 0 ⌝ }
+    ensures answer { λ r. ⌜ r ≡ lowest (unused (items (rowAt (now (rows .entry))) 0 t)) 0 n ⌝ }
+    ensures same { λ _. ⌜ now (scratch .exit) ≡ now (scratch .entry) ⌝ }
 {
-    mark_rows(tri, s, n, t);
-    let f = first_blank(s, n);
-    tables::clear_front(s, n);
+    mark_rows(rows, scratch, n, t);
+    let f = first_blank(scratch, n);
+    tables::clear_front(scratch, n);
     f
 }
 
@@ -224,32 +224,32 @@ pub fn first_unused(tri: &[u32], s: &mut [u32], n: usize, t: usize) -> Found
 fn clash_with(w: Tri, u: Tri) -> bool
     ensures { λ r. ⌜ r ≡ clashWith w u ⌝ }
 {
-    !((u.q == w.r) & (u.r == w.q))
+    !((w.r == u.q) & (w.q == u.r))
 }
 
-fn clash_at(tri: &[u32], s: &[u32], nc: usize, t: usize, i: usize) -> bool
-    requires { ⌜ 3 * i + 3 ≤ length (now tri) ⌝ }
-    requires { ⌜ 3 * t ≤ length (now tri) ⌝ }
-    requires { ⌜ Ready (now s) nc (now tri) t ⌝ }
-    ensures { λ r. ⌜ r ≡ clashAt (now (tri .entry)) t i ⌝ }
+fn clash_at(rows: &[u32], scratch: &[u32], nc: usize, t: usize, i: usize) -> bool
+    requires { ⌜ 3 * i + 3 ≤ length (now rows) ⌝ }
+    requires { ⌜ 3 * t ≤ length (now rows) ⌝ }
+    requires { ⌜ Ready (now scratch) nc (now rows) t ⌝ }
+    ensures { λ r. ⌜ r ≡ clashAt (now (rows .entry)) t i ⌝ }
 {
-    let w = tables::row_at(tri, i);
-    let f = tables::find_edge(tri, s, nc, t, w.r, w.q);
+    let w = tables::row_at(rows, i);
+    let f = tables::find_edge(rows, scratch, nc, t, w.r, w.q);
     if let Found::At(j) = f {
-        return clash_with(w, tables::row_at(tri, j));
+        return clash_with(w, tables::row_at(rows, j));
     }
     false
 }
 
 // For a mesh that draws none of 3 to 7.
-pub fn first_clash(tri: &[u32], s: &[u32], nc: usize, t: usize) -> Found
-    requires { ⌜ 3 * t ≤ length (now tri) ⌝ }
-    requires { ⌜ Ready (now s) nc (now tri) t ⌝ }
-    ensures { λ r. ⌜ r ≡ lowest (clashAt (now (tri .entry)) t) 0 t ⌝ }
+pub fn first_clash(rows: &[u32], scratch: &[u32], nc: usize, t: usize) -> Found
+    requires { ⌜ 3 * t ≤ length (now rows) ⌝ }
+    requires { ⌜ Ready (now scratch) nc (now rows) t ⌝ }
+    ensures { λ r. ⌜ r ≡ lowest (clashAt (now (rows .entry)) t) 0 t ⌝ }
 {
     let mut i = 0;
     while i < t {
-        if clash_at(tri, s, nc, t, i) {
+        if clash_at(rows, scratch, nc, t, i) {
             return Found::At(i);
         }
         i += 1;
@@ -260,24 +260,31 @@ pub fn first_clash(tri: &[u32], s: &[u32], nc: usize, t: usize) -> Found
 // ---- 3 to 7
 
 // Of a mesh that draws neither 3 nor 4, the lowest of 5 to 7 that applies.
-fn later_fault(nodes: &[i32], tri: &[u32], s: &mut [u32], nc: usize, n: usize, t: usize) -> Fault
-    requires { ⌜ Sized nc (length (now tri)) (length (now s)) ⌝ }
-    requires { ⌜ (n ≤ nc) × (2 * n ≤ length (now nodes)) × (3 * t ≤ length (now tri)) ⌝ }
+fn later_fault(
+    nodes: &[i32],
+    rows: &[u32],
+    scratch: &mut [u32],
+    nc: usize,
+    n: usize,
+    t: usize,
+) -> Fault
+    requires { ⌜ Sized nc (length (now rows)) (length (now scratch)) ⌝ }
+    requires { ⌜ (n ≤ nc) × (2 * n ≤ length (now nodes)) × (3 * t ≤ length (now rows)) ⌝ }
     requires { ⌜ lowest (outsideAt (now nodes)) 0 n ≡ Nothing ⌝ }
-    requires { ⌜ lowest (misnamedAt (now tri) n) 0 t ≡ Nothing ⌝ }
-    requires { ⌜ now s ≡ replicate (length (now s)) 0 ⌝ }
-    ensures answer { λ r. ⌜ r ≡ laterBy (now (nodes .entry)) (now (tri .entry)) n t ⌝ }
-    ensures scratch { λ r. ⌜ Judged r (now (s .exit)) nc (now (tri .entry)) t ⌝ }
+    requires { ⌜ lowest (misnamedAt (now rows) n) 0 t ≡ Nothing ⌝ }
+    requires { ⌜ now scratch ≡ replicate (length (now scratch)) 0 ⌝ }
+    ensures answer { λ r. ⌜ r ≡ laterBy (now (nodes .entry)) (now (rows .entry)) n t ⌝ }
+    ensures after { λ r. ⌜ Judged r (now (scratch .exit)) nc (now (rows .entry)) t ⌝ }
 {
-    let a = first_repeat(tri, s, nc, n, t);
+    let a = first_repeat(rows, scratch, nc, n, t);
     if let Found::At(i) = a {
         return Fault { number: 5, at: i };
     }
-    let b = first_flat(nodes, tri, n, t);
+    let b = first_flat(nodes, rows, n, t);
     if let Found::At(i) = b {
         return Fault { number: 6, at: i };
     }
-    let c = first_unused(tri, s, n, t);
+    let c = first_unused(rows, scratch, n, t);
     if let Found::At(k) = c {
         return Fault { number: 7, at: k };
     }
@@ -285,20 +292,20 @@ fn later_fault(nodes: &[i32], tri: &[u32], s: &mut [u32], nc: usize, n: usize, t
 }
 
 // The lowest number that applies, and where. The notes are all zero after; where no number applies, all rows are in the index.
-pub fn lowest_fault(nodes: &[i32], tri: &[u32], s: &mut [u32], n: usize, t: usize) -> Fault
-    requires { ⌜ Sized (length (now nodes) / 2) (length (now tri)) (length (now s)) ⌝ }
-    requires { ⌜ (2 * n ≤ length (now nodes)) × (3 * t ≤ length (now tri)) ⌝ }
-    requires { ⌜ now s ≡ replicate (length (now s)) 0 ⌝ }
-    ensures answer { λ r. ⌜ r ≡ faultOf (meshOf (given (now (nodes .entry)) (now (tri .entry)) (now (s .entry)) n t)) ⌝ }
-    ensures scratch { λ r. ⌜ Judged r (now (s .exit)) (length (now (nodes .entry)) / 2) (now (tri .entry)) t ⌝ }
+pub fn lowest_fault(nodes: &[i32], rows: &[u32], scratch: &mut [u32], n: usize, t: usize) -> Fault
+    requires { ⌜ Sized (length (now nodes) / 2) (length (now rows)) (length (now scratch)) ⌝ }
+    requires { ⌜ (2 * n ≤ length (now nodes)) × (3 * t ≤ length (now rows)) ⌝ }
+    requires { ⌜ now scratch ≡ replicate (length (now scratch)) 0 ⌝ }
+    ensures answer { λ r. ⌜ r ≡ faultOf (meshOf (given (now (nodes .entry)) (now (rows .entry)) (now (scratch .entry)) n t)) ⌝ }
+    ensures after { λ r. ⌜ Judged r (now (scratch .exit)) (length (now (nodes .entry)) / 2) (now (rows .entry)) t ⌝ }
 {
     let a = first_outside(nodes, n);
     if let Found::At(k) = a {
         return Fault { number: 3, at: k };
     }
-    let b = first_misnamed(tri, n, t);
+    let b = first_misnamed(rows, n, t);
     if let Found::At(i) = b {
         return Fault { number: 4, at: i };
     }
-    later_fault(nodes, tri, s, nodes.len() / 2, n, t)
+    later_fault(nodes, rows, scratch, nodes.len() / 2, n, t)
 }

@@ -24,13 +24,6 @@ turn-cycle P Q R = ring6 (λ a b c d e f. (Turn a b c d e f, Turn c d e f a b)) 
 pub turn-mirror : (P Q R : Place) → turn P R Q ≡ negℤ (turn P Q R)
 turn-mirror P Q R = ring6 (λ a b c d e f. (Turn a b e f c d, neg (Turn a b c d e f))) (P .x) (P .y) (Q .x) (Q .y) (R .x) (R .y) tt
 
--- x and y exchanged
-abbrev pub flip : Place → Place
-flip P = place (P .y) (P .x)
-
-pub turn-flip : (P Q R : Place) → turn (flip P) (flip R) (flip Q) ≡ turn P Q R
-turn-flip P Q R = ring6 (λ a b c d e f. (Turn b a f e d c, Turn a b c d e f)) (P .x) (P .y) (Q .x) (Q .y) (R .x) (R .y) tt
-
 -- each child of (P, Q, R), bisected at M, has half the father's
 pub left-half : (P Q R M : Place) → Middle M Q R → turn M P Q +ℤ turn M P Q ≡ turn P Q R
 left-half P Q R M h =

@@ -1,38 +1,31 @@
 -- A row holds an edge exactly if it holds one of its two arrows. Assumes nothing.
-use mathlib.Core.Bool.{Bool, true, false, _&&_, _||_}
-use mathlib.Core.List.{List}
-use mathlib.Core.Path.{_≡_, refl, sym, ap, _∙_}
+use mathlib.Core.Bool.{Bool, true, false, _||_}
+use mathlib.Core.Path.{_≡_, refl}
 use Prim.Native.Nat.{ℕ, min, max}
 use native.Mathlib.Omega.{arith}
 use native.Mathlib.Decide.{ℕ-discrete}
-use lib.Dec.{eqb}
-use borrow.Author.Tests.{eqb-true, eq-eqb}
-use Rattle.lists.specs.ListsLaw.{clash, and-both, and-left, and-right, or-left, or-right, both-ways}
+use Rattle.lists.specs.ListsLaw.{or-left, or-right, both-ways}
 use Rattle.meaning.specs.declared.Tri.{Tri}
 use Rattle.meaning.specs.Mesh.{edge, arrow, sameEdge, sameArrow, holdsArrow, holdsEdge}
+use Rattle.laws.specs.Edges.{arrow-eq, eq-arrow}
 
-ends : (a b c d : ℕ) → eqb a c && eqb b d ≡ true → (a ≡ c) × (b ≡ d)
-ends a b c d e = (eqb-true a c (and-left (eqb a c) (eqb b d) e), eqb-true b d (and-right (eqb a c) (eqb b d) e))
-
-same : (a b c d : ℕ) → a ≡ c → b ≡ d → eqb a c && eqb b d ≡ true
-same a b c d p q = and-both (eq-eqb a c p) (eq-eqb b d q)
-
-sameEdge-ends : (x y c d : ℕ) → sameEdge (edge x y) (edge c d) ≡ sameArrow (arrow x y) (arrow c d) || sameArrow (arrow y x) (arrow c d)
+-- two edges are the same one way round or the other
+pub sameEdge-ends : (x y c d : ℕ) → sameEdge (edge x y) (edge c d) ≡ sameArrow (arrow x y) (arrow c d) || sameArrow (arrow y x) (arrow c d)
 sameEdge-ends x y c d = both-ways (sameEdge (edge x y) (edge c d)) _ there back
   where
     there : sameEdge (edge x y) (edge c d) ≡ true → sameArrow (arrow x y) (arrow c d) || sameArrow (arrow y x) (arrow c d) ≡ true
-    there e = let h = ends (min x y) (max x y) (min c d) (max c d) e in go (ℕ-discrete x c) (h .0) (h .1)
+    there e = let h = arrow-eq (arrow (min x y) (max x y)) (min c d) (max c d) e in go (ℕ-discrete x c) (h .0) (h .1)
       where
         go : Dec (x ≡ c) → min x y ≡ min c d → max x y ≡ max c d → sameArrow (arrow x y) (arrow c d) || sameArrow (arrow y x) (arrow c d) ≡ true
-        go (yes q) a b = or-left (sameArrow (arrow y x) (arrow c d)) (same x y c d q (omega arith))
-        go (no q) a b = or-right (sameArrow (arrow x y) (arrow c d)) (same y x c d (omega arith) (omega arith))
+        go (yes q) a b = or-left (sameArrow (arrow y x) (arrow c d)) (eq-arrow (arrow x y) c d q (omega arith))
+        go (no q) a b = or-right (sameArrow (arrow x y) (arrow c d)) (eq-arrow (arrow y x) c d (omega arith) (omega arith))
 
     back : sameArrow (arrow x y) (arrow c d) || sameArrow (arrow y x) (arrow c d) ≡ true → sameEdge (edge x y) (edge c d) ≡ true
     back e = go (sameArrow (arrow x y) (arrow c d)) refl e
       where
         go : (b : Bool) → sameArrow (arrow x y) (arrow c d) ≡ b → b || sameArrow (arrow y x) (arrow c d) ≡ true → sameEdge (edge x y) (edge c d) ≡ true
-        go true q e = let h = ends x y c d q in same (min x y) (max x y) (min c d) (max c d) (omega arith) (omega arith)
-        go false q e = let h = ends y x c d e in same (min x y) (max x y) (min c d) (max c d) (omega arith) (omega arith)
+        go true q e = let h = arrow-eq (arrow x y) c d q in eq-arrow (arrow (min x y) (max x y)) (min c d) (max c d) (omega arith) (omega arith)
+        go false q e = let h = arrow-eq (arrow y x) c d e in eq-arrow (arrow (min x y) (max x y)) (min c d) (max c d) (omega arith) (omega arith)
 
 shuffle : (a b c d e f : Bool) → (b || e) || ((a || d) || ((c || f) || false)) ≡ (a || (b || (c || false))) || (d || (e || (f || false)))
 shuffle true true c d e f = refl

@@ -21,8 +21,8 @@ use Rattle.meaning.specs.Lawful.{Lawful}
 use Rattle.meaning.specs.Good.{Middle, Brothers, brothers, rowsOf, lowestLeft, Paired, two, four, Meets, Good, pairs, spanOf, span, closes, G1-4, good}
 use Rattle.laws.specs.Area.{middle-either, middle-edge}
 use Rattle.laws.specs.Edges.{edge-comm, sameTri-refl}
-use Rattle.laws.specs.Pairs.{RowsOnce, ArrowsOnce, arrows-once, not-again, but, but-in, but-length, only-once, holder-one, third-holds, Matched, none-left, pair-first, off-length}
-use Rattle.laws.specs.Star.{Star, rows-once, span-is, star-from, star-is, test-closes, test-newest, test-count, test-matched, test-middle, test-free, G5-alone, alone-G5, good-added, good-meets, good-alone, good-yes}
+use Rattle.laws.specs.Pairs.{RowsOnce, ArrowsOnce, arrows-once, not-again, but, but-in, but-length, only-rows, holder-one, third-holds, Matched, none-left, pair-first, off-length}
+use Rattle.laws.specs.Star.{Star, round-once, span-is, star-from, star-is, test-closes, test-newest, test-count, test-matched, test-middle, test-free, G5-alone, alone-G5, good-added, good-meets, good-alone, good-yes}
 
 -- ---- rows
 
@@ -115,7 +115,7 @@ module _ (m : Mesh) (z : ℕ) (law : Lawful m) where
               (holder-is x (x .left .q) (x .right .q) (R .0) (R .1) (B .joint) refl refl)
               (sym (ap₂ (lowestLeft m z) l-is r-is) ∙
               ap (first (λ v. not (sameTri (x .left) v) && not (sameTri (x .right) v))) (B .rows-are) ∙
-              left-over (x .left) (x .right) (B .more) (subst RowsOnce (B .rows-are) (rows-once m z law)) ∙
+              left-over (x .left) (x .right) (B .more) (subst RowsOnce (B .rows-are) (round-once m z law)) ∙
               ap headOf (C .rows-are) ∙
               ap some (tri-is (y .left) z (y .left .q) (x .right .q) (L′ .1) refl c-is))
               (holder-is y (y .left .q) (x .left .r) (R′ .0) (R′ .1) (C .joint) refl b-is),
@@ -158,7 +158,7 @@ module _ (m : Mesh) (z : ℕ) (law : Lawful m) where
     tells : {b c : ℕ} → Paired m z b c → Told b c
     tells {b} {c} (two a n f g) =
         let H = named-two a b c f g in
-        let o : RowsOnce (H .more) = λ w. (let d = subst RowsOnce (H .rows-are) (rows-once m z law) w in omega arith) in
+        let o : RowsOnce (H .more) = λ w. (let d = subst RowsOnce (H .rows-are) (round-once m z law) w in omega arith) in
         let k = but-length (H .later) o in
         let l : length (rowsOf m z) ≡ suc (length (H .more)) = ap length (H .rows-are) in
         let none-more = empty (but (tri z c a) (H .more)) (omega arith) in
@@ -174,11 +174,11 @@ module _ (m : Mesh) (z : ℕ) (law : Lawful m) where
         let R = tri z c a in
         let L′ = tri z d c in
         let R′ = tri z b d in
-        let o = subst RowsOnce (H .rows-are) (rows-once m z law) in
+        let o = subst RowsOnce (H .rows-are) (round-once m z law) in
         let o₁ : RowsOnce (H .more) = λ w. (let v = o w in omega arith) in
         let rest = but R (H .more) in
         let k = head-is rest (sym (left-over L R (H .more) o) ∙ sym (ap (first (λ v. not (sameTri L v) && not (sameTri R v))) (H .rows-are)) ∙ h) in
-        let o₂ : RowsOnce (k .0) = λ w. (let v = subst RowsOnce (k .1) (only-once (λ v. not (sameTri R v)) (H .more) o₁) w in omega arith) in
+        let o₂ : RowsOnce (k .0) = λ w. (let v = subst RowsOnce (k .1) (only-rows (λ v. not (sameTri R v)) (H .more) o₁) w in omega arith) in
         -- (z, d, c) is a row after (z, a, b)
         let L′-later : List·Memᴰ L′ (H .more) = only-out (λ v. not (sameTri R v)) (H .more) (subst⁻¹ (λ us. List·Memᴰ L′ us) (k .1) (List·Memᴰ·head refl)) in
         let L′-row : List·Memᴰ L′ (m .tris) = only-out (holdsNode z) (m .tris) (subst⁻¹ (λ us. List·Memᴰ L′ us) (H .rows-are) (List·Memᴰ·tail L′-later)) in
@@ -205,14 +205,14 @@ module _ (m : Mesh) (z : ℕ) (law : Lawful m) where
 -- ---- G1 to G4
 
 module _ (m : Mesh) (z : ℕ) (law : Lawful m) where
-  pub meets-star : {b c : ℕ} → Meets m z b c → Star m z × (span m z ≡ edge b c)
+  meets-star : {b c : ℕ} → Meets m z b c → Star m z × (span m z ≡ edge b c)
   meets-star {b} {c} M =
       let T = tells m z law (M .newest) (M .paired) in (
         star-from m z law (M .newest) (T .matched) (T .some-pair) (edge b c) (T .ends) (middle-edge m (at m z) b c (M .middle)) (M .free),
         span-is m z law (M .newest) (T .matched) (T .some-pair) (edge b c) (T .ends),
       )
 
-  pub test-meets : G1-4 m z ≡ true → (b c : ℕ) × Meets m z b c × (span m z ≡ edge b c)
+  test-meets : G1-4 m z ≡ true → (b c : ℕ) × Meets m z b c × (span m z ≡ edge b c)
   unfolding pairs span
   test-meets t =
       let r = lines m z law (test-newest m z law t) (pairs m z) (test-matched m z law t) (test-closes m z law t) (test-count m z law t) (off-length z 2 (rowsOf m z)) in
@@ -229,10 +229,6 @@ module _ (m : Mesh) (z : ℕ) (law : Lawful m) where
         },
         e,
       )
-
-  -- A NODE OF A LAWFUL MESH PASSES THE TESTS OF G1 TO G4 EXACTLY IF IT MEETS THEM, with the pair b, c that the tests find
-  pub meets-is : z < length (m .nodes) → (G1-4 m z ≡ true) ↔ ((b c : ℕ) × Meets m z b c × (span m z ≡ edge b c))
-  meets-is below = (test-meets, λ r. star-is m z law below .1 (meets-star (r .2) .0))
 
 -- ---- good
 

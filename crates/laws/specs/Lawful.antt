@@ -34,7 +34,7 @@ use Rattle.laws.specs.Edges.{sameEdge-eq, sameEdge-refl, sameArrow-eq, h
 near : (z : ℤ) → far z ≡ false → natAbs z ≤ 1_048_576
 near z e = leb-true (natAbs z) 1_048_576 (not-false (leb (natAbs z) 1_048_576) e)
 
-in-range : (a : Place) → outside a ≡ false → InRange a
+pub in-range : (a : Place) → outside a ≡ false → InRange a
 in-range a e = let h = or-no (far (a .x)) (far (a .y)) e in record { x-near = near (a .x) (h .0); y-near = near (a .y) (h .1) }
 
 range-in : (a : Place) → InRange a → outside a ≡ false
@@ -42,7 +42,7 @@ range-in a h = rw (le-leb _ _ (h .x-near), le-leb _ _ (h .y-near))
 
 -- ---- 4
 
-named-yes : (n : ℕ) (t : Tri) → misnamed n t ≡ false → Named n t
+pub named-yes : (n : ℕ) (t : Tri) → misnamed n t ≡ false → Named n t
 named-yes n t e =
     let a = or-no (leb n (t .p) || leb n (t .q) || leb n (t .r) || eqb (t .p) (t .q) || eqb (t .q) (t .r)) (eqb (t .r) (t .p)) e in
     let b = or-no (leb n (t .p) || leb n (t .q) || leb n (t .r) || eqb (t .p) (t .q)) (eqb (t .q) (t .r)) (a .0) in
@@ -289,7 +289,7 @@ refusal-lowest m = record { applies = whole .applies; no-lower = λ j a. whole .
         )
 
 -- one number is the lowest
-pub lowest-one : {m : Mesh} (j k : ℕ) → Lowest m j → Lowest m k → j ≡ k
+lowest-one : {m : Mesh} (j k : ℕ) → Lowest m j → Lowest m k → j ≡ k
 lowest-one zero zero a b = refl
 lowest-one zero (suc k) a b = absurd (omega (arith, a .no-lower (suc k) (b .applies (omega arith))))
 lowest-one (suc j) zero a b = absurd (omega (arith, b .no-lower (suc j) (a .applies (omega arith))))
@@ -319,18 +319,18 @@ lawful-none {m} law = record { applies = λ h. absurd (omega arith); no-lower = 
 pub lawful-refusal : (m : Mesh) → Lawful m → refusal m ≡ 0
 lawful-refusal m law = lowest-one (refusal m) 0 (refusal-lowest m) (lawful-none law)
 
-later : (k : ℕ) (f : Found) (rest : Fault) → 0 < k → orLater k f rest .number ≡ 0 → (f ≡ Nothing) × (rest .number ≡ 0)
-later k (At i) rest h e = absurd (omega arith)
-later k Nothing rest h e = (refl, e)
+none-yet : (k : ℕ) (f : Found) (rest : Fault) → 0 < k → orLater k f rest .number ≡ 0 → (f ≡ Nothing) × (rest .number ≡ 0)
+none-yet k (At i) rest h e = absurd (omega arith)
+none-yet k Nothing rest h e = (refl, e)
 
 pub refusal-lawful : (m : Mesh) → refusal m ≡ 0 → Lawful m
 unfolding refusal faultOf
 refusal-lawful m e =
-    let e3 = later 3 (firstOutside m) _ (omega arith) e in
-    let e4 = later 4 (firstMisnamed m) _ (omega arith) (e3 .1) in
-    let e5 = later 5 (firstRepeat m) _ (omega arith) (e4 .1) in
-    let e6 = later 6 (firstFlat m) _ (omega arith) (e5 .1) in
-    let e7 = later 7 (firstUnused m) _ (omega arith) (e6 .1) in
+    let e3 = none-yet 3 (firstOutside m) _ (omega arith) e in
+    let e4 = none-yet 4 (firstMisnamed m) _ (omega arith) (e3 .1) in
+    let e5 = none-yet 5 (firstRepeat m) _ (omega arith) (e4 .1) in
+    let e6 = none-yet 6 (firstFlat m) _ (omega arith) (e5 .1) in
+    let e7 = none-yet 7 (firstUnused m) _ (omega arith) (e6 .1) in
     record {
       range = none-3 m (e3 .0);
       named = none-4 m (e4 .0);

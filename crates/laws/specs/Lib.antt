@@ -27,3 +27,4 @@ pub mod CallLaw
 pub mod EmptyMesh
 pub mod OneOutcome
 pub mod StillLaw
+pub mod Meshes

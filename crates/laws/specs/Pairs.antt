@@ -5,17 +5,18 @@ use mathlib.Core.List.{List, [], _∷_, List·Memᴰ}
 use mathlib.Core.Option.{Option}
 use mathlib.Core.Logic.{_≢_}
 use mathlib.Core.Path.{_≡_, refl, sym, subst, ap, _∙_}
-use Prim.Native.Nat.{ℕ, zero, suc, _+_, _*_, _≤_}
+use Prim.Native.Nat.{ℕ, zero, suc, _+_, _*_, _≤_, _<_}
 use native.Mathlib.Omega.{arith}
-use lib.ListN.{length}
+use native.Mathlib.Decide.{decLt}
+use lib.ListN.{length, getD}
 use borrow.Author.Tests.{eq-eqb}
 use Rattle.lists.specs.Lists.{only, All, nil, cons}
 use Rattle.lists.specs.ListsLaw.{clash, and-both, or-left, or-right, All-at, All-of, FirstIs, no-row, row, first-is}
-use Rattle.lists.specs.MembersLaw.{only-in, only-keeps}
-use Rattle.lists.specs.Tally.{bit, tally, tally-le, tally-length, tally-only, tally-parts, only-le, bits-some, pick-one}
+use Rattle.lists.specs.MembersLaw.{at-mem, only-in, only-keeps}
+use Rattle.lists.specs.Tally.{bit, tally, tally-at, tally-le, tally-length, tally-only, tally-parts, only-le, bits-some, pick-one}
 use Rattle.meaning.specs.declared.Tri.{Tri}
-use Rattle.meaning.specs.Mesh.{Mesh, Arrow, arrow, sameArrow, sameTri, holdsArrow}
-use Rattle.meaning.specs.Lawful.{Named, Lawful}
+use Rattle.meaning.specs.Mesh.{Mesh, Arrow, tri, arrow, sameArrow, sameTri, holdsArrow}
+use Rattle.meaning.specs.Lawful.{Named, Lawful, rowOf}
 use Rattle.meaning.specs.Good.{Brothers, brothers, addPair, pairOff}
 use Rattle.laws.specs.Edges.{sameTri-eq, sameTri-refl, arrow-eq, hits, hit-self, count-arrows, held-hit}
 
@@ -40,8 +41,8 @@ row-once m law u =
     one v true e = subst (λ w. 1 ≤ hits (arrow (u .p) (u .q)) w) (sameTri-eq u v e) (let h = hit-self (u .p) (u .q) in omega arith)
     one v false e = omega arith
 
-pub only-once : (f : Tri → Bool) (ts : List Tri) → RowsOnce ts → RowsOnce (only f ts)
-only-once f ts o u = let a = only-le (λ v. bit (sameTri u v)) f ts in let b = o u in omega arith
+pub only-rows : (f : Tri → Bool) (ts : List Tri) → RowsOnce ts → RowsOnce (only f ts)
+only-rows f ts o u = let a = only-le (λ v. bit (sameTri u v)) f ts in let b = o u in omega arith
 
 only-arrows : (f : Tri → Bool) (ts : List Tri) → ArrowsOnce ts → ArrowsOnce (only f ts)
 only-arrows f ts o e = let a = only-le (hits e) f ts in let b = o e in omega arith
@@ -83,6 +84,13 @@ but-length {u} {ts} i h =
     let c = tally-length (but u ts) in
     omega arith
 
+-- two members of a sum
+two-places : {A : Type 0} (f : A → ℕ) (l : List A) (d : A) (j k : ℕ) → j < k → k < length l → f (getD l j d) + f (getD l k d) ≤ tally f l
+two-places f [] d j k h l = absurd (omega arith)
+two-places f (x ∷ xs) d j zero h l = absurd (omega arith)
+two-places f (x ∷ xs) d zero (suc k) h l = omega (arith, tally-at f (at-mem xs k d (omega arith)))
+two-places f (x ∷ xs) d (suc j) (suc k) h l = omega (arith, two-places f xs d j k (omega arith) (omega arith))
+
 -- ---- the row that holds a→z
 
 -- there is one at most
@@ -102,6 +110,19 @@ holder-one e {x} {u} {ts} o i y j w =
     go : (b : Bool) → sameTri x u ≡ b → bit b ≡ 1 → x ≡ u
     go true w k = sameTri-eq x u w
     go false w k = absurd (omega arith)
+
+-- by number: no arrow is in two rows
+pub holder-place : (e : Arrow) (ts : List Tri) → ArrowsOnce ts → (i j : ℕ) → i < length ts → j < length ts →
+    holdsArrow e (rowOf ts i) ≡ true → holdsArrow e (rowOf ts j) ≡ true → i ≡ j
+holder-place e ts o i j h k p q = go (decLt i j) (decLt j i)
+  where
+    twice : (a b : ℕ) → a < b → b < length ts → holdsArrow e (rowOf ts a) ≡ true → holdsArrow e (rowOf ts b) ≡ true → ⊥
+    twice a b l u x y = omega (arith, two-places (hits e) ts (tri 0 0 0) a b l u, o e, held-hit e (rowOf ts a) x, held-hit e (rowOf ts b) y)
+
+    go : Dec (i < j) → Dec (j < i) → i ≡ j
+    go (yes l) b = absurd (twice i j l k p q)
+    go (no a) (yes l) = absurd (twice j i l h q p)
+    go (no a) (no b) = omega arith
 
 -- where z is its newest vertex, it is (z, c, a)
 pub third-holds : (u : Tri) (a z : ℕ) → u .r ≡ a → u .p ≡ z → holdsArrow (arrow a z) u ≡ true
@@ -132,7 +153,7 @@ matched-rows o none-left f = refl
 matched-rows o (pair-first {t = t} {u = u} {ts = ts} i j r) f =
     let o′ : RowsOnce ts = λ w. (let g = o w in omega arith) in
     let a = but-one f i o′ in
-    let b = matched-rows (only-once (λ v. not (sameTri u v)) ts o′) r f in
+    let b = matched-rows (only-rows (λ v. not (sameTri u v)) ts o′) r f in
     omega arith
 
 pub matched-all : {P : Tri → Type 0} {ts : List Tri} {bs : List Brothers} → All P ts → Matched ts bs → All (λ b. P (b .left) × P (b .right) × (b .right .r ≡ b .left .q)) bs
@@ -174,7 +195,7 @@ off-half z (suc k) (t ∷ ts) o = go (first-is (holdsArrow (arrow (t .q) z)) ts)
         2 * length (addPair t x (λ u. pairOff k z (but u ts))) ≤ suc (length ts)
     go (no-row n) below = omega arith
     go (row {x = u} i y) below =
-        let a = below (but u ts) (only-once (λ v. not (sameTri u v)) ts o′) in
+        let a = below (but u ts) (only-rows (λ v. not (sameTri u v)) ts o′) in
         let b = but-length i o′ in
         omega arith
 
@@ -205,4 +226,4 @@ off-matched z n (suc k) (cons {x = t} {xs = ts} h hs) o e = go (first-is (holdsA
         let b = but-length i o′ in
         let g = All-at hs i in
         pair-first i (third-is (t .q) z n u (g .1) (g .0) (λ w. h .1 .p≢q (h .0 ∙ sym w)) y)
-        (below (but u ts) (only-keeps (λ v. not (sameTri u v)) hs) (only-once (λ v. not (sameTri u v)) ts o′) (omega arith))
+        (below (but u ts) (only-keeps (λ v. not (sameTri u v)) hs) (only-rows (λ v. not (sameTri u v)) ts o′) (omega arith))

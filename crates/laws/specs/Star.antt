@@ -25,7 +25,7 @@ use Rattle.meaning.specs.Lawful.{Named, Lawful}
 use Rattle.meaning.specs.Good.{Middle, Brothers, father, rowsOf, pairs, spanOf, span, closes, sameZ, isMiddle, G1, G2, G3, G4, G1-4, G5, good}
 use Rattle.laws.specs.Area.{turn-mirror, bisect-area, middle-either, middle-edge}
 use Rattle.laws.specs.Edges.{edge-comm, sameEdge-eq, sameEdge-refl, hit, hits, hit-self, hit-le}
-use Rattle.laws.specs.Pairs.{RowsOnce, arrows-once, row-once, only-once, Matched, matched-rows, matched-all, matched-off, off-half, off-length, off-matched}
+use Rattle.laws.specs.Pairs.{RowsOnce, arrows-once, row-once, only-rows, Matched, matched-rows, matched-all, matched-off, off-half, off-length, off-matched}
 
 -- ---- a pair of brothers
 
@@ -107,15 +107,15 @@ one-way m z law bs round left-p e =
 pub opposed : (m : Mesh) (z : ℕ) → Lawful m → Star m z → (e : Arrow) → tally (λ b. hit e (b .left .r) (b .right .q)) (pairs m z) ≤ 1
 opposed m z law s e = one-way m z law (pairs m z) (s .rows) (All-imp (λ b h. h .left-p) (s .pair)) e
 
-pub rows-once : (m : Mesh) (z : ℕ) → Lawful m → RowsOnce (rowsOf m z)
-rows-once m z law = only-once (holdsNode z) (m .tris) (row-once m law)
+pub round-once : (m : Mesh) (z : ℕ) → Lawful m → RowsOnce (rowsOf m z)
+round-once m z law = only-rows (holdsNode z) (m .tris) (row-once m law)
 
 -- rows round z that are paired off without rest, all pairs with the one edge b–c, are a star: each direction of b–c occurs once, so there
 -- are two pairs at most, and these are G2's
 module _ (m : Mesh) (z : ℕ) (law : Lawful m) (newest : All (λ t. t .p ≡ z) (rowsOf m z)) {bs : List Brothers} (matched : Matched (rowsOf m z) bs)
     (some-pair : 1 ≤ length bs) (E : Edge) (ends : All (λ x. edge (x .left .r) (x .right .q) ≡ E) bs) where
   round : (f : Tri → ℕ) → tally (λ b. f (b .left) + f (b .right)) bs ≡ tally f (rowsOf m z)
-  round = matched-rows (rows-once m z law) matched
+  round = matched-rows (round-once m z law) matched
 
   parts : All (λ x. (List·Memᴰ (x .left) (m .tris) × (x .left .p ≡ z)) × (List·Memᴰ (x .right) (m .tris) × (x .right .p ≡ z)) × (x .right .r ≡ x .left .q)) bs
   parts = matched-all (All-both (only-keeps (holdsNode z) (All-of (m .tris) (λ u i. i))) newest) matched
@@ -245,11 +245,11 @@ module _ (m : Mesh) (z : ℕ) (law : Lawful m) (t : G1-4 m z ≡ true) where
   unfolding pairs
   test-count =
       two-each (length (rowsOf m z)) (pairs m z) (and-right (all (λ u. eqb (u .p) z) (rowsOf m z)) _ g1) test-closes
-      (off-half z 2 (rowsOf m z) (rows-once m z law)) (off-length z 2 (rowsOf m z))
+      (off-half z 2 (rowsOf m z) (round-once m z law)) (off-length z 2 (rowsOf m z))
 
   pub test-matched : Matched (rowsOf m z) (pairs m z)
   unfolding pairs
-  test-matched = off-matched z (length (m .nodes)) 2 (All-both test-newest (only-keeps (holdsNode z) (law .named))) (rows-once m z law) test-count
+  test-matched = off-matched z (length (m .nodes)) 2 (All-both test-newest (only-keeps (holdsNode z) (law .named))) (round-once m z law) test-count
 
   test-ends : All (λ b. edge (b .left .r) (b .right .q) ≡ span m z) (pairs m z)
   unfolding span pairs
@@ -315,7 +315,7 @@ tally-two (b ∷ bs) = let h = tally-two bs in omega arith
 
 module _ (m : Mesh) (z : ℕ) (law : Lawful m) (below : z < length (m .nodes)) where
   -- a node is in some row
-  pub rows-some : 1 ≤ length (rowsOf m z)
+  rows-some : 1 ≤ length (rowsOf m z)
   rows-some =
       let a = law .used z below in
       let b = count-tally (holdsNode z) (m .tris) in

@@ -1,6 +1,6 @@
 -- Chains in a list of numbers: for each key a head, for each item the next with the same key; numbers are one too large, and 0 ends a
 -- chain. Items are linked from the last to the first, so that a chain is in order. Assumes nothing.
-use mathlib.Core.Path.{_≡_, refl, sym, ap, _∙_}
+use mathlib.Core.Path.{_≡_, refl, sym, ap, ap₂, _∙_}
 use mathlib.Core.Logic.{_≢_}
 use mathlib.Core.Bool.{Bool, true, false}
 use mathlib.Core.List.{List, [], _∷_}
@@ -17,7 +17,7 @@ use Rattle.lists.specs.Lists.{cases, only, consIf}
 use Rattle.lists.specs.ListsLaw.{clash}
 use Rattle.lists.specs.PartsLaw.{not-so}
 use Rattle.lists.specs.Search.{lowest, lowestFrom, items}
-use Rattle.lists.specs.SearchLaw.{lowest-here, lowest-on, lowest-none, at-some}
+use Rattle.lists.specs.SearchLaw.{lowest-here, lowest-on, lowest-none, lowest-agree-from, at-some}
 use Rattle.lists.specs.ItemsLaw.{items-cons, items-none}
 use Rattle.lists.specs.Loops.{code}
 
@@ -192,10 +192,16 @@ module _ (key : ℕ → ℕ) (top h x t : ℕ) where
       unfolding new
       chain-link = record { heads = new-heads; nexts = new-nexts }
 
--- the same chain, where its notes read the same
-pub chain-kept : (key : ℕ → ℕ) (top h x t : ℕ) (s s′ : List ℕ) → ((k : ℕ) → k < top → getD s′ (h + k) 0 ≡ getD s (h + k) 0) → ((j : ℕ) → j < t → getD s′ (x + j) 0 ≡ getD s (x + j) 0) →
-    Chain key top h x t 0 s → Chain key top h x t 0 s′
-chain-kept key top h x t s s′ a b c = record { heads = λ k l. (a k l ∙ c .heads k l); nexts = λ j l u d. (b j u ∙ c .nexts j l u d) }
+-- the same chain, where the keys are the same and its notes read the same
+module _ (key key′ : ℕ → ℕ) (top h x t : ℕ) (s s′ : List ℕ) (e : (j : ℕ) → j < t → key j ≡ key′ j) where
+  pub chain-kept : ((k : ℕ) → k < top → getD s′ (h + k) 0 ≡ getD s (h + k) 0) → ((j : ℕ) → j < t → getD s′ (x + j) 0 ≡ getD s (x + j) 0) →
+      Chain key top h x t 0 s → Chain key′ top h x t 0 s′
+  chain-kept a b c = record {
+    heads = λ k l. (a k l ∙ c .heads k l ∙ ap code (lowest-agree-from _ _ 0 t (λ i u v. ap (λ y. eqb y k) (e i v))));
+    nexts = λ j l u d.
+        (b j u ∙ c .nexts j l u (rw (e j u) d)
+        ∙ ap code (lowest-agree-from _ _ (j + 1) t (λ i v w. ap₂ eqb (e i w) (e j u))));
+  }
 
 -- ---- a walk along a chain: f is looked for, and passes only where g does; k is the number of the item the walk stands at
 

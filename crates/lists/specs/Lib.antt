@@ -16,3 +16,4 @@ pub mod AnyLaw
 pub mod Loops
 pub mod LoopsLaw
 pub mod ChainLaw
+pub mod MarksLaw

@@ -115,6 +115,11 @@ pub lowest-agree : (f g : ℕ → Bool) (t : ℕ) → ((j : ℕ) → j < t → f
 unfolding lowest
 lowest-agree f g t h = from-agree f g 0 (t - 0) (λ j a b. h j (omega arith))
 
+-- the same, of a search from i on
+pub lowest-agree-from : (f g : ℕ → Bool) (i t : ℕ) → ((j : ℕ) → i ≤ j → j < t → f j ≡ g j) → lowest f i t ≡ lowest g i t
+unfolding lowest
+lowest-agree-from f g i t h = from-agree f g i (t - i) (λ j a b. h j a (omega arith))
+
 -- ---- by number and by list
 
 module _ {A : Type 0} (f : A → Bool) (a : ℕ → A) (g : ℕ → Bool) where

@@ -11,7 +11,7 @@ use Rattle.meaning.specs.Coarsen.{coarsened}
 use Rattle.meaning.specs.Tables.{given, outcome, answer, meshOf}
 use Rattle.meaning.specs.Calls.{unless, orElse, marksFit, coarsenNo, coarsens, says, leaves, left, sized, coarsenOut}
 use Rattle.laws.specs.TableMesh.{nodes-count}
-use Rattle.good.specs.Meshes.{meshAt}
+use Rattle.laws.specs.Meshes.{meshAt}
 use Rattle.gather.specs.Whole as Gather
 use Rattle.gather.specs.declared.Counts.{Counts}
 use Rattle.mesh.specs.Judge.{meshIn, early, leaves-late, leaves-refused, leaves-done, left-same, call-out}

@@ -1,6 +1,6 @@
 use native.Mathlib.Omega.{arith}
 use Rattle.gather.specs.WholeLaw.{pairs-few, settled}
-use Rattle.good.specs.Meshes.{fair}
+use Rattle.laws.specs.Meshes.{fair}
 use borrow.Author.Needs.{needs}
 use Rattle.gather.proofs.note.Statement.{statement}
 use Rattle.gather.proofs.note.Tie as tie

@@ -1,5 +1,6 @@
-use Rattle.good.specs.RivalNeeds.{judged-read}
-use Rattle.good.specs.Meshes.{fair}
+use Rattle.good.specs.RivalLaw.{some-row, all-judged}
+use Rattle.laws.specs.Meshes.{fair}
+use native.Mathlib.Omega.{arith}
 use borrow.Author.Needs.{needs}
 use Rattle.good.proofs.judge.Statement.{statement}
 use Rattle.good.proofs.judge.Tie as tie
@@ -7,16 +8,17 @@ use Rattle.good.proofs.judge.Tie as tie
 note-rows-requires : tie.Need-note-rows-requires
 note-rows-requires c κs = (search (needs, fair), (search needs, (search needs, (search needs, search needs))))
 
-note-pairs-requires : tie.Need-note-pairs-requires
-note-pairs-requires c κs = (search needs, (search (needs, fair), (search needs, (search needs, (search needs, (search needs, search needs, search needs))))))
+signs-requires : tie.Need-signs-requires
+signs-requires c κs = (search (needs, fair), (search needs, (search needs, (search needs, (search needs, (search needs, search needs))))))
 
-tags-requires : tie.Need-tags-requires
-tags-requires c κs = (search needs, (search needs, (search needs, search needs)))
+tag-lone-requires : tie.Need-tag-lone-requires
+tag-lone-requires c κs = ((search needs, search needs, search needs), search (needs, some-row))
 
 returns : tie.Need-returns
-returns c = judged-read _ _ _ _ _ _ _ (c .before .before .tags .ensures) (c .before .before .before .before .before .before .note-pairs .ensures .1)
+returns c = all-judged _ _ _ _ _ (c .before .before .before .before .before .before .before .before .before .before .before .before .before .before .pre .0) _ _ _ _ (c .before .before .before .before .before .before .signs .ensures) (c .before .before .tag-lone .ensures) (omega arith) (omega arith)
 
 pub judge-spec : {M : Type 1} → statement M
 judge-spec =
-    tie.close (tie.spec
-    note-rows-requires note-pairs-requires tags-requires (λ c. search needs) returns)
+    tie.close
+    (tie.spec
+    note-rows-requires signs-requires tag-lone-requires (λ c. search needs) returns)

@@ -1,10 +1,10 @@
-use Rattle.lawful.specs.TestsLaw.{found-row, clash-found, clash-none}
+use Rattle.lawful.specs.TestsLaw.{met-row, clash-found, clash-none}
 use borrow.Author.Needs.{needs}
 use Rattle.lawful.proofs.clash_at.Statement.{statement}
 use Rattle.lawful.proofs.clash_at.Tie as tie
 
 row-at-requires-2 : tie.Need-row-at-requires-2
-row-at-requires-2 c κs = search (needs, found-row)
+row-at-requires-2 c κs = search (needs, met-row)
 
 returns : tie.Need-returns
 returns c = search (needs, clash-found)

@@ -8,10 +8,10 @@ use Rattle.lawful.proofs.first_clash.Statement.{statement}
 use Rattle.lawful.proofs.first_clash.Tie as tie
 
 abbrev Inv-loop : tie.InvT-loop
-Inv-loop tri s nc t i₀ i = (i ≤ t) × (lowest (clashAt tri t) i t ≡ lowest (clashAt tri t) 0 t)
+Inv-loop rows s nc t i₀ i = (i ≤ t) × (lowest (clashAt rows t) i t ≡ lowest (clashAt rows t) 0 t)
 
 abbrev μ-loop : tie.MeasureT-loop
-μ-loop tri s nc t i₀ i = t - i
+μ-loop rows s nc t i₀ i = t - i
 
 returns : tie.Need-returns Inv-loop μ-loop
 returns c = search (needs, searching)

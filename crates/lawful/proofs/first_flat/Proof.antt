@@ -3,19 +3,19 @@ use Prim.Native.Nat.{_≤_, _-_}
 use Rattle.lists.specs.Search.{lowest}
 use Rattle.lists.specs.SearchLaw.{searching}
 use Rattle.lawful.specs.Tests.{flatAt}
-use Rattle.lawful.specs.TestsLaw.{named-at}
+use Rattle.lawful.specs.TestsLaw.{not-misnamed}
 use borrow.Author.Needs.{needs}
 use Rattle.lawful.proofs.first_flat.Statement.{statement}
 use Rattle.lawful.proofs.first_flat.Tie as tie
 
 abbrev Inv-loop : tie.InvT-loop
-Inv-loop nodes tri n t i₀ i = (i ≤ t) × (lowest (flatAt nodes tri) i t ≡ lowest (flatAt nodes tri) 0 t)
+Inv-loop nodes rows n t i₀ i = (i ≤ t) × (lowest (flatAt nodes rows) i t ≡ lowest (flatAt nodes rows) 0 t)
 
 abbrev μ-loop : tie.MeasureT-loop
-μ-loop nodes tri n t i₀ i = t - i
+μ-loop nodes rows n t i₀ i = t - i
 
 flat-at-requires : tie.Need-flat-at-requires Inv-loop μ-loop
-flat-at-requires c κs = search (needs, named-at)
+flat-at-requires c κs = search (needs, not-misnamed)
 
 returns : tie.Need-returns Inv-loop μ-loop
 returns c = search (needs, searching)

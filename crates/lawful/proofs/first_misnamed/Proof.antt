@@ -8,10 +8,10 @@ use Rattle.lawful.proofs.first_misnamed.Statement.{statement}
 use Rattle.lawful.proofs.first_misnamed.Tie as tie
 
 abbrev Inv-loop : tie.InvT-loop
-Inv-loop tri n t i₀ i = (i ≤ t) × (lowest (misnamedAt tri n) i t ≡ lowest (misnamedAt tri n) 0 t)
+Inv-loop rows n t i₀ i = (i ≤ t) × (lowest (misnamedAt rows n) i t ≡ lowest (misnamedAt rows n) 0 t)
 
 abbrev μ-loop : tie.MeasureT-loop
-μ-loop tri n t i₀ i = t - i
+μ-loop rows n t i₀ i = t - i
 
 returns : tie.Need-returns Inv-loop μ-loop
 returns c = search (needs, searching)

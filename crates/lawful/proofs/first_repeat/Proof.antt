@@ -13,10 +13,10 @@ use Rattle.lawful.proofs.first_repeat.Statement.{statement}
 use Rattle.lawful.proofs.first_repeat.Tie as tie
 
 abbrev Inv-loop : tie.InvT-loop
-Inv-loop tri s₀ nc n t i₀ s i = (i ≤ t) × (length s ≡ length s₀) × (take (indexAt nc (length tri)) s ≡ take (indexAt nc (length tri)) s₀) × Ready s nc tri i × (lowest (repeatAt tri) i t ≡ lowest (repeatAt tri) 0 t)
+Inv-loop rows s₀ nc n t i₀ s i = (i ≤ t) × (length s ≡ length s₀) × (take (indexAt nc (length rows)) s ≡ take (indexAt nc (length rows)) s₀) × Ready s nc rows i × (lowest (repeatAt rows) i t ≡ lowest (repeatAt rows) 0 t)
 
 abbrev μ-loop : tie.MeasureT-loop
-μ-loop tri s₀ nc n t i₀ s i = t - i
+μ-loop rows s₀ nc n t i₀ s i = t - i
 
 returns : tie.Need-returns Inv-loop μ-loop
 returns c = (search (needs, searching), (search needs, λ e. at-some _ e))

@@ -4,19 +4,19 @@ use lib.ListN.{length}
 use Rattle.lists.specs.Search.{iter}
 use Rattle.lists.specs.IterLaw.{looping}
 use Rattle.lawful.specs.Tests.{markStep}
-use Rattle.lawful.specs.TestsLaw.{named-at}
+use Rattle.lawful.specs.TestsLaw.{not-misnamed}
 use borrow.Author.Needs.{needs}
 use Rattle.lawful.proofs.mark_rows.Statement.{statement}
 use Rattle.lawful.proofs.mark_rows.Tie as tie
 
 abbrev Inv-loop : tie.InvT-loop
-Inv-loop tri s₀ n t i₀ s i = (i ≤ t) × (length s ≡ length s₀) × (iter (markStep tri) i t s ≡ iter (markStep tri) 0 t s₀)
+Inv-loop rows s₀ n t i₀ s i = (i ≤ t) × (length s ≡ length s₀) × (iter (markStep rows) i t s ≡ iter (markStep rows) 0 t s₀)
 
 abbrev μ-loop : tie.MeasureT-loop
-μ-loop tri s₀ n t i₀ s i = t - i
+μ-loop rows s₀ n t i₀ s i = t - i
 
 mark-row-requires : tie.Need-mark-row-requires Inv-loop μ-loop
-mark-row-requires c κs = search (needs, named-at)
+mark-row-requires c κs = search (needs, not-misnamed)
 
 loop-again : tie.Need-loop-again Inv-loop μ-loop
 loop-again c = search (needs, looping)

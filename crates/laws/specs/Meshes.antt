@@ -1,0 +1,61 @@
+-- The mesh in the tables by its counts, its rows alone, and what a lawful mesh tells of nodes and rows by number. Assumes nothing.
+use mathlib.Core.Path.{_≡_, refl}
+use mathlib.Core.Bool.{true}
+use mathlib.Core.List.{List, []}
+use Prim.Native.Nat.{ℕ, _*_, _≤_, _<_}
+use native.Mathlib.Omega.{arith}
+use lib.IntN.{ℤ}
+use lib.ListN.{length}
+use Rattle.lists.specs.ListsLaw.{All-at}
+use Rattle.lists.specs.Search.{items}
+use Rattle.lists.specs.IterLaw.{length-items, getD-items}
+use Rattle.lists.specs.ByNumberLaw.{items-in}
+use Rattle.meaning.specs.Mesh.{Mesh, Arrow, mesh, at, origin, tri, holdsArrow}
+use Rattle.meaning.specs.Lawful.{Named, Lawful}
+use Rattle.meaning.specs.Tables.{placeAt, rowAt, given, meshOf}
+use Rattle.laws.specs.Pairs.{RowsOnce, arrows-once, row-once, holder-place}
+
+-- the first n nodes and t rows
+unfoldable pub meshAt : List ℤ → List ℕ → ℕ → ℕ → Mesh
+meshAt nodes rows n t = mesh (items (placeAt nodes) 0 n) (items (rowAt rows) 0 t)
+
+-- the first t rows, without nodes: G1 and G2 ask for no place
+abbrev pub rowsAlone : List ℕ → ℕ → Mesh
+rowsAlone rows t = mesh [] (items (rowAt rows) 0 t)
+
+-- what the code relies on of the rows
+pub record Fair (rows : List ℕ) (n t : ℕ) : Type 0 where
+  pub room : 3 * t ≤ length rows
+  pub few : t ≤ 87_382
+  pub named : (i : ℕ) → i < t → Named n (rowAt rows i)
+  pub once : RowsOnce (items (rowAt rows) 0 t)
+
+module _ (nodes : List ℤ) (rows : List ℕ) (n t : ℕ) where
+  pub mesh-is : (scratch : List ℕ) → meshOf (given nodes rows scratch n t) ≡ meshAt nodes rows n t
+  unfolding meshAt meshOf
+  mesh-is scratch = refl
+
+  pub count-nodes : length (meshAt nodes rows n t .nodes) ≡ n
+  unfolding meshAt
+  count-nodes = length-items (placeAt nodes) n
+
+  pub place-is : (k : ℕ) → k < n → at (meshAt nodes rows n t) k ≡ placeAt nodes k
+  unfolding meshAt
+  place-is k h = getD-items (placeAt nodes) n k origin h
+
+  module _ (law : Lawful (meshAt nodes rows n t)) where
+    pub row-named : (i : ℕ) → i < t → Named n (rowAt rows i)
+    unfolding meshAt
+    row-named i h = rw (length-items (placeAt nodes) n) at (All-at (law .named) (items-in (rowAt rows) t i h))
+
+    -- a directed edge is in one row
+    pub holder-at : (e : Arrow) (i j : ℕ) → i < t → j < t → holdsArrow e (rowAt rows i) ≡ true → holdsArrow e (rowAt rows j) ≡ true → i ≡ j
+    unfolding meshAt
+    holder-at e i j h k p q =
+        let l : length (items (rowAt rows) 0 t) ≡ t = length-items (rowAt rows) t in
+        holder-place e (items (rowAt rows) 0 t) (arrows-once (meshAt nodes rows n t) law) i j (omega arith) (omega arith)
+        (rw (getD-items (rowAt rows) t i (tri 0 0 0) h) p) (rw (getD-items (rowAt rows) t j (tri 0 0 0) k) q)
+
+    pub fair : 3 * t ≤ length rows → length rows ≤ 262_144 → Fair rows n t
+    unfolding meshAt
+    fair h k = record { room = h; few = omega arith; named = row-named; once = row-once (meshAt nodes rows n t) law }

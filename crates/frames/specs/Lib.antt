@@ -1,18 +1,11 @@
--- Document 01, 'The line program', as definitions. Read Digits, Frames, Program in this order; then the texts that are computed.
-pub mod Digits
+-- Document 01, 'The line program', as definitions. Read Frames and Program (and crates/text/specs: Digits, Lines); then the texts that
+-- are computed, and the sentences of 01 that are theorems.
 pub mod Frames
 pub mod Program
 pub mod Worked
-pub mod DigitsLaw
-pub mod Writing
-pub mod HexLaw
-pub mod LinesLaw
-pub mod Left
-pub mod BaseLaw
-pub mod JobLaw
-pub mod LineLaw
-pub mod Reader
-pub mod ReaderLaw
-pub mod Within
+pub mod Answered
+pub mod Sentences
+pub mod AdmitLaw
+pub mod MarksLaw
+pub mod FrameLaw
 pub mod Stays
-pub mod Spoken

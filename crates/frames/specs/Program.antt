@@ -5,8 +5,8 @@ use Prim.Native.Nat.{ℕ}
 use lib.Dec.{eqb}
 use lib.IntN.{pos}
 use lib.ListN.{replicate}
-use Rattle.frames.specs.Digits.{bytes}
-use Rattle.frames.specs.Frames.{Held, held, desk, Step, ff, lineStep}
+use Rattle.text.specs.Digits.{bytes}
+use Rattle.frames.specs.Frames.{Held, held, session, Step, ff, lineStep}
 
 -- "one frame a line, .. ended by byte 0x0A": a line without that byte; or the last one, if it has none
 pub data Line : Type 0 where
@@ -33,7 +33,7 @@ stepOf h endless = ff h
 
 -- "The program holds each table whole, 1,024 rows of triangles included."
 abbrev pub start : Held
-start = held (replicate 1024 (pos 0)) (replicate 3072 0) (replicate 6144 0) (desk 0 0 0 false)
+start = held (replicate 1024 (pos 0)) (replicate 3072 0) (replicate 6144 0) (session 0 0 0 false)
 
 abbrev pub answers : Held → List Line → List ℕ
 answers h [] = []

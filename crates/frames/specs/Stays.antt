@@ -1,104 +1,70 @@
--- The tables stay whole: no line changes a table's length or brings a count past its room. Assumes nothing.
-use mathlib.Core.Path.{_≡_, refl, sym, ap, _∙_}
-use mathlib.Core.Bool.{Bool, true, false, _&&_}
-use mathlib.Core.List.{List, [], _∷_, _++_, map}
+-- What a line leaves fits the program: no line changes a table's length or brings a count past its room, and no answer is longer than
+-- the buffer. Assumes nothing.
+use mathlib.Core.Path.{_≡_, refl, _∙_}
+use mathlib.Core.Bool.{Bool, true, false}
+use mathlib.Core.List.{List, [], _∷_, _++_}
 use mathlib.Core.Option.{Option, none, some}
-use Prim.Native.Nat.{ℕ, zero, suc, _+_, _-_, _*_, _/_, _%_, _≤_, _<_}
+use Prim.Native.Nat.{ℕ, zero, suc, _+_, _*_, _/_, _≤_}
 use native.Mathlib.Omega.{arith}
-use borrow.Author.Tests.{leb-true, ltb-true}
-use lib.Dec.{eqb, leb, ltb}
-use lib.IntN.{ℤ, pos}
-use lib.ListN.{length, drop, replicate, length-append, length-map, length-replicate}
-use lib.Seq.{sets, length-sets}
-use Rattle.lists.specs.Lists.{all, any, first, cases, consIf, joined}
-use Rattle.lists.specs.ListsLaw.{clash, and-left, and-right}
-use Rattle.lists.specs.IterLaw.{length-items}
-use Rattle.meaning.specs.declared.Place.{Place}
+use borrow.Author.Tests.{eqb-true}
+use lib.Dec.{eqb}
+use lib.IntN.{pos}
+use lib.ListN.{length, length-append, length-map, length-replicate}
+use Rattle.lists.specs.Lists.{any, first, cases, joined}
+use Rattle.lists.specs.ListsLaw.{and-right}
 use Rattle.meaning.specs.declared.Tri.{Tri}
 use Rattle.meaning.specs.Mesh.{Mesh, sameTri}
 use Rattle.meaning.specs.Lawful.{refusal}
-use Rattle.meaning.specs.Split.{Way, newest, splitEdges, started, refined, halves}
+use Rattle.meaning.specs.Split.{newest, refined}
 use Rattle.meaning.specs.Good.{Brothers, pairs}
-use Rattle.meaning.specs.Coarsen.{becomes, fate, stays, staying, renamed, without, taken, coarsened, goodNodes, allMarked, pass, Restored, more, run, restored}
-use Rattle.meaning.specs.Tables.{Given, given, Outcome, outcome, answer, placeAt, rowAt, meshOf, Room, roomOf, flatNodes, flatRows, filled, cleared}
-use Rattle.meaning.specs.Calls.{Reply, says, unless, orElse, marksFit, fits, checkNo, refineNo, coarsenNo, refines, coarsens, restores, sizesFit, untouched, done, leaves, left, sized, checkOut, refineOut, coarsenOut, restoreOut}
-use Rattle.frames.specs.Digits.{number, field, listed, signed}
-use Rattle.frames.specs.Frames.{Held, held, desk, givenBy, Step, step, ff, answerLine, addNode, addRow, checked, checkBase, baseFrame, worked, allBelow, marksOf, refineListed, coarsenListed, restoreBase, jobFrame, shown, showAll, wellFormed, frame, lineStep}
+use Rattle.meaning.specs.Coarsen.{becomes, fate, renamed, without, taken, coarsened, allMarked, pass, Restored, restored}
+use Rattle.meaning.specs.Tables.{Given, Outcome, meshOf, roomOf, filled}
+use Rattle.meaning.specs.Calls.{says, checkNo, refineNo, coarsenNo, refines, coarsens, restores, sizesFit, untouched, left, sized, checkOut, refineOut, coarsenOut, restoreOut}
+use Rattle.laws.specs.Coarsen.{coarsened-count}
+use Rattle.laws.specs.Refine.{newest-done}
+use Rattle.laws.specs.Restore.{Passes, none-good, one-pass, restored-is, restored-fewer}
+use Rattle.laws.specs.TableMesh.{nodes-count, rows-count, filled-length, done-nodes, done-rows}
+use Rattle.tables.specs.PutLaw.{length-setPlace, length-setRow}
+use Rattle.text.specs.Digits.{listed}
+use Rattle.text.specs.Lines.{placeIn, rowIn, answerLine}
+use Rattle.text.specs.LinesAre.{answer-length, all-length}
+use Rattle.frames.specs.Frames.{Held, held, session, givenBy, Step, step, ff, wellFormed, admits, takes, kindOf, fieldsOf, addNode, addRow, orDropped, marksOf, called, sessionAfter, answering, frame, lineStep}
+use Rattle.frames.specs.Answered.{Whole, WholeHeld}
+use Rattle.frames.specs.AdmitLaw.{node-room, row-room}
 
--- ---- a coarsened mesh is no larger
+-- ---- coarsening and restoring add no row
 
-record Within (m m′ : Mesh) : Type 0 where
-  nodes : length (m′ .nodes) ≤ length (m .nodes)
-  rows : length (m′ .tris) ≤ length (m .tris)
+becomes-one : (t : Tri) (o : Option Brothers) (b : Bool) → length (becomes t o b) ≤ 1
+becomes-one t (some x) b = omega arith
+becomes-one t none true = omega arith
+becomes-one t none false = omega arith
 
-consIf-length : {A : Type 0} (b : Bool) (a : A) (l : List A) (n : ℕ) → length l ≤ n → length (consIf b a l) ≤ suc n
-consIf-length true a l n h = omega arith
-consIf-length false a l n h = omega arith
+fates-fewer : (bs : List Brothers) (ts : List Tri) → length (joined (fate bs) ts) ≤ length ts
+fates-fewer bs [] = omega arith
+fates-fewer bs (t ∷ ts) =
+    omega (
+      arith,
+      fates-fewer bs ts,
+      length-append (fate bs t) (joined (fate bs) ts),
+      becomes-one t (first (λ b. sameTri (b .left) t) bs) (any (λ b. sameTri (b .right) t) bs),
+    )
 
-staying-length : (zs : List ℕ) (i : ℕ) (ns : List Place) → length (staying zs i ns) ≤ length ns
-staying-length zs i [] = omega arith
-staying-length zs i (a ∷ ns) = consIf-length (stays zs i) a (staying zs (suc i) ns) (length ns) (staying-length zs (suc i) ns)
+coarsened-rows : (n0 : ℕ) (m : Mesh) (marks : List ℕ) → length (coarsened n0 m marks .tris) ≤ length (m .tris)
+unfolding coarsened without
+coarsened-rows n0 m marks =
+    let zs = taken n0 m marks in
+    rw (length-map (joined (fate (joined (pairs m) zs)) (m .tris)) (renamed zs)) (fates-fewer (joined (pairs m) zs) (m .tris))
 
-becomes-length : (t : Tri) (o : Option Brothers) (b : Bool) → length (becomes t o b) ≤ 1
-becomes-length t (some x) b = omega arith
-becomes-length t none true = omega arith
-becomes-length t none false = omega arith
-
-fates-length : (bs : List Brothers) (ts : List Tri) → length (joined (fate bs) ts) ≤ length ts
-fates-length bs [] = omega arith
-fates-length bs (t ∷ ts) =
-    let a = becomes-length t (first (λ b. sameTri (b .left) t) bs) (any (λ b. sameTri (b .right) t) bs) in
-    let e = length-append (fate bs t) (joined (fate bs) ts) in
-    let h = fates-length bs ts in
-    omega (arith, a, e, h)
-
-without-within : (m : Mesh) (zs : List ℕ) → Within m (without m zs)
-unfolding without
-without-within m zs = record {
-  nodes = staying-length zs 0 (m .nodes);
-  rows = rw (length-map (joined (fate (joined (pairs m) zs)) (m .tris)) (renamed zs)) (fates-length (joined (pairs m) zs) (m .tris));
-}
-
-coarsened-within : (n0 : ℕ) (m : Mesh) (marks : List ℕ) → Within m (coarsened n0 m marks)
-unfolding coarsened
-coarsened-within n0 m marks = without-within m (taken n0 m marks)
-
-pass-within : (n0 : ℕ) (m : Mesh) → Within m (pass n0 m)
+pass-rows : (n0 : ℕ) (m : Mesh) → length (pass n0 m .tris) ≤ length (m .tris)
 unfolding pass
-pass-within n0 m = coarsened-within n0 m (allMarked (m .nodes))
+pass-rows n0 m = coarsened-rows n0 m (allMarked (m .nodes))
 
-within-trans : {a b c : Mesh} → Within a b → Within b c → Within a c
-within-trans f g = record { nodes = omega (arith, f .nodes, g .nodes); rows = omega (arith, f .rows, g .rows) }
+passes-rows : {n0 : ℕ} {m : Mesh} {r : Restored} → Passes n0 m r → length (r .end .tris) ≤ length (m .tris)
+passes-rows (none-good e) = omega arith
+passes-rows {n0} {m} (one-pass z zs e p) = omega (arith, passes-rows p, pass-rows n0 m)
 
-within-self : (m : Mesh) → Within m m
-within-self m = record { nodes = omega arith; rows = omega arith }
+-- ---- what a call leaves: lengths as they were, counts within them
 
-run-within : (k n0 : ℕ) (m : Mesh) → Within m (run k n0 m .end)
-run-within zero n0 m = within-self m
-run-within (suc k) n0 m = go (goodNodes n0 m) (within-trans (pass-within n0 m) (run-within k n0 (pass n0 m)))
-  where
-    go : (g : List ℕ) → Within m (run k n0 (pass n0 m) .end) → Within m (more g m (run k n0 (pass n0 m)) .end)
-    go [] h = within-self m
-    go (z ∷ zs) h = h
-
-restored-within : (n0 : ℕ) (m : Mesh) → Within m (restored n0 m .end)
-unfolding restored
-restored-within n0 m = run-within (length (m .nodes)) n0 m
-
--- ---- what a call leaves
-
-flat-nodes-length : (ns : List Place) → length (flatNodes ns) ≡ 2 * length ns
-flat-nodes-length [] = omega arith
-flat-nodes-length (a ∷ ns) = omega (arith, flat-nodes-length ns)
-
-flat-rows-length : (ts : List Tri) → length (flatRows ts) ≡ 3 * length ts
-flat-rows-length [] = omega arith
-flat-rows-length (t ∷ ts) = omega (arith, flat-rows-length ts)
-
-filled-length : {A : Type 0} (z : A) (len : ℕ) (xs : List A) → length xs ≤ len → length (filled z len xs) ≡ len
-filled-length z len xs h = omega (arith, length-append xs (replicate (len - length xs) z), length-replicate (len - length xs) z)
-
--- lengths as they were, counts within them
 record Sound (g : Given) (o : Outcome) : Type 0 where
   nodes : length (o .nodes) ≡ length (g .nodes)
   rows : length (o .rows) ≡ length (g .rows)
@@ -106,220 +72,157 @@ record Sound (g : Given) (o : Outcome) : Type 0 where
   n : 2 * o .answer .n ≤ length (g .nodes)
   t : 3 * o .answer .t ≤ length (g .rows)
 
+pick-sound : (g : Given) (b : Bool) {o p : Outcome} → Sound g o → Sound g p → Sound g (cases b o p)
+pick-sound g true x y = x
+pick-sound g false x y = y
+
 record Counted (g : Given) (m : Mesh) : Type 0 where
   nodes : 2 * length (m .nodes) ≤ length (g .nodes)
   rows : 3 * length (m .tris) ≤ length (g .rows)
-
-sound-done : (g : Given) (m : Mesh) (k : ℕ) → Counted g m → Sound g (done g m k)
-sound-done g m k c = record {
-  nodes = filled-length (pos 0) (length (g .nodes)) (flatNodes (m .nodes)) (omega (arith, flat-nodes-length (m .nodes), c .nodes));
-  rows = filled-length 0 (length (g .rows)) (flatRows (m .tris)) (omega (arith, flat-rows-length (m .tris), c .rows));
-  scratch = length-replicate (length (g .scratch)) 0;
-  n = c .nodes;
-  t = c .rows;
-}
 
 module _ (g : Given) (a : 2 * g .n ≤ length (g .nodes)) (b : 3 * g .t ≤ length (g .rows)) where
   sound-untouched : (k : ℕ) → Sound g (untouched g k)
   sound-untouched k = record { nodes = refl; rows = refl; scratch = length-replicate (length (g .scratch)) 0; n = a; t = b }
 
-  sound-left : (k : ℕ) (m m′ : Mesh) (p : ℕ) → (k ≡ 0 → Counted g m′) → Sound g (left g (says k m m′ p))
-  sound-left zero m m′ p h = sound-done g m′ p (h refl)
-  sound-left (suc k) m m′ p h = sound-untouched (suc k)
-
-  sound-sized : (n0 : ℕ) (o : Outcome) → Sound g o → Sound g (sized g n0 o)
-  sound-sized n0 o h = go (sizesFit g n0)
+  sound-sized : (n0 k : ℕ) (old new : Mesh) (p : ℕ) → (k ≡ 0 → Counted g new) → Sound g (sized g n0 (left g (says k old new p)))
+  sound-sized n0 k old new p = go (sizesFit g n0) k
     where
-      go : (x : Bool) → Sound g (cases x o (untouched g 1))
-      go true = h
-      go false = sound-untouched 1
+      go : (x : Bool) (k : ℕ) → (k ≡ 0 → Counted g new) → Sound g (cases x (left g (says k old new p)) (untouched g 1))
+      go false k h = sound-untouched 1
+      go true (suc k) h = sound-untouched (suc k)
+      go true zero h =
+          let c = h refl in
+          record {
+            nodes = done-nodes g new p (c .nodes) (c .rows);
+            rows = done-rows g new p (c .nodes) (c .rows);
+            scratch = length-replicate (length (g .scratch)) 0;
+            n = c .nodes;
+            t = c .rows;
+          }
 
-  counted-less : (m : Mesh) → Within (meshOf g) m → Counted g m
-  unfolding meshOf
-  counted-less m w =
-      let n = length-items (placeAt (g .nodes)) (g .n) in
-      let t = length-items (rowAt (g .rows)) (g .t) in
-      record { nodes = omega (arith, w .nodes, n); rows = omega (arith, w .rows, t) }
+  counted : (m : Mesh) → length (m .nodes) ≤ length (meshOf g .nodes) → length (m .tris) ≤ length (meshOf g .tris) → Counted g m
+  counted m h k = record { nodes = omega (arith, nodes-count g); rows = omega (arith, rows-count g) }
 
-  counted-fits : (m : Mesh) → fits (roomOf g) m ≡ true → Counted g m
-  counted-fits m e =
-      let x = leb-true (length (m .nodes)) (length (g .nodes) / 2) (and-left (leb (length (m .nodes)) (length (g .nodes) / 2)) (leb (length (m .tris)) (length (g .rows) / 3)) e) in
-      let y = leb-true (length (m .tris)) (length (g .rows) / 3) (and-right (leb (length (m .nodes)) (length (g .nodes) / 2)) (leb (length (m .tris)) (length (g .rows) / 3)) e) in
-      record { nodes = omega (arith, x); rows = omega (arith, y) }
+  sound-dropped : (o : Outcome) → Sound g o → Sound g (orDropped o)
+  sound-dropped o s =
+      pick-sound g (eqb (o .answer .number) 0) s
+      (record {
+        nodes = filled-length (pos 0) (length (o .nodes)) [] (omega arith) ∙ s .nodes;
+        rows = filled-length 0 (length (o .rows)) [] (omega arith) ∙ s .rows;
+        scratch = s .scratch;
+        n = omega arith;
+        t = omega arith;
+      })
 
   sound-check : Sound g (checkOut g)
   unfolding checkOut
-  sound-check = sound-sized 0 (untouched g (checkNo (meshOf g))) (sound-untouched (checkNo (meshOf g)))
+  sound-check = pick-sound g (sizesFit g 0) (sound-untouched (checkNo (meshOf g))) (sound-untouched 1)
 
-  refine-fits : (w : Way) (m : Mesh) (marks : List ℕ) → refineNo w (roomOf g) m marks ≡ 0 → fits (roomOf g) (refined w m marks) ≡ true
-  unfolding refineNo
-  refine-fits w m marks e = go (marksFit (length (m .tris)) marks) (refusal m) (all (halves m) (splitEdges m (started w marks (m .tris)))) (fits (roomOf g) (refined w m marks)) e
-    where
-      go : (x : Bool) (k : ℕ) (y z : Bool) → unless x 2 (orElse k (unless y 8 (unless z 9 0))) ≡ 0 → z ≡ true
-      go false k y z e = absurd (omega arith)
-      go true (suc k) y z e = absurd (omega arith)
-      go true zero false z e = absurd (omega arith)
-      go true zero true false e = absurd (omega arith)
-      go true zero true true e = refl
-
-  sound-refine : (w : Way) (n0 : ℕ) (marks : List ℕ) → Sound g (refineOut w g n0 marks)
+  sound-refine : (n0 : ℕ) (marks : List ℕ) → Sound g (refineOut newest g n0 marks)
   unfolding refineOut refines
-  sound-refine w n0 marks =
-      sound-sized n0 (left g (refines w (roomOf g) (meshOf g) marks))
-      (sound-left (refineNo w (roomOf g) (meshOf g) marks) (meshOf g) (refined w (meshOf g) marks) 0
-      (λ e. counted-fits (refined w (meshOf g) marks) (refine-fits w (meshOf g) marks e)))
+  sound-refine n0 marks =
+      sound-sized n0 (refineNo newest (roomOf g) (meshOf g) marks) (meshOf g) (refined newest (meshOf g) marks) 0
+      (λ e. let f = newest-done (roomOf g) (meshOf g) marks e .fit in record { nodes = omega (arith, f .nodes-fit); rows = omega (arith, f .rows-fit) })
 
   sound-coarsen : (n0 : ℕ) (marks : List ℕ) → Sound g (coarsenOut g n0 marks)
   unfolding coarsenOut coarsens
   sound-coarsen n0 marks =
-      sound-sized n0 (left g (coarsens n0 (meshOf g) marks))
-      (sound-left (coarsenNo (meshOf g) marks) (meshOf g) (coarsened n0 (meshOf g) marks) 0
-      (λ e. counted-less (coarsened n0 (meshOf g) marks) (coarsened-within n0 (meshOf g) marks)))
+      let m = meshOf g in
+      sound-sized n0 (coarsenNo m marks) m (coarsened n0 m marks) 0 (λ e. counted (coarsened n0 m marks) (omega (arith, coarsened-count n0 m marks)) (coarsened-rows n0 m marks))
 
   sound-restore : (n0 : ℕ) → Sound g (restoreOut g n0)
   unfolding restoreOut restores
   sound-restore n0 =
-      sound-sized n0 (left g (restores n0 (meshOf g)))
-      (sound-left (refusal (meshOf g)) (meshOf g) (restored n0 (meshOf g) .end) (restored n0 (meshOf g) .passes)
-      (λ e. counted-less (restored n0 (meshOf g) .end) (restored-within n0 (meshOf g))))
+      let m = meshOf g in
+      let r : Restored = restored n0 m in
+      sound-sized n0 (refusal m) m (r .end) (r .passes) (λ e. counted (r .end) (omega (arith, restored-fewer n0 m)) (passes-rows (restored-is n0 m)))
 
 -- ---- what a line leaves
 
-pub record WholeHeld (h : Held) : Type 0 where
-  pub nodes : length (h .nodes) ≡ 1024
-  pub rows : length (h .rows) ≡ 3072
-  pub scratch : length (h .scratch) ≡ 6144
-  pub few-nodes : h .desk .n ≤ 512
-  pub few-rows : h .desk .t ≤ 1024
+pub record Fine (ol : ℕ) (s : Step) : Type 0 where
+  pub next : WholeHeld (s .next) ol
+  pub few : length (s .text) ≤ 32768
 
-record WholeStep (s : Step) : Type 0 where
-  next : WholeHeld (s .next)
+either : (ol : ℕ) (b : Bool) {x y : Step} → (b ≡ true → Fine ol x) → Fine ol y → Fine ol (cases b x y)
+either ol true p q = p refl
+either ol false p q = q
 
-either : (b : Bool) {x y : Step} → (b ≡ true → WholeStep x) → WholeStep y → WholeStep (cases b x y)
-either true p q = p refl
-either false p q = q
+module _ (h : Held) (ol : ℕ) (w : WholeHeld h ol) where
+  called-sound : (kind : ℕ) (fields : List ℕ) → Sound (givenBy h) (called h kind fields)
+  unfolding called
+  called-sound kind fields =
+      let g : Given = givenBy h in
+      let a : 2 * g .n ≤ length (g .nodes) = omega (arith, w .nodes, w .few-nodes) in
+      let b : 3 * g .t ≤ length (g .rows) = omega (arith, w .rows, w .few-rows) in
+      pick-sound g (eqb kind 3) (sound-dropped g a b (checkOut g) (sound-check g a b))
+      (pick-sound g (eqb kind 4) (sound-refine g a b (h .session .n0) (marksOf (h .session .t) (listed fields)))
+      (pick-sound g (eqb kind 5) (sound-coarsen g a b (h .session .n0) (marksOf (h .session .n) (listed fields)))
+      (sound-restore g a b (h .session .n0))))
 
-module _ (h : Held) (w : WholeHeld h) where
-  same : (text : List ℕ) → WholeStep (step h text)
-  same text = record { next = w }
-
-  sound-whole : (o : Outcome) → Sound (givenBy h) o → (n0 : ℕ) (b : Bool) → WholeHeld (held (o .nodes) (o .rows) (o .scratch) (desk (o .answer .n) (o .answer .t) n0 b))
-  sound-whole o s n0 b = record {
-    nodes = s .nodes ∙ w .nodes;
-    rows = s .rows ∙ w .rows;
-    scratch = s .scratch ∙ w .scratch;
-    few-nodes = omega (arith, s .n, w .nodes);
-    few-rows = omega (arith, s .t, w .rows);
-  }
-
-  n-in : 2 * givenBy h .n ≤ length (givenBy h .nodes)
-  n-in = omega (arith, w .nodes, w .few-nodes)
-
-  t-in : 3 * givenBy h .t ≤ length (givenBy h .rows)
-  t-in = omega (arith, w .rows, w .few-rows)
-
-  worked-whole : (k : ℕ) (o : Outcome) → Sound (givenBy h) o → WholeStep (worked h k o)
-  worked-whole k o s = record { next = sound-whole o s (h .desk .n0) (h .desk .accepted) }
-
-  checked-whole : (o : Outcome) → Sound (givenBy h) o → WholeStep (checked h o)
-  checked-whole o s =
-      let z : WholeHeld (held (replicate (length (o .nodes)) (pos 0)) (cleared (o .rows)) (o .scratch) (desk 0 0 0 false)) =
-      record {
-        nodes = length-replicate (length (o .nodes)) (pos 0) ∙ s .nodes ∙ w .nodes;
-        rows = length-replicate (length (o .rows)) 0 ∙ s .rows ∙ w .rows;
+  answering-fine : (kind : ℕ) (o : Outcome) → Sound (givenBy h) o → Fine ol (answering h kind o)
+  unfolding sessionAfter
+  answering-fine kind o s = record { next = go (eqb kind 3); few = omega (arith, answer-length kind (o .answer)) }
+    where
+      whole : (n0 : ℕ) (b : Bool) → WholeHeld (held (o .nodes) (o .rows) (o .scratch) (session (o .answer .n) (o .answer .t) n0 b)) ol
+      whole n0 b = record {
+        nodes = s .nodes ∙ w .nodes;
+        rows = s .rows ∙ w .rows;
         scratch = s .scratch ∙ w .scratch;
-        few-nodes = omega arith;
-        few-rows = omega arith;
-      } in
-      let y : WholeStep (step (held (o .nodes) (o .rows) (o .scratch) (desk (o .answer .n) (o .answer .t) (o .answer .n) true)) (answerLine 3 (o .answer))) =
-      record { next = sound-whole o s (o .answer .n) true } in
-      let x : WholeStep (step (held (replicate (length (o .nodes)) (pos 0)) (cleared (o .rows)) (o .scratch) (desk 0 0 0 false)) (answerLine 3 (answer (o .answer .number) 0 0 0))) = record { next = z } in
-      either (eqb (o .answer .number) 0) (λ e. y) x
+        out = w .out;
+        few-nodes = omega (arith, s .n, w .nodes);
+        few-rows = omega (arith, s .t, w .rows);
+      }
 
-  module _ (l : List ℕ) where
-    node-whole : WholeStep (addNode h l)
+      go : (x : Bool) → WholeHeld (held (o .nodes) (o .rows) (o .scratch) (cases x (session (o .answer .n) (o .answer .t) (o .answer .n) (eqb (o .answer .number) 0)) (session (o .answer .n) (o .answer .t) (h .session .n0) (h .session .accepted)))) ol
+      go true = whole (o .answer .n) (eqb (o .answer .number) 0)
+      go false = whole (h .session .n0) (h .session .accepted)
+
+  module _ (kind : ℕ) (fields : List ℕ) (y : admits (h .session) kind fields ≡ true) where
+    node-fine : kind ≡ 1 → Fine ol (step (addNode h fields) [])
     unfolding addNode
-    node-whole =
-        either (eqb (length l) 16 && ltb (h .desk .n) 512)
-        (λ e.
-        let b = ltb-true (h .desk .n) 512 (and-right (eqb (length l) 16) (ltb (h .desk .n) 512) e) in
+    node-fine e =
+        let r = node-room (h .session) kind fields y e in
         record {
           next = record {
-            nodes = length-sets (h .nodes) (2 * h .desk .n) (signed (field 8 l 0) ∷ signed (field 8 l 1) ∷ []) ∙ w .nodes;
+            nodes = length-setPlace (h .nodes) (h .session .n) (placeIn fields) ∙ w .nodes;
             rows = w .rows;
             scratch = w .scratch;
-            few-nodes = omega (arith, b);
+            out = w .out;
+            few-nodes = omega arith;
             few-rows = w .few-rows;
           };
-        })
-        (same _)
+          few = omega arith;
+        }
 
-    row-whole : WholeStep (addRow h l)
+    row-fine : kind ≡ 2 → Fine ol (step (addRow h fields) [])
     unfolding addRow
-    row-whole =
-        either (eqb (length l) 12 && ltb (h .desk .t) 1024)
-        (λ e.
-        let b = ltb-true (h .desk .t) 1024 (and-right (eqb (length l) 12) (ltb (h .desk .t) 1024) e) in
+    row-fine e =
+        let r = row-room (h .session) kind fields y e in
         record {
           next = record {
             nodes = w .nodes;
-            rows = length-sets (h .rows) (3 * h .desk .t) (field 4 l 0 ∷ field 4 l 1 ∷ field 4 l 2 ∷ []) ∙ w .rows;
+            rows = length-setRow (h .rows) (h .session .t) (rowIn fields) ∙ w .rows;
             scratch = w .scratch;
+            out = w .out;
             few-nodes = w .few-nodes;
-            few-rows = omega (arith, b);
+            few-rows = omega arith;
           };
-        })
-        (same _)
+          few = omega arith;
+        }
 
-    check-whole : WholeStep (checkBase h l)
-    unfolding checkBase
-    check-whole = either (eqb (length l) 0) (λ e. checked-whole (checkOut (givenBy h)) (sound-check (givenBy h) n-in t-in)) (same _)
-
-    base-whole : (kind : ℕ) → WholeStep (baseFrame h kind l)
-    unfolding baseFrame
-    base-whole kind =
-        either (h .desk .accepted) (λ e. same _)
-        (either (eqb kind 1) (λ e. node-whole)
-        (either (eqb kind 2) (λ e. row-whole)
-        (either (eqb kind 3) (λ e. check-whole)
-        (same _))))
-
-    refine-whole : WholeStep (refineListed h l)
-    unfolding refineListed
-    refine-whole =
-        let o = refineOut newest (givenBy h) (h .desk .n0) (marksOf (h .desk .t) (listed l)) in
-        either (eqb (length l % 4) 0 && allBelow (h .desk .t) (listed l))
-        (λ e. worked-whole 4 o (sound-refine (givenBy h) n-in t-in newest (h .desk .n0) (marksOf (h .desk .t) (listed l))))
-        (same _)
-
-    coarsen-whole : WholeStep (coarsenListed h l)
-    unfolding coarsenListed
-    coarsen-whole =
-        let o = coarsenOut (givenBy h) (h .desk .n0) (marksOf (h .desk .n) (listed l)) in
-        either (eqb (length l % 4) 0 && allBelow (h .desk .n) (listed l))
-        (λ e. worked-whole 5 o (sound-coarsen (givenBy h) n-in t-in (h .desk .n0) (marksOf (h .desk .n) (listed l))))
-        (same _)
-
-    restore-whole : WholeStep (restoreBase h l)
-    unfolding restoreBase
-    restore-whole = either (eqb (length l) 0) (λ e. worked-whole 6 (restoreOut (givenBy h) (h .desk .n0)) (sound-restore (givenBy h) n-in t-in (h .desk .n0))) (same _)
-
-    job-whole : (kind : ℕ) → WholeStep (jobFrame h kind l)
-    unfolding jobFrame
-    job-whole kind =
-        either (h .desk .accepted)
-        (λ e. either (eqb kind 4) (λ e. refine-whole) (either (eqb kind 5) (λ e. coarsen-whole) (either (eqb kind 6) (λ e. restore-whole) (same _))))
-        (same _)
-
-    show-whole : WholeStep (showAll h l)
-    unfolding showAll
-    show-whole = either (eqb (length l) 0) (λ e. same (shown h)) (same _)
-
-    frame-whole : (kind : ℕ) → WholeStep (frame h kind l)
+    frame-fine : Fine ol (frame h kind fields)
     unfolding frame
-    frame-whole kind = either (leb kind 3) (λ e. base-whole kind) (either (leb kind 6) (λ e. job-whole kind) (either (eqb kind 7) (λ e. show-whole) (same _)))
+    frame-fine =
+        either ol (eqb kind 1) (λ e. node-fine (eqb-true kind 1 e))
+        (either ol (eqb kind 2) (λ e. row-fine (eqb-true kind 2 e))
+        (either ol (eqb kind 7)
+        (λ e. record { next = w; few = omega (arith, all-length (h .nodes) (h .rows) (h .session .n) (h .session .t), w .few-nodes, w .few-rows) })
+        (answering-fine kind (called h kind fields) (called-sound kind fields))))
 
 -- whatever line comes
-pub line-whole : (h : Held) (l : List ℕ) → WholeHeld h → WholeHeld (lineStep h l .next)
-unfolding lineStep
-line-whole h l w = either (wellFormed l) (λ e. frame-whole h w (drop 2 l) (number 2 l 0)) (same h w _) .next
+pub line-fine : (h : Held) (ol : ℕ) (line : List ℕ) → WholeHeld h ol → Fine ol (lineStep h line)
+unfolding lineStep takes
+line-fine h ol line w =
+    either ol (takes (h .session) line)
+    (λ e. frame-fine h ol w (kindOf line) (fieldsOf line) (and-right (wellFormed line) (admits (h .session) (kindOf line) (fieldsOf line)) e))
+    (record { next = w; few = omega arith })

@@ -14,8 +14,10 @@ use Rattle.meaning.specs.Good.{pairs, span, G1-4, good}
 use Rattle.meaning.specs.Coarsen.{taken, without, coarsened, goodNodes, pass, restored}
 use Rattle.meaning.specs.Tables.{placeAt, rowAt, meshOf}
 use Rattle.meaning.specs.Calls.{checkNo, refineNo, coarsenNo, checks, refines, coarsens, restores, sizesFit, checkOut, refineOut, coarsenOut, restoreOut}
-use Rattle.frames.specs.Digits.{bytes, isDigit, worth, number, listed, signed, unsigned, hexDigit, hex}
-use Rattle.frames.specs.Frames.{answerLine, addNode, addRow, checkBase, baseFrame, marksOf, refineListed, coarsenListed, restoreBase, jobFrame, nodeLine, rowLine, shown, showAll, wellFormed, frame, lineStep, Held, held, desk, Step, step}
+use Rattle.tables.specs.Put.{setPlace, setRow}
+use Rattle.text.specs.Digits.{bytes, isDigit, worth, number, listed, signed, unsigned, hexDigit, hex}
+use Rattle.text.specs.Lines.{placeIn, rowIn, answerLine, nodeLine, rowLine, allLines}
+use Rattle.frames.specs.Frames.{wellFormed, listsBelow, admits, takes, addNode, addRow, marksOf, called, sessionAfter, frame, lineStep, Held, held, session, Step, step}
 use Rattle.frames.specs.Program.{program, start}
 
 -- ---- whole texts
@@ -70,6 +72,8 @@ talks =
     talk
     "010000000000000000\n010000001000000000\n010000000000000010\n010000000400000004\n02000000010003\n02000100020003\n02000200000003\n03\n07\n"
     "030a000000000000\n" ∷
+    -- values are judged only by 03: a node number too high is 4, one node twice too
+    talk "010000000000000000\n02000000010002\n03\n07\n010000000000000000\n02000000000000\n03\n" "0304000000000000\n0304000000000000\n" ∷
     -- 04: none listed, one twice, all; t itself, a number and a half
     on "04\n07\n" "0400000400020000\n010000000000000000\n010000000800000000\n010000000800000008\n010000000000000008\n02000100020000\n02000300000002\n" ∷
     on "0400000000\n" "0400000500040000\n" ∷
@@ -90,9 +94,9 @@ talks =
     said (bytes "03" ++ replicate 298 0x30 ++ bytes "\n03\n") (bytes "ff\n0300000000000000\n") ∷
     []
 
-spoken : map (λ t. program (t .says)) talks ≡ map (λ t. t .hears) talks
-unfolding talks said talk square on lowest lowestFrom items itemsFrom twiceArea refusal compatible faultOf firstOutside firstMisnamed firstRepeat firstFlat firstUnused firstClash closure splitEdges splitAt split refined pairs span G1-4 good taken without coarsened goodNodes pass restored placeAt rowAt meshOf checkNo refineNo coarsenNo checks refines coarsens restores sizesFit checkOut refineOut coarsenOut restoreOut isDigit worth number listed signed unsigned hexDigit hex answerLine addNode addRow checkBase baseFrame marksOf refineListed coarsenListed restoreBase jobFrame nodeLine rowLine shown showAll wellFormed frame lineStep program
-spoken = refl
+talks-heard : map (λ t. program (t .says)) talks ≡ map (λ t. t .hears) talks
+unfolding talks said talk square on lowest lowestFrom items itemsFrom twiceArea refusal compatible faultOf firstOutside firstMisnamed firstRepeat firstFlat firstUnused firstClash closure splitEdges splitAt split refined pairs span G1-4 good taken without coarsened goodNodes pass restored placeAt rowAt meshOf checkNo refineNo coarsenNo checks refines coarsens restores sizesFit checkOut refineOut coarsenOut restoreOut setPlace setRow isDigit worth number listed signed unsigned hexDigit hex placeIn rowIn answerLine nodeLine rowLine allLines wellFormed listsBelow admits takes addNode addRow marksOf called sessionAfter frame lineStep program
+talks-heard = refl
 
 -- ---- single lines, on tables of any size
 
@@ -106,7 +110,7 @@ only h a b = record { got = lineStep h (bytes a); expected = step h (bytes b) }
 
 -- full tables, and tables with no room to grow
 full : Held
-full = held (replicate 1024 (negsuc 6)) (replicate 3072 7) [] (desk 512 1024 0 false)
+full = held (replicate 1024 (negsuc 6)) (replicate 3072 7) [] (session 512 1024 0 false)
 
 tight : Held
 tight =
@@ -114,7 +118,7 @@ tight =
     (pos 0 ∷ pos 0 ∷ pos 8 ∷ pos 0 ∷ pos 8 ∷ pos 8 ∷ pos 0 ∷ pos 8 ∷ [])
     (1 ∷ 2 ∷ 0 ∷ 3 ∷ 0 ∷ 2 ∷ [])
     (replicate 24 0)
-    (desk 4 2 4 true)
+    (session 4 2 4 true)
 
 rows : List Row
 rows =
@@ -122,26 +126,26 @@ rows =
     only full "010000000000000000" "ff\n" ∷
     only full "02000000010002" "ff\n" ∷
     record {
-      got = lineStep (held (replicate 1024 (pos 0)) [] [] (desk 511 0 0 false)) (bytes "01fffffffd0000000a");
-      expected = step (held (replicate 1022 (pos 0) ++ negsuc 2 ∷ pos 10 ∷ []) [] [] (desk 512 0 0 false)) [];
+      got = lineStep (held (replicate 1024 (pos 0)) [] [] (session 511 0 0 false)) (bytes "01fffffffd0000000a");
+      expected = step (held (replicate 1022 (pos 0) ++ negsuc 2 ∷ pos 10 ∷ []) [] [] (session 512 0 0 false)) [];
     } ∷
     record {
-      got = lineStep (held [] (replicate 3072 0) [] (desk 0 1023 0 false)) (bytes "02000100ff0abc");
-      expected = step (held [] (replicate 3069 0 ++ 1 ∷ 255 ∷ 2748 ∷ []) [] (desk 0 1024 0 false)) [];
+      got = lineStep (held [] (replicate 3072 0) [] (session 0 1023 0 false)) (bytes "02000100ff0abc");
+      expected = step (held [] (replicate 3069 0 ++ 1 ∷ 255 ∷ 2748 ∷ []) [] (session 0 1024 0 false)) [];
     } ∷
     -- growth past the rooms is 9
     only tight "040000" "0409000400020000\n" ∷
     -- a refused 03 leaves zeros, an accepted one the rows as they are
     record {
-      got = lineStep (held (pos 5 ∷ negsuc 5 ∷ pos 1 ∷ pos 1 ∷ []) (9 ∷ 9 ∷ 9 ∷ 9 ∷ 9 ∷ 9 ∷ []) (replicate 16 3) (desk 1 1 0 false)) (bytes "03");
-      expected = step (held (replicate 4 (pos 0)) (replicate 6 0) (replicate 16 0) (desk 0 0 0 false)) (bytes "0304000000000000\n");
+      got = lineStep (held (pos 5 ∷ negsuc 5 ∷ pos 1 ∷ pos 1 ∷ []) (9 ∷ 9 ∷ 9 ∷ 9 ∷ 9 ∷ 9 ∷ []) (replicate 16 3) (session 1 1 0 false)) (bytes "03");
+      expected = step (held (replicate 4 (pos 0)) (replicate 6 0) (replicate 16 0) (session 0 0 0 false)) (bytes "0304000000000000\n");
     } ∷
     record {
-      got = lineStep (held (tight .nodes) (tight .rows) (replicate 24 3) (desk 4 2 0 false)) (bytes "03");
+      got = lineStep (held (tight .nodes) (tight .rows) (replicate 24 3) (session 4 2 0 false)) (bytes "03");
       expected = step tight (bytes "0300000400020000\n");
     } ∷
     []
 
-stepped : map (λ r. r .got) rows ≡ map (λ r. r .expected) rows
-unfolding rows only full tight lowest lowestFrom items itemsFrom twiceArea refusal compatible faultOf firstOutside firstMisnamed firstRepeat firstFlat firstUnused firstClash closure splitEdges splitAt split refined pairs span G1-4 good taken without coarsened goodNodes pass restored placeAt rowAt meshOf checkNo refineNo coarsenNo checks refines coarsens restores sizesFit checkOut refineOut coarsenOut restoreOut isDigit worth number listed signed unsigned hexDigit hex answerLine addNode addRow checkBase baseFrame marksOf refineListed coarsenListed restoreBase jobFrame nodeLine rowLine shown showAll wellFormed frame lineStep
-stepped = refl
+lines-stepped : map (λ r. r .got) rows ≡ map (λ r. r .expected) rows
+unfolding rows only full tight lowest lowestFrom items itemsFrom twiceArea refusal compatible faultOf firstOutside firstMisnamed firstRepeat firstFlat firstUnused firstClash closure splitEdges splitAt split refined pairs span G1-4 good taken without coarsened goodNodes pass restored placeAt rowAt meshOf checkNo refineNo coarsenNo checks refines coarsens restores sizesFit checkOut refineOut coarsenOut restoreOut setPlace setRow isDigit worth number listed signed unsigned hexDigit hex placeIn rowIn answerLine nodeLine rowLine allLines wellFormed listsBelow admits takes addNode addRow marksOf called sessionAfter frame lineStep
+lines-stepped = refl

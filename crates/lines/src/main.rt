@@ -1,18 +1,18 @@
-// The line program of document 01. It only moves bytes from standard input to standard output: `frames` cuts them into lines and
-// answers each; the tables are here.
-use frames::Desk;
+// The line program of document 01. It only moves bytes from standard input to standard output: `reader` cuts them into lines and
+// `frames` answers each; the tables are here.
+use frames::Session;
 
-// What is carried from byte to byte: how many bytes of the line there are so far, the desk, and whether to go on.
+// What is carried from byte to byte: how many bytes of the line there are so far, the session, and whether to go on.
 struct Talk {
     used: usize,
-    desk: Desk,
+    session: Session,
     on: bool,
 }
 
 fn start() -> Talk {
     Talk {
         used: 0,
-        desk: Desk {
+        session: Session {
             n: 0,
             t: 0,
             n0: 0,
@@ -23,10 +23,10 @@ fn start() -> Talk {
 }
 
 fn stopped(talk: Talk) -> Talk {
-    let desk = talk.desk;
+    let session = talk.session;
     Talk {
         used: talk.used,
-        desk,
+        session,
         on: false,
     }
 }
@@ -35,7 +35,7 @@ fn stopped(talk: Talk) -> Talk {
 fn take(
     b: u8,
     talk: Talk,
-    buf: &mut [u8],
+    line: &mut [u8],
     nodes: &mut [i32],
     rows: &mut [u32],
     scratch: &mut [u32],
@@ -44,21 +44,21 @@ fn take(
     if !talk.on {
         return talk;
     }
-    let desk = talk.desk;
-    let took = frames::reader::take_byte(b, talk.used, buf, nodes, rows, scratch, desk, out);
+    let session = talk.session;
+    let took = reader::take_byte(b, talk.used, line, nodes, rows, scratch, session, out);
     let n = took.written;
-    let after = took.desk;
+    let after = took.session;
     if n == 0 {
         return Talk {
             used: took.used,
-            desk: after,
+            session: after,
             on: true,
         };
     }
     let on = io::write_all(1, &out[..n]);
     Talk {
         used: took.used,
-        desk: after,
+        session: after,
         on,
     }
 }
@@ -67,7 +67,7 @@ fn take(
 fn take_piece(
     piece: &[u8],
     first: Talk,
-    buf: &mut [u8],
+    line: &mut [u8],
     nodes: &mut [i32],
     rows: &mut [u32],
     scratch: &mut [u32],
@@ -76,7 +76,7 @@ fn take_piece(
     let mut talk = first;
     let mut i = 0;
     while i < piece.len() {
-        talk = take(piece[i], talk, buf, nodes, rows, scratch, out);
+        talk = take(piece[i], talk, line, nodes, rows, scratch, out);
         i += 1;
     }
     talk
@@ -85,7 +85,7 @@ fn take_piece(
 // Reads once, and takes what came.
 fn read_piece(
     talk: Talk,
-    buf: &mut [u8],
+    line: &mut [u8],
     nodes: &mut [i32],
     rows: &mut [u32],
     scratch: &mut [u32],
@@ -97,12 +97,12 @@ fn read_piece(
         return stopped(talk);
     }
     let n = io::count(got, &piece);
-    take_piece(&piece[..n], talk, buf, nodes, rows, scratch, out)
+    take_piece(&piece[..n], talk, line, nodes, rows, scratch, out)
 }
 
 // A proved loop has to end, and nothing says that the input does: the turns count down from a number that no run uses up.
 fn talk_on(
-    buf: &mut [u8],
+    line: &mut [u8],
     nodes: &mut [i32],
     rows: &mut [u32],
     scratch: &mut [u32],
@@ -111,19 +111,19 @@ fn talk_on(
     let mut talk = start();
     let mut turns = u64::MAX;
     while turns > 0 && talk.on {
-        talk = read_piece(talk, buf, nodes, rows, scratch, out);
+        talk = read_piece(talk, line, nodes, rows, scratch, out);
         turns -= 1;
     }
     talk.used
 }
 
 fn open(out: &mut [u8]) {
-    let n = frames::reader::begin(out);
+    let n = reader::begin(out);
     io::write_all(1, &out[..n]);
 }
 
 fn close(used: usize, out: &mut [u8]) {
-    let n = frames::reader::finish(used, out);
+    let n = reader::finish(used, out);
     io::write_all(1, &out[..n]);
 }
 
@@ -131,9 +131,9 @@ fn main() {
     let mut nodes = [0i32; 1024];
     let mut rows = [0u32; 3072];
     let mut scratch = [0u32; 6144];
-    let mut buf = [0u8; 255];
+    let mut line = [0u8; 255];
     let mut out = [0u8; 32_768];
     open(&mut out);
-    let used = talk_on(&mut buf, &mut nodes, &mut rows, &mut scratch, &mut out);
+    let used = talk_on(&mut line, &mut nodes, &mut rows, &mut scratch, &mut out);
     close(used, &mut out);
 }

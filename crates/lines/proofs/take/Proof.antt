@@ -1,4 +1,4 @@
-use Rattle.frames.specs.Within.{took-within, took-count}
+use Rattle.reader.specs.Within.{took-within, took-count}
 use borrow.Author.Needs.{needs}
 use Rattle.lines.proofs.take.Statement.{statement}
 use Rattle.lines.proofs.take.Tie as tie

@@ -6,10 +6,10 @@ use Rattle.lines.proofs.take_piece.Statement.{statement}
 use Rattle.lines.proofs.take_piece.Tie as tie
 
 abbrev Inv-loop : tie.InvT-loop
-Inv-loop piece buf₀ nodes₀ rows₀ scratch₀ out₀ talk₀ i₀ buf nodes rows scratch out talk i = (length buf ≡ length buf₀) × (length nodes ≡ length nodes₀) × (length rows ≡ length rows₀) × (length scratch ≡ length scratch₀) × (length out ≡ length out₀)
+Inv-loop piece line₀ nodes₀ rows₀ scratch₀ out₀ talk₀ i₀ line nodes rows scratch out talk i = (length line ≡ length line₀) × (length nodes ≡ length nodes₀) × (length rows ≡ length rows₀) × (length scratch ≡ length scratch₀) × (length out ≡ length out₀)
 
 abbrev μ-loop : tie.MeasureT-loop
-μ-loop piece buf₀ nodes₀ rows₀ scratch₀ out₀ talk₀ i₀ buf nodes rows scratch out talk i = length piece - i
+μ-loop piece line₀ nodes₀ rows₀ scratch₀ out₀ talk₀ i₀ line nodes rows scratch out talk i = length piece - i
 
 pub take-piece-spec : {M : Type 1} → statement M
 take-piece-spec =

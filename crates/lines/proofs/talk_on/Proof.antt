@@ -5,10 +5,10 @@ use Rattle.lines.proofs.talk_on.Statement.{statement}
 use Rattle.lines.proofs.talk_on.Tie as tie
 
 abbrev Inv-loop : tie.InvT-loop
-Inv-loop buf₀ nodes₀ rows₀ scratch₀ out₀ talk₀ turns₀ buf nodes rows scratch out talk turns = (length buf ≡ length buf₀) × (length nodes ≡ length nodes₀) × (length rows ≡ length rows₀) × (length scratch ≡ length scratch₀) × (length out ≡ length out₀)
+Inv-loop line₀ nodes₀ rows₀ scratch₀ out₀ talk₀ turns₀ line nodes rows scratch out talk turns = (length line ≡ length line₀) × (length nodes ≡ length nodes₀) × (length rows ≡ length rows₀) × (length scratch ≡ length scratch₀) × (length out ≡ length out₀)
 
 abbrev μ-loop : tie.MeasureT-loop
-μ-loop buf₀ nodes₀ rows₀ scratch₀ out₀ talk₀ turns₀ buf nodes rows scratch out talk turns = turns
+μ-loop line₀ nodes₀ rows₀ scratch₀ out₀ talk₀ turns₀ line nodes rows scratch out talk turns = turns
 
 pub talk-on-spec : {M : Type 1} → statement M
 talk-on-spec =

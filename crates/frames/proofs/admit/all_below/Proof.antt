@@ -1,0 +1,36 @@
+use Rattle.frames.specs.AdmitLaw.{listed-on, listed-off, listed-end}
+use Rattle.text.specs.Digits.{field, listed}
+use Rattle.frames.specs.Frames.{allBelow}
+use Rattle.lists.specs.Search.{items}
+use lib.ListN.{length}
+use Prim.Native.Nat.{_≤_, _-_, _/_}
+use mathlib.Core.Path.{_≡_}
+use borrow.Author.Needs.{needs}
+use Rattle.frames.proofs.admit.all_below.Statement.{statement}
+use Rattle.frames.proofs.admit.all_below.Tie as tie
+
+abbrev Inv-loop : tie.InvT-loop
+Inv-loop fields end count i₀ i = (count ≡ length fields / 4) × (i ≤ count) × (allBelow end (items (field 4 fields) i (length fields / 4)) ≡ allBelow end (listed fields))
+
+abbrev μ-loop : tie.MeasureT-loop
+μ-loop fields end count i₀ i = count - i
+
+loop-holds : tie.Need-loop-holds Inv-loop μ-loop
+unfolding listed
+loop-holds c = search needs
+
+loop-again : tie.Need-loop-again Inv-loop μ-loop
+loop-again c = search (needs, listed-on)
+
+returns : tie.Need-returns Inv-loop μ-loop
+returns c = search (needs, listed-off)
+
+returns-2 : tie.Need-returns-2 Inv-loop μ-loop
+returns-2 c = search (needs, listed-end)
+
+pub all-below-spec : {M : Type 1} → statement M
+all-below-spec =
+    tie.close
+    (tie.spec
+    Inv-loop μ-loop loop-holds (λ c κs. search needs) (λ c. search needs) (λ c. search needs) loop-again
+    returns returns-2)

@@ -1,0 +1,18 @@
+use Rattle.frames.specs.MarksLaw.{marked-count}
+use Rattle.frames.specs.FrameLaw.{coarsen-marked}
+use borrow.Author.Needs.{needs}
+use Rattle.frames.proofs.call.coarsen_listed.Statement.{statement}
+use Rattle.frames.proofs.call.coarsen_listed.Tie as tie
+
+slice-aggregate-coarsen : tie.Need-slice-aggregate-coarsen
+slice-aggregate-coarsen c = search (needs, marked-count)
+
+returns : tie.Need-returns
+returns c = search (needs, coarsen-marked)
+
+pub coarsen-listed-spec : {M : Type 1} → statement M
+coarsen-listed-spec =
+    tie.close
+    (tie.spec
+    (λ c. search needs) (λ c κs. search needs) (λ c. search needs) slice-aggregate-coarsen
+    (λ c κs. search needs) (λ c. search needs) (λ c. search needs) (λ c. search needs) returns)

@@ -1,0 +1,141 @@
+-- Frames and whole lines, in the form in which the code takes them. Assumes nothing.
+use mathlib.Core.Path.{_≡_, refl, sym, ap, _∙_}
+use mathlib.Core.Bool.{Bool, true, false, not, _&&_}
+use mathlib.Core.List.{List, [], _∷_}
+use Prim.Native.Nat.{ℕ, _+_, _-_, _*_, _/_, _≤_, _<_}
+use native.Mathlib.Omega.{arith}
+use borrow.Author.Tests.{eq-eqb, ne-eqb, not-true, not-false}
+use lib.Dec.{eqb}
+use lib.IntN.{ℤ, pos}
+use lib.ListN.{length, take, drop, replicate}
+use Rattle.lists.specs.Lists.{cases}
+use Rattle.lists.specs.Search.{items, itemsFrom, iter}
+use Rattle.meaning.specs.declared.Answer.{Answer}
+use Rattle.meaning.specs.declared.Place.{Place}
+use Rattle.meaning.specs.declared.Tri.{Tri}
+use Rattle.meaning.specs.Split.{newest}
+use Rattle.meaning.specs.Tables.{Given, given, Outcome, outcome, answer, placeAt, rowAt, flatNodes, flatRows, filled}
+use Rattle.meaning.specs.Calls.{checkOut, refineOut, coarsenOut, restoreOut}
+use Rattle.tables.specs.Put.{setPlace, setRow}
+use Rattle.text.specs.Digits.{number, listed}
+use Rattle.text.specs.Lines.{placeIn, rowIn, ffLine, answerLine, allLines}
+use Rattle.text.specs.Writing.{Wrote, wrote, writes}
+use Rattle.frames.specs.declared.Session.{Session}
+use Rattle.frames.specs.declared.Answered.{Answered}
+use Rattle.frames.specs.Frames.{Held, held, session, step, ff, admits, takes, addNode, addRow, orDropped, marksOf, called, sessionAfter, frame, lineStep}
+use Rattle.frames.specs.Answered.{Lent, lent, written, whole, Whole, whole-is, lineLent}
+use Rattle.frames.specs.AdmitLaw.{node-room, row-room, rest-is}
+use Rattle.frames.specs.MarksLaw.{markOne, marked-are}
+
+abbrev answered : Session → ℕ → Answered
+answered s k = record { session = s; written = k }
+
+-- what is held, and what stands in the buffer
+abbrev with : Held → Wrote → Lent
+with h w = record { next = h; text = w }
+
+-- ---- 03: the check's outcome, accepted or dropped
+
+module _ (a : Answer) (ns : List ℤ) (rs sc : List ℕ) (o : Outcome) (c : outcome a ns rs sc ≡ o) where
+  pub check-kept : a .number ≡ 0 → outcome a ns rs sc ≡ orDropped o
+  check-kept z = rw (← c, eq-eqb (a .number) 0 z)
+
+  pub check-dropped : (ns₁ : List ℤ) (rs₁ : List ℕ) → (a .number ≡ 0 → ⊥) → ns₁ ≡ filled (pos 0) (length ns) (flatNodes (items (placeAt ns) 0 0)) →
+      rs₁ ≡ filled 0 (length rs) (flatRows (items (rowAt rs) 0 0)) → outcome (answer (a .number) 0 0 0) ns₁ rs₁ sc ≡ orDropped o
+  unfolding items itemsFrom
+  check-dropped ns₁ rs₁ z f g = rw (← c, ne-eqb (a .number) 0 z, f, g)
+
+-- ---- 03 to 06
+
+module _ (ns : List ℤ) (rs sc : List ℕ) (s : Session) (kind : ℕ) (f : List ℕ) (o : Outcome) where
+  pub called-check : kind ≡ 3 → o ≡ orDropped (checkOut (given ns rs sc (s .n) (s .t))) → o ≡ called (held ns rs sc s) kind f
+  unfolding called
+  called-check k e = e ∙ rw k
+
+  pub called-refine : kind ≡ 4 → o ≡ refineOut newest (given ns rs sc (s .n) (s .t)) (s .n0) (marksOf (s .t) (listed f)) → o ≡ called (held ns rs sc s) kind f
+  unfolding called
+  called-refine k e = e ∙ rw k
+
+  pub called-coarsen : kind ≡ 5 → o ≡ coarsenOut (given ns rs sc (s .n) (s .t)) (s .n0) (marksOf (s .n) (listed f)) → o ≡ called (held ns rs sc s) kind f
+  unfolding called
+  called-coarsen k e = e ∙ rw k
+
+  pub called-restore : (kind ≡ 3 → ⊥) → (kind ≡ 4 → ⊥) → (kind ≡ 5 → ⊥) → o ≡ restoreOut (given ns rs sc (s .n) (s .t)) (s .n0) → o ≡ called (held ns rs sc s) kind f
+  unfolding called
+  called-restore a b c e = e ∙ rw (ne-eqb kind 3 a, ne-eqb kind 4 b, ne-eqb kind 5 c)
+
+-- what is listed, as the code marks it
+module _ (f : List ℕ) (k : ℕ) (m : List ℕ) (g : Given) (n0 : ℕ) (o : Outcome) where
+  pub refine-marked : k ≤ 1024 → m ≡ iter (markOne f) 0 (length f / 4) (replicate 1024 0) → o ≡ refineOut newest g n0 (take k m) → o ≡ refineOut newest g n0 (marksOf k (listed f))
+  refine-marked h e c = rw (← marked-are f k 1024 m h e) c
+
+  pub coarsen-marked : k ≤ 512 → m ≡ iter (markOne f) 0 (length f / 4) (replicate 512 0) → o ≡ coarsenOut g n0 (take k m) → o ≡ coarsenOut g n0 (marksOf k (listed f))
+  coarsen-marked h e c = rw (← marked-are f k 512 m h e) c
+
+module _ (s : Session) (kind : ℕ) (a : Answer) where
+  pub after-check : kind ≡ 3 → session (a .n) (a .t) (a .n) (eqb (a .number) 0) ≡ sessionAfter s kind a
+  unfolding sessionAfter
+  after-check k = rw k
+
+  pub after-work : (kind ≡ 3 → ⊥) → session (a .n) (a .t) (s .n0) (s .accepted) ≡ sessionAfter s kind a
+  unfolding sessionAfter
+  after-work k = rw (ne-eqb kind 3 k)
+
+-- ---- a frame
+
+-- an admitted 01 or 02 has its place in the table
+module _ (nl rl sl ol kind : ℕ) (f : List ℕ) (s : Session) (w : Whole nl rl sl ol s) (y : admits s kind f ≡ true) where
+  pub place-room : kind ≡ 1 → 2 * s .n + 2 ≤ nl
+  place-room e = let r = node-room s kind f y e in omega (arith, w .nodes)
+
+  pub tri-room : kind ≡ 2 → 3 * s .t + 3 ≤ rl
+  tri-room e = let r = row-room s kind f y e in omega (arith, w .rows)
+
+module _ (ns : List ℤ) (rs sc out : List ℕ) (s : Session) (kind : ℕ) (f : List ℕ) where
+  pub frame-node : (a : Place) (ns₁ : List ℤ) → kind ≡ 1 → a ≡ placeIn f → ns₁ ≡ setPlace ns (s .n) a →
+      lent (answered (session (s .n + 1) (s .t) (s .n0) (s .accepted)) 0) ns₁ rs sc out ≡ written out (frame (held ns rs sc s) kind f)
+  unfolding frame addNode writes
+  frame-node a ns₁ k p e = rw (k, e, p)
+
+  pub frame-row : (w : Tri) (rs₁ : List ℕ) → kind ≡ 2 → w ≡ rowIn f → rs₁ ≡ setRow rs (s .t) w →
+      lent (answered (session (s .n) (s .t + 1) (s .n0) (s .accepted)) 0) ns rs₁ sc out ≡ written out (frame (held ns rs sc s) kind f)
+  unfolding frame addRow writes
+  frame-row w rs₁ k p e = rw (k, e, p)
+
+  module _ (k : ℕ) (o : List ℕ) where
+    pub frame-all : kind ≡ 7 → wrote k o ≡ writes (wrote 0 out) (allLines ns rs (s .n) (s .t)) → lent (answered s k) ns rs sc o ≡ written out (frame (held ns rs sc s) kind f)
+    unfolding frame
+    frame-all h e = rw h (ap (with (held ns rs sc s)) e)
+
+    pub frame-called : (a : Answer) (ns₁ : List ℤ) (rs₁ sc₁ : List ℕ) (s₁ : Session) → (kind ≡ 1 → ⊥) → (kind ≡ 2 → ⊥) → (kind ≡ 7 → ⊥) →
+        outcome a ns₁ rs₁ sc₁ ≡ called (held ns rs sc s) kind f → s₁ ≡ sessionAfter s kind a → wrote k o ≡ writes (wrote 0 out) (answerLine kind a) →
+        lent (answered s₁ k) ns₁ rs₁ sc₁ o ≡ written out (frame (held ns rs sc s) kind f)
+    unfolding frame
+    frame-called a ns₁ rs₁ sc₁ s₁ h₁ h₂ h₇ c e w =
+        rw (ne-eqb kind 1 h₁, ne-eqb kind 2 h₂, ne-eqb kind 7 h₇, ← c, e) (ap (with (held ns₁ rs₁ sc₁ (sessionAfter s kind a))) w)
+
+-- ---- a line
+
+module _ (ns : List ℤ) (rs sc out : List ℕ) (s : Session) (l : List ℕ) where
+  module _ (y : Bool) (t : y ≡ takes s l) where
+    pub line-ff : (k : ℕ) (o : List ℕ) → not y ≡ true → wrote k o ≡ writes (wrote 0 out) ffLine → lent (answered s k) ns rs sc o ≡ written out (lineStep (held ns rs sc s) l)
+    unfolding lineStep
+    line-ff k o m e = rw (← t, not-true y m) (ap (with (held ns rs sc s)) e)
+
+    pub line-frame : (kind : ℕ) (x : Lent) → not y ≡ false → kind ≡ number 2 l 0 → x ≡ written out (frame (held ns rs sc s) kind (take (length l - 2) (drop 2 l))) →
+        x ≡ written out (lineStep (held ns rs sc s) l)
+    unfolding lineStep
+    line-frame kind x m e c = rw (← t, not-false y m, ← e) (rw (rest-is l) at c)
+
+  -- whatever is lent
+  module _ (b : Bool) (q : b ≡ whole (length ns) (length rs) (length sc) (length out) s) where
+    pub line-none : not b ≡ true → lent (answered s 0) ns rs sc out ≡ lineLent (held ns rs sc s) l out
+    unfolding lineLent writes
+    line-none n = rw (← q, not-true b n)
+
+    pub line-plain : (x : Lent) → not b ≡ false → x ≡ written out (lineStep (held ns rs sc s) l) → x ≡ lineLent (held ns rs sc s) l out
+    unfolding lineLent
+    line-plain x n e = rw (← q, not-false b n) e
+
+pub lent-whole : (nl rl sl ol : ℕ) (s : Session) (b : Bool) → b ≡ whole nl rl sl ol s → not b ≡ false → Whole nl rl sl ol s
+lent-whole nl rl sl ol s b q n = whole-is nl rl sl ol s (sym q ∙ not-false b n)

@@ -1,0 +1,47 @@
+-- Document 01, 'The line program': the lines that the program reads and writes. Assumes nothing.
+use mathlib.Core.List.{List, [], _∷_, _++_}
+use Prim.Native.Nat.{ℕ}
+use lib.IntN.{ℤ}
+use Rattle.lists.specs.Lists.{joined}
+use Rattle.lists.specs.Search.{items}
+use Rattle.meaning.specs.declared.Answer.{Answer}
+use Rattle.meaning.specs.declared.Place.{Place}
+use Rattle.meaning.specs.declared.Tri.{Tri}
+use Rattle.meaning.specs.Mesh.{place, tri}
+use Rattle.meaning.specs.Tables.{placeAt, rowAt}
+use Rattle.text.specs.Digits.{bytes, field, signed, unsigned, hex}
+
+-- ---- read
+
+-- "`01` x y (8 digits each)"
+unfoldable pub placeIn : List ℕ → Place
+placeIn fields = place (signed (field 8 fields 0)) (signed (field 8 fields 1))
+
+-- "`02` p q r (4 digits each)"
+unfoldable pub rowIn : List ℕ → Tri
+rowIn fields = tri (field 4 fields 0) (field 4 fields 1) (field 4 fields 2)
+
+-- ---- written
+
+-- "every line ended by 0x0A"
+abbrev pub ended : List ℕ → List ℕ
+ended text = text ++ (0x0a ∷ [])
+
+-- "Anything malformed .. answers `ff`"
+abbrev pub ffLine : List ℕ
+ffLine = bytes "ff\n"
+
+-- "Frames 03 to 06 answer kind, number (2 digits each), n, t, passes (4 each)."
+unfoldable pub answerLine : ℕ → Answer → List ℕ
+answerLine kind a = ended (hex 2 kind ++ hex 2 (a .number) ++ hex 4 (a .n) ++ hex 4 (a .t) ++ hex 4 (a .passes))
+
+-- a node "as `01` frames", a triangle "as `02` frames"
+unfoldable pub nodeLine : Place → List ℕ
+nodeLine a = ended (hex 2 1 ++ hex 8 (unsigned (a .x)) ++ hex 8 (unsigned (a .y)))
+
+unfoldable pub rowLine : Tri → List ℕ
+rowLine w = ended (hex 2 2 ++ hex 4 (w .p) ++ hex 4 (w .q) ++ hex 4 (w .r))
+
+-- "`07` writes all nodes as `01` frames, then all triangles as `02` frames"
+unfoldable pub allLines : List ℤ → List ℕ → ℕ → ℕ → List ℕ
+allLines nodes rows n t = joined nodeLine (items (placeAt nodes) 0 n) ++ joined rowLine (items (rowAt rows) 0 t)

@@ -1,0 +1,79 @@
+-- Where each field of a written line stands, and how long the lines are. Assumes nothing.
+use mathlib.Core.Path.{_≡_, refl, _∙_}
+use mathlib.Core.List.{List, [], _∷_, _++_, map}
+use Prim.Native.Nat.{ℕ, suc, _+_, _*_}
+use native.Mathlib.Nat.{mul-suc}
+use native.Mathlib.Omega.{arith}
+use Prim.Native.String.{String}
+use lib.IntN.{ℤ, pos, negsuc}
+use lib.ListN.{length, take, drop, length-append}
+use Rattle.lists.specs.Lists.{joined}
+use Rattle.lists.specs.Search.{items}
+use Rattle.lists.specs.IterLaw.{length-items}
+use Rattle.meaning.specs.declared.Answer.{Answer}
+use Rattle.meaning.specs.declared.Place.{Place}
+use Rattle.meaning.specs.declared.Tri.{Tri}
+use Rattle.meaning.specs.Mesh.{place, tri}
+use Rattle.meaning.specs.Tables.{answer, placeAt, rowAt}
+use Rattle.text.specs.Digits.{bytes, hex, hexDigit, signed, unsigned, number, worth}
+use Rattle.text.specs.Lines.{placeIn, rowIn, answerLine, nodeLine, rowLine, allLines}
+
+-- "kind, number (2 digits each), n, t, passes (4 each)", and the end byte: 17 in all
+module _ (kind : ℕ) (a : Answer) where
+  pub answer-fields : (take 2 (answerLine kind a) ≡ hex 2 kind) × (take 2 (drop 2 (answerLine kind a)) ≡ hex 2 (a .number)) ×
+      (take 4 (drop 4 (answerLine kind a)) ≡ hex 4 (a .n)) × (take 4 (drop 8 (answerLine kind a)) ≡ hex 4 (a .t)) ×
+      (take 4 (drop 12 (answerLine kind a)) ≡ hex 4 (a .passes)) × (drop 16 (answerLine kind a) ≡ 0x0a ∷ [])
+  unfolding answerLine hex
+  answer-fields = (refl, refl, refl, refl, refl, refl)
+
+  pub answer-length : length (answerLine kind a) ≡ 17
+  unfolding answerLine hex
+  answer-length = refl
+
+pub node-length : (a : Place) → length (nodeLine a) ≡ 19
+unfolding nodeLine hex
+node-length a = refl
+
+pub row-length : (w : Tri) → length (rowLine w) ≡ 15
+unfolding rowLine hex
+row-length w = refl
+
+joined-length : {A : Type 0} (f : A → List ℕ) (k : ℕ) → ((a : A) → length (f a) ≡ k) → (l : List A) → length (joined f l) ≡ k * length l
+joined-length f k h [] = omega arith
+joined-length f k h (a ∷ l) = length-append (f a) (joined f l) ∙ rw (h a, joined-length f k h l) (omega (arith, mul-suc k (length l)))
+
+pub all-length : (ns : List ℤ) (rs : List ℕ) (n t : ℕ) → length (allLines ns rs n t) ≡ 19 * n + 15 * t
+unfolding allLines
+all-length ns rs n t =
+    length-append (joined nodeLine (items (placeAt ns) 0 n)) (joined rowLine (items (rowAt rs) 0 t)) ∙
+    rw (
+      joined-length nodeLine 19 node-length (items (placeAt ns) 0 n),
+      joined-length rowLine 15 row-length (items (rowAt rs) 0 t),
+      length-items (placeAt ns) n,
+      length-items (rowAt rs) t,
+    )
+
+-- computed: what is written, and what is expected
+record Pair : Type 0 where
+  line : List ℕ
+  expected : String
+
+pair : List ℕ → String → Pair
+pair l s = record { line = l; expected = s }
+
+lines : List Pair
+lines =
+    pair (answerLine 4 (answer 9 511 1023 0)) "040901ff03ff0000\n" ∷
+    pair (answerLine 6 (answer 0 4 2 3)) "0600000400020003\n" ∷
+    pair (nodeLine (place (pos 8) (negsuc 2))) "0100000008fffffffd\n" ∷
+    pair (rowLine (tri 1 255 2748)) "02000100ff0abc\n" ∷
+    []
+
+lines-written : map (λ p. p .line) lines ≡ map (λ p. bytes (p .expected)) lines
+unfolding lines pair answerLine nodeLine rowLine hex hexDigit unsigned
+lines-written = refl
+
+-- and what was written is read back
+pub lines-read : (placeIn (bytes "00000008fffffffd") ≡ place (pos 8) (negsuc 2)) × (rowIn (bytes "000100ff0abc") ≡ tri 1 255 2748)
+unfolding placeIn rowIn number worth signed
+lines-read = (refl, refl)

@@ -1,0 +1,52 @@
+-- The lines that the program writes, in the form in which the code writes them. Assumes nothing.
+use mathlib.Core.Path.{_≡_, refl, sym, ap, _∙_}
+use mathlib.Core.List.{List, [], _∷_, _++_}
+use Prim.Native.Nat.{ℕ}
+use lib.IntN.{ℤ}
+use mir.Syntax.{w32}
+use mir.Val.{SFits, toZ, ofZ}
+use mir.Facts.{toZ-ofZ}
+use Rattle.lists.specs.Lists.{joined}
+use Rattle.lists.specs.Search.{items}
+use Rattle.meaning.specs.declared.Answer.{Answer}
+use Rattle.meaning.specs.declared.Place.{Place}
+use Rattle.meaning.specs.declared.Tri.{Tri}
+use Rattle.meaning.specs.Tables.{placeAt, rowAt}
+use Rattle.text.specs.Digits.{unsigned, hex}
+use Rattle.text.specs.Lines.{answerLine, nodeLine, rowLine, allLines}
+use Rattle.text.specs.Writing.{Wrote, wrote, writes, writes-append, then}
+
+module _ (w w1 w2 w3 w4 : Wrote) where
+  pub node-put : (a : Place) (x y : ℕ) → SFits w32 (a .x) → SFits w32 (a .y) → x ≡ unsigned (toZ w32 (ofZ w32 (a .x))) → y ≡ unsigned (toZ w32 (ofZ w32 (a .y))) →
+      w1 ≡ writes w (hex 2 1) → w2 ≡ writes w1 (hex 8 x) → w3 ≡ writes w2 (hex 8 y) → w4 ≡ writes w3 (10 ∷ []) → w4 ≡ writes w (nodeLine a)
+  unfolding nodeLine
+  node-put a x y fx fy dx dy e1 e2 e3 e4 =
+      let f : x ≡ unsigned (a .x) = rw (toZ-ofZ fx) at dx in
+      let g : y ≡ unsigned (a .y) = rw (toZ-ofZ fy) at dy in
+      rw (← f, ← g, writes-append w (hex 2 1 ++ hex 8 x ++ hex 8 y) (10 ∷ []), writes-append w (hex 2 1 ++ hex 8 x) (hex 8 y), writes-append w (hex 2 1) (hex 8 x), ← e1, ← e2, ← e3) e4
+
+  module _ (w5 : Wrote) where
+    pub row-put : (t : Tri) → w1 ≡ writes w (hex 2 2) → w2 ≡ writes w1 (hex 4 (t .p)) → w3 ≡ writes w2 (hex 4 (t .q)) → w4 ≡ writes w3 (hex 4 (t .r)) →
+        w5 ≡ writes w4 (10 ∷ []) → w5 ≡ writes w (rowLine t)
+    unfolding rowLine
+    row-put t e1 e2 e3 e4 e5 =
+        let p = hex 4 (t .p) in
+        let q = hex 4 (t .q) in
+        let r = hex 4 (t .r) in
+        rw (writes-append w (hex 2 2 ++ p ++ q ++ r) (10 ∷ []), writes-append w (hex 2 2 ++ p ++ q) r, writes-append w (hex 2 2 ++ p) q, writes-append w (hex 2 2) p, ← e1, ← e2, ← e3, ← e4) e5
+
+    pub answer-put : (kind : ℕ) (a : Answer) (w6 : Wrote) → w1 ≡ writes w (hex 2 kind) → w2 ≡ writes w1 (hex 2 (a .number)) → w3 ≡ writes w2 (hex 4 (a .n)) →
+        w4 ≡ writes w3 (hex 4 (a .t)) → w5 ≡ writes w4 (hex 4 (a .passes)) → w6 ≡ writes w5 (10 ∷ []) → w6 ≡ writes w (answerLine kind a)
+    unfolding answerLine
+    answer-put kind a w6 e1 e2 e3 e4 e5 e6 =
+        let k = hex 2 kind in
+        let j = hex 2 (a .number) in
+        let n = hex 4 (a .n) in
+        let t = hex 4 (a .t) in
+        let p = hex 4 (a .passes) in
+        rw (writes-append w (k ++ j ++ n ++ t ++ p) (10 ∷ []), writes-append w (k ++ j ++ n ++ t) p, writes-append w (k ++ j ++ n) t, writes-append w (k ++ j) n, writes-append w k j, ← e1, ← e2, ← e3, ← e4, ← e5) e6
+
+pub all-put : (w x y : Wrote) (ns : List ℤ) (rs : List ℕ) (n t : ℕ) → x ≡ writes w (joined nodeLine (items (placeAt ns) 0 n)) →
+    y ≡ writes x (joined rowLine (items (rowAt rs) 0 t)) → y ≡ writes w (allLines ns rs n t)
+unfolding allLines
+all-put w x y ns rs n t a b = then w x y (joined nodeLine (items (placeAt ns) 0 n)) (joined rowLine (items (rowAt rs) 0 t)) a b

@@ -1,0 +1,3 @@
+// Hexadecimal text: numbers read from a line, and lines written into a buffer.
+pub mod read;
+pub mod write;

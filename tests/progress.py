@@ -40,7 +40,7 @@ class Progress:
     def __init__(self, crate_count, edit_count, say):
         self.crate_count, self.edit_count, self.say = crate_count, edit_count, say
         self.proved, self.refused = {}, {}
-        self.unchanged = 0
+        self.unchanged, self.failed_crates, self.failed_edits = 0, 0, 0
         self.held = []
 
     def take(self, line):
@@ -53,6 +53,8 @@ class Progress:
             self.edit(edit[1], edit[2], int(edit[3]))
         elif line.startswith("rt: "):
             self.show_held()
+            self.failed_crates += " NOT PROVED" in line
+            self.failed_edits += line.startswith("rt: must-fail ")
             self.say(line)
         else:
             self.held.append(line)
@@ -62,13 +64,13 @@ class Progress:
         if seconds is None:
             self.unchanged += 1
             return
-        done = len(self.proved)
-        self.say(f"proved {done} of {self.crate_count}: {name}, {seconds} s, {self.crate_count - done} left")
+        done, failed = len(self.proved), self.failed_crates
+        self.say(f"proved {done} of {self.crate_count}: {name}, {seconds} s, {self.crate_count - done - failed} left")
 
     def edit(self, crate, name, seconds):
         self.refused[crate, name] = seconds
-        done = len(self.refused)
-        self.say(f"edit {done} of {self.edit_count} refused: {crate}/{name}, {seconds} s, {self.edit_count - done} left")
+        done, failed = len(self.refused), self.failed_edits
+        self.say(f"edit {done} of {self.edit_count} refused: {crate}/{name}, {seconds} s, {self.edit_count - done - failed} left")
 
     def show_held(self):
         for line in self.held:

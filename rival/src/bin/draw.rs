@@ -66,17 +66,20 @@ fn drawing(nodes: &[Point], rows: &[[usize; 3]], base: usize) -> String {
     let scale = SIZE / (right - left).max(top - bottom).max(1.0);
     let points: Vec<Point> = nodes.iter().map(|p| (MARGIN + (p.0 - left) * scale, MARGIN + (top - p.1) * scale)).collect();
     let (wide, high) = (2.0 * MARGIN + (right - left) * scale, 2.0 * MARGIN + (top - bottom) * scale);
-    let mut s = format!("<svg xmlns=\"http://www.w3.org/2000/svg\" width=\"{wide:.0}\" height=\"{high:.0}\" font-family=\"sans-serif\" font-size=\"13\">\n");
+    let mut s = "<svg xmlns=\"http://www.w3.org/2000/svg\" ".to_string();
+    writeln!(s, "width=\"{wide:.0}\" height=\"{high:.0}\" font-family=\"sans-serif\" font-size=\"13\">").unwrap();
     s += "<rect width=\"100%\" height=\"100%\" fill=\"white\"/>\n";
     for r in rows {
         let [p, q, t] = r.map(|k| points[k]);
-        writeln!(s, "<path d=\"M{:.1} {:.1}L{:.1} {:.1}L{:.1} {:.1}Z\" fill=\"#f3f6fb\" stroke=\"#345\" stroke-width=\"1.2\"/>", p.0, p.1, q.0, q.1, t.0, t.1).unwrap();
+        let path = format!("M{:.1} {:.1}L{:.1} {:.1}L{:.1} {:.1}Z", p.0, p.1, q.0, q.1, t.0, t.1);
+        writeln!(s, "<path d=\"{path}\" fill=\"#f3f6fb\" stroke=\"#345\" stroke-width=\"1.2\"/>").unwrap();
     }
     for (i, r) in rows.iter().enumerate() {
         let [p, q, t] = r.map(|k| points[k]);
         let middle = ((p.0 + q.0 + t.0) / 3.0, (p.1 + q.1 + t.1) / 3.0);
         let (n, c, d) = (along(p, middle, 0.22, 27.0), along(q, middle, 0.1, 0.0), along(t, middle, 0.1, 0.0));
-        writeln!(s, "<path d=\"M{:.1} {:.1}L{:.1} {:.1}\" stroke=\"#c33\" stroke-width=\"1.4\" stroke-dasharray=\"4 3\"/>", c.0, c.1, d.0, d.1).unwrap();
+        let dashes = format!("M{:.1} {:.1}L{:.1} {:.1}", c.0, c.1, d.0, d.1);
+        writeln!(s, "<path d=\"{dashes}\" stroke=\"#c33\" stroke-width=\"1.4\" stroke-dasharray=\"4 3\"/>").unwrap();
         writeln!(s, "<circle cx=\"{:.1}\" cy=\"{:.1}\" r=\"2.6\" fill=\"#c33\"/>", n.0, n.1).unwrap();
         written(&mut s, middle, "#567", "normal", "#f3f6fb", i);
     }

@@ -1,7 +1,9 @@
 /* Spoutbeetle: a triangle mesh that can be refined, coarsened and restored, proved.
  *
- * Every call takes anything, ends, and returns a number. The caller lends the tables; a slice is a pointer and a length in numbers
- * (not bytes). The tables of one call must not overlap.
+ * Every call takes any lengths, counts and contents, ends, and returns a number. The caller lends the tables; a table is a pointer and
+ * a length in numbers (not bytes). What a call asks of its pointers, and cannot test: each is valid, aligned and not null (also where
+ * the length is 0); the tables do not overlap; n, t and passes, where they are pointers, are valid, aligned, distinct from each other
+ * and outside the tables; and nothing else reads or writes any of these during the call. Marks are only read.
  *
  *   nodes    two numbers a node, x and y; room NC = nodes_len / 2, at most 1,024
  *   rows     three numbers a triangle, p q r: p is the newest vertex, q-r the refinement edge; room TC = rows_len / 3, at most 2,048
@@ -23,7 +25,8 @@
  *    9  the new counts are above NC or TC
  *   10  the labelling is not compatible (check only)
  *
- * A refusal (any number but 0) changes no node, no triangle, no mark and no count; scratch is all zero.
+ * A refusal (any number but 0) changes no node, no triangle, no mark and no count, and makes no pass; scratch is all zero, also where
+ * it was too short.
  */
 #ifndef SPOUTBEETLE_H
 #define SPOUTBEETLE_H
@@ -47,8 +50,18 @@ uint32_t spoutbeetle_refine(int32_t *nodes, size_t nodes_len, uint32_t *rows, si
 uint32_t spoutbeetle_coarsen(int32_t *nodes, size_t nodes_len, uint32_t *rows, size_t rows_len, uint32_t *scratch, size_t scratch_len,
                              const uint8_t *marks, size_t marks_len, size_t n0, size_t *n, size_t *t);
 
-/* Coarsens while a good node exists. After 0, *n and *t are the new counts and *passes how many passes were made; after a refusal
- * *passes is 0. From a base that the check admits, after any calls made with its node count, this gives back the base row for row. */
+/* Coarsens while a good node exists. After 0, *n and *t are the new counts and *passes how many passes were made, 0 passes included;
+ * after a refusal *passes is 0. What *passes held before does not matter.
+ *
+ * It gives back a base row for row (node table, triangle table and counts; zeros past them), after no more passes than there were added
+ * nodes, if
+ *   - spoutbeetle_check returned 0 for the base, on these tables;
+ *   - every refine, coarsen or restore since that returned 0 had the base's node count as n0, and was made on the tables and the counts
+ *     that the accepted call before it left (the first: on those of the check);
+ *   - this call too has the base's node count as n0, the tables and the counts that the last accepted call left, and scratch enough;
+ *   - nothing but these calls wrote to the node table or the triangle table, and their lengths stayed.
+ * Refused calls of any kind may stand in between, with whatever counts, n0, marks and scratch; each call may lend another scratch.
+ * Only a short scratch can refuse it then, as 1. */
 uint32_t spoutbeetle_restore(int32_t *nodes, size_t nodes_len, uint32_t *rows, size_t rows_len, uint32_t *scratch, size_t scratch_len,
                              size_t n0, size_t *n, size_t *t, size_t *passes);
 

@@ -52,7 +52,8 @@ pub fn coarsen(g: Tables, n0: usize, marks: &[u8]) -> Answer {
     Answer { number, n, t, passes: 0 }
 }
 
-/// Coarsens while a good node exists. `n0` is the base's node count.
+/// Coarsens while a good node exists. `n0` is the base's node count. It gives back a base that the check admitted, row for row, if since
+/// then all accepted calls had the base's node count and worked on what the accepted call before left: spoutbeetle.h has it in full.
 pub fn restore(g: Tables, n0: usize) -> Answer {
     let (mut n, mut t, mut passes) = (g.n, g.t, 0);
     let number = unsafe {

@@ -74,5 +74,9 @@ fn main() {
         };
         *seen.entry((kind, a.number)).or_default() += 1;
     }
-    println!("compare: {count} calls from seed {first} agree; calls by number given: {seen:?}");
+    for kind in ["check", "refine", "coarsen", "restore"] {
+        let given = seen.iter().filter(|(key, _)| key.0 == kind);
+        println!("{kind} said {}", given.map(|(key, times)| format!("{} {times} times", key.1)).collect::<Vec<_>>().join(", "));
+    }
+    println!("compare: {count} calls from seed {first} agree");
 }

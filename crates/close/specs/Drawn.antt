@@ -5,16 +5,11 @@ use Prim.Native.Nat.{ℕ, zero, suc}
 use lib.Dec.{eqb}
 use lib.ListN.{getD, set}
 use Rattle.lists.specs.declared.Found.{Found}
-use Rattle.lists.specs.declared.Found.the-variants.{At, Nothing}
 use Rattle.lists.specs.Lists.{cases}
 use Rattle.lists.specs.Search.{lowest}
 use Rattle.meaning.specs.Tables.{rowAt}
 use Rattle.tables.specs.Arrow.{arrowAt}
-
--- what is said of the row that was found, or else
-abbrev pub onFound : {A : Type 0} → Found → (ℕ → A) → A → A
-onFound (At i) f a = f i
-onFound Nothing f a = a
+pub use Rattle.lists.specs.Lists.{onFound}
 
 -- the row across the refinement edge of row i: the one that holds r→q
 unfoldable pub acrossRow : List ℕ → ℕ → ℕ → Found

@@ -49,8 +49,6 @@ module _ (w : Tri) (k : Mids) where
   unfolding cutBy
   cut-muv e f g = rw (opt-yes (k .m) e, opt-yes (k .u) f, opt-yes (k .v) g)
 
-pub ruleset patterns = (cut-none, cut-m, cut-mv, cut-mu, cut-muv)
-
 -- a cut adds three rows at most
 few-for : (w : Tri) (a b c : Option ℕ) → length (bisected w a b c .added) ≤ 3
 few-for w none b c = omega arith

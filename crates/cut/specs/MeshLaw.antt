@@ -98,7 +98,7 @@ added-is n l s i d =
     rw (d .m-told, d .u-told, d .v-told) (sym (added-for (rowAt l i) (k .m) (k .u) (k .v) (d .pulled)))
 
 -- the code's count is that of the rows
-pub rows-after-is : (n : ℕ) (l s : List ℕ) (t : ℕ) → ((j : ℕ) → j < t → Tells (noteAt s j) (midsAt n l s j)) →
+rows-after-is : (n : ℕ) (l s : List ℕ) (t : ℕ) → ((j : ℕ) → j < t → Tells (noteAt s j) (midsAt n l s j)) →
     t + sumTo (splits s) t ≡ t + sumTo (addedAt n l s) t
 rows-after-is n l s t h = ap (λ k. t + k) (sum-agree (splits s) (addedAt n l s) t (λ j g. added-is n l s j (h j g)))
 

@@ -49,11 +49,8 @@ unfolding takeAt takeNo
 take-is n0 m marks s nc z e = rw (e, odd (good n0 m z) (signFrom n0 m z), half (good n0 m z) (signFrom n0 m z))
 
 module _ (n0 : ℕ) (m : Mesh) (marks : List ℕ) (z : ℕ) (l : z < length (m .nodes)) where
-  goes : Bool
-  goes = marked marks z && good n0 m z
-
   -- among those that go
-  pub gone-is : any (eqb z) (taken n0 m marks) ≡ marked marks z && good n0 m z
+  gone-is : any (eqb z) (taken n0 m marks) ≡ marked marks z && good n0 m z
   gone-is = go (marked marks z && good n0 m z) refl
     where
       go : (b : Bool) → marked marks z && good n0 m z ≡ b → any (eqb z) (taken n0 m marks) ≡ b
@@ -162,9 +159,6 @@ fate-brother x y k w a b e g f = go (parts x y k a b f)
 -- ---- what becomes of a row, whole
 
 module _ (n0 : ℕ) (m : Mesh) (marks : List ℕ) (law : Lawful m) (few : length (m .nodes) ≤ 32_768) where
-  zs : List ℕ
-  zs = taken n0 m marks
-
   ok : Takeable m (taken n0 m marks)
   ok = takeable n0 m marks law
 

@@ -16,6 +16,11 @@ abbrev pub isFound : Found → Bool
 isFound (At i) = true
 isFound Nothing = false
 
+-- what is said of what was found, or else
+abbrev pub onFound : {A : Type 0} → Found → (ℕ → A) → A → A
+onFound (At i) f a = f i
+onFound Nothing f a = a
+
 abbrev pub sucIf : Bool → ℕ → ℕ
 sucIf true k = suc k
 sucIf false k = k

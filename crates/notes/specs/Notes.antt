@@ -5,8 +5,6 @@ use mathlib.Core.Option.{Option, none, some}
 use Prim.Native.Nat.{ℕ, _+_, _*_, _/_, _%_, _≤_}
 use lib.Dec.{eqb}
 use lib.ListN.{getD}
-use Rattle.lists.specs.declared.Found.{Found}
-use Rattle.lists.specs.declared.Found.the-variants.{At, Nothing}
 use Rattle.lists.specs.Lists.{cases}
 use Rattle.lists.specs.Search.{lowest}
 use Rattle.meaning.specs.declared.Tri.{Tri}
@@ -16,6 +14,7 @@ use Rattle.meaning.specs.Split.{numberOf}
 use Rattle.meaning.specs.Tables.{rowAt}
 use Rattle.tables.specs.Arrow.{arrowAt}
 pub use Rattle.notes.specs.declared.Note.{Note}
+pub use Rattle.lists.specs.Lists.{onFound}
 
 -- ---- one number a row
 
@@ -65,10 +64,6 @@ ownV n c = n + c .before + c .fm + c .fu
 -- that of row w with note c on its arrow x→y
 unfoldable pub ownOn : ℕ → Tri → Note → ℕ → ℕ → ℕ
 ownOn n w c x y = cases (eqb (w .q) x && eqb (w .r) y) (ownM n c) (cases (eqb (w .p) x && eqb (w .q) y) (ownU n c) (ownV n c))
-
-abbrev pub onFound : Found → (ℕ → ℕ) → ℕ → ℕ
-onFound (At j) f d = f j
-onFound Nothing f d = d
 
 -- the one on x–y that the lower row across numbered
 unfoldable pub across : ℕ → List ℕ → List ℕ → ℕ → ℕ → ℕ → ℕ

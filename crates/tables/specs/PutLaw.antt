@@ -1,7 +1,7 @@
 -- Rows and places after one is put, and a table that is cleared from one on. Assumes nothing.
 use mathlib.Core.Path.{_≡_, ap, _∙_}
 use mathlib.Core.List.{List, _++_, append-nil}
-use Prim.Native.Nat.{ℕ, _*_, _-_, _≤_}
+use Prim.Native.Nat.{ℕ, _+_, _*_, _-_, _≤_}
 use native.Mathlib.Nat.{le-refl}
 use borrow.Rule.Slice.PartMut.{putMid, midOf, mid-len, post-is}
 use lib.IntN.{ℤ, pos}
@@ -10,6 +10,8 @@ use lib.Seq.{drop-length}
 use Rattle.lists.specs.Search.{items}
 use Rattle.lists.specs.Table.{Form, Faithful, readAt, flatten}
 use Rattle.lists.specs.TableLaw.{Table, form-table, blank-after}
+use Rattle.meaning.specs.declared.Place.{Place}
+use Rattle.meaning.specs.declared.Tri.{Tri}
 use Rattle.meaning.specs.Tables.{nodeForm, rowForm, nodes-faithful, rows-faithful, rowAt, placeAt, flatRows, flatNodes, filled}
 use Rattle.tables.specs.Put.{setRow, setPlace}
 
@@ -20,6 +22,19 @@ rows-table = form-table rowForm rows-faithful
 pub nodes-table : Table (nodeForm .width) placeAt setPlace
 unfolding placeAt setPlace
 nodes-table = form-table nodeForm nodes-faithful
+
+-- their facts by name
+pub length-setRow : (l : List ℕ) (i : ℕ) (w : Tri) → length (setRow l i w) ≡ length l
+length-setRow = rows-table .long
+
+pub row-set-same : (l : List ℕ) (i : ℕ) (w : Tri) → 3 * i + 3 ≤ length l → rowAt (setRow l i w) i ≡ w
+row-set-same = rows-table .same
+
+pub length-setPlace : (l : List ℤ) (k : ℕ) (a : Place) → length (setPlace l k a) ≡ length l
+length-setPlace = nodes-table .long
+
+pub place-set-same : (l : List ℤ) (k : ℕ) (a : Place) → 2 * k + 2 ≤ length l → placeAt (setPlace l k a) k ≡ a
+place-set-same = nodes-table .same
 
 -- a part to the end comes back as zeros, in the form of needs
 tail-filled : {A : Type 0} (xs ys : List A) (a : ℕ) (v : A) → a ≤ length xs → ys ≡ replicate (length (midOf a (length xs - a) xs)) v →

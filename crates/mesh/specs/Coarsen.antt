@@ -48,10 +48,10 @@ module _ (nodes : List ℤ) (rows s marks : List ℕ) (n0 n t k : ℕ) (z : s �
       (ap (λ (x : Gather.Left). x .counts .n) q) (ap (λ (x : Gather.Left). x .counts .t) q) (ap (λ (x : Gather.Left). x .nodes) q) (ap (λ (x : Gather.Left). x .rows) q) f
       ∙ rw y at coarsen-leaves
 
-pub coarsened-call : (nodes a : List ℤ) (rows b s s₁ s₂ s₃ marks : List ℕ) (n0 n t : ℕ) (r : Answer) → s₁ ≡ replicate (length s) 0 →
-    outcome r a b s₁ ≡ coarsenOut (given nodes rows s₁ n t) n0 marks → length s₂ ≡ length s₁ → s₃ ≡ replicate (length s₂) 0 →
-    outcome r a b s₃ ≡ coarsenOut (given nodes rows s n t) n0 marks
+pub coarsened-call : (nodes a : List ℤ) (rows b s s₁ s₂ marks : List ℕ) (n0 n t len : ℕ) (r : Answer) → s₁ ≡ replicate (length s) 0 →
+    outcome r a b s₁ ≡ coarsenOut (given nodes rows s₁ n t) n0 marks → s₂ ≡ replicate len 0 → len ≡ length s₁ →
+    outcome r a b s₂ ≡ coarsenOut (given nodes rows s n t) n0 marks
 unfolding coarsenOut meshOf
-coarsened-call nodes a rows b s s₁ s₂ s₃ marks n0 n t r p =
+coarsened-call nodes a rows b s s₁ s₂ marks n0 n t len r p =
     call-out s s₁ p (λ x. coarsenOut (given nodes rows x n t) n0 marks) (λ x x′ l. left-same nodes rows x x′ n0 n t l (coarsens n0 (meshIn nodes rows n t) marks))
-    r a b s₂ s₃
+    r a b s₂ len

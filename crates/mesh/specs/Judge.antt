@@ -149,7 +149,7 @@ module _ (nodes : List ℤ) (rows s s′ : List ℕ) (n0 n t : ℕ) (e : length 
       go zero m p = rw e
       go (suc k) m p = rw e
 
--- scratch is s before the call, then s₁, s₂ after the work, and s₃ at the end
+-- scratch is s before the call, s₁ before the work, and s₂ at the end; len is its length after the work
 module _ (s s₁ : List ℕ) (p : s₁ ≡ replicate (length s) 0) where
   cleared-length : length s₁ ≡ length s
   cleared-length = ap length p ∙ length-replicate (length s) 0
@@ -157,8 +157,8 @@ module _ (s s₁ : List ℕ) (p : s₁ ≡ replicate (length s) 0) where
   pub zeroed : s₁ ≡ replicate (length s₁) 0
   zeroed = rw cleared-length p
 
-  pub call-out : (out : List ℕ → Outcome) → ((s s′ : List ℕ) → length s′ ≡ length s → out s′ ≡ out s) → (r : Answer) (a : List ℤ) (b s₂ s₃ : List ℕ) →
-      outcome r a b s₁ ≡ out s₁ → length s₂ ≡ length s₁ → s₃ ≡ replicate (length s₂) 0 → outcome r a b s₃ ≡ out s
-  call-out out same r a b s₂ s₃ q c d =
-      let f : s₃ ≡ s₁ = d ∙ ap (λ (k : ℕ). replicate k 0) (c ∙ cleared-length) ∙ sym p in
+  pub call-out : (out : List ℕ → Outcome) → ((s s′ : List ℕ) → length s′ ≡ length s → out s′ ≡ out s) → (r : Answer) (a : List ℤ) (b s₂ : List ℕ) (len : ℕ) →
+      outcome r a b s₁ ≡ out s₁ → s₂ ≡ replicate len 0 → len ≡ length s₁ → outcome r a b s₂ ≡ out s
+  call-out out same r a b s₂ len q d c =
+      let f : s₂ ≡ s₁ = d ∙ ap (λ (k : ℕ). replicate k 0) (c ∙ cleared-length) ∙ sym p in
       ap (outcome r a b) f ∙ q ∙ same s s₁ cleared-length

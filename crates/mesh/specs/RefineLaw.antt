@@ -255,28 +255,28 @@ carry-done nodes a c rows b d s n t n1 t1 p la q lb fc fd = rw (fc, fd, q, la, l
 
 -- ---- what the call leaves
 
-module _ (nodes : List ℤ) (rows s marks : List ℕ) (n0 n t : ℕ) (p : Plan) (z : s ≡ replicate (length s) 0) (e : p .number ≡ refineNumber (given nodes rows s n t) n0 marks) where
-  refine-leaves : leaves (given nodes rows s n t) (p .number) (afterIn nodes rows marks n t) 0 ≡ refineOut newest (given nodes rows s n t) n0 marks
+module _ (nodes : List ℤ) (rows s marks : List ℕ) (n0 n t k : ℕ) (z : s ≡ replicate (length s) 0) (e : k ≡ refineNumber (given nodes rows s n t) n0 marks) where
+  refine-leaves : leaves (given nodes rows s n t) k (afterIn nodes rows marks n t) 0 ≡ refineOut newest (given nodes rows s n t) n0 marks
   unfolding refineOut refines refineNo refineNumber lateNumber meshOf
   refine-leaves = rw (e, length-items (rowAt rows) t) (sym (leaves-late (given nodes rows s n t) n0 t marks (lateNumber nodes rows marks n t) (afterIn nodes rows marks n t)))
 
-  pub work-refused : (r : Answer) → (p .number ≡ 0 → ⊥) → r ≡ answer (p .number) n t 0 → outcome r nodes rows s ≡ refineOut newest (given nodes rows s n t) n0 marks
-  work-refused r o f = leaves-refused nodes rows s n t _ z (p .number) r o f ∙ refine-leaves
+  pub work-refused : (r : Answer) → (k ≡ 0 → ⊥) → r ≡ answer k n t 0 → outcome r nodes rows s ≡ refineOut newest (given nodes rows s n t) n0 marks
+  work-refused r o f = leaves-refused nodes rows s n t _ z k r o f ∙ refine-leaves
 
-  pub work-done : (r : Answer) (a : List ℤ) (b s′ : List ℕ) → p .number ≡ 0 → (p .number ≡ 0 → Planned nodes rows s′ marks n t (p .n) (p .t)) →
-      bothTables a b ≡ carried nodes rows s′ n t (p .n) → r ≡ answer 0 (p .n) (p .t) 0 → outcome r a b s ≡ refineOut newest (given nodes rows s n t) n0 marks
+  pub work-done : (r : Answer) (a : List ℤ) (b s′ : List ℕ) (n1 t1 : ℕ) → k ≡ 0 → (k ≡ 0 → Planned nodes rows s′ marks n t n1 t1) →
+      bothTables a b ≡ carried nodes rows s′ n t n1 → r ≡ answer 0 n1 t1 0 → outcome r a b s ≡ refineOut newest (given nodes rows s n t) n0 marks
   unfolding carried
-  work-done r a b s′ q f g k =
+  work-done r a b s′ n1 t1 q f g h =
       let d = f q in
-      leaves-done nodes rows s n t (afterIn nodes rows marks n t) z r a b (p .n) (p .t) (d .nodes-after) (d .rows-after)
+      leaves-done nodes rows s n t (afterIn nodes rows marks n t) z r a b n1 t1 (d .nodes-after) (d .rows-after)
       (ap (λ (y : Pair). y .nodes) g ∙ ap (λ v. filled (pos 0) (length nodes) (flatNodes v)) (d .nodes-are))
-      (ap (λ (y : Pair). y .rows) g ∙ ap (λ v. filled 0 (length rows) (flatRows v)) (d .rows-are)) k
+      (ap (λ (y : Pair). y .rows) g ∙ ap (λ v. filled 0 (length rows) (flatRows v)) (d .rows-are)) h
       ∙ rw q at refine-leaves
 
-pub refined-call : (nodes a : List ℤ) (rows b s s₁ s₂ s₃ marks : List ℕ) (n0 n t : ℕ) (r : Answer) → s₁ ≡ replicate (length s) 0 →
-    outcome r a b s₁ ≡ refineOut newest (given nodes rows s₁ n t) n0 marks → length s₂ ≡ length s₁ → s₃ ≡ replicate (length s₂) 0 →
-    outcome r a b s₃ ≡ refineOut newest (given nodes rows s n t) n0 marks
+pub refined-call : (nodes a : List ℤ) (rows b s s₁ s₂ marks : List ℕ) (n0 n t len : ℕ) (r : Answer) → s₁ ≡ replicate (length s) 0 →
+    outcome r a b s₁ ≡ refineOut newest (given nodes rows s₁ n t) n0 marks → s₂ ≡ replicate len 0 → len ≡ length s₁ →
+    outcome r a b s₂ ≡ refineOut newest (given nodes rows s n t) n0 marks
 unfolding refineOut meshOf
-refined-call nodes a rows b s s₁ s₂ s₃ marks n0 n t r p =
+refined-call nodes a rows b s s₁ s₂ marks n0 n t len r p =
     call-out s s₁ p (λ x. refineOut newest (given nodes rows x n t) n0 marks)
-    (λ x x′ e. left-same nodes rows x x′ n0 n t e (refines newest (roomOf (given nodes rows s n t)) (meshIn nodes rows n t) marks)) r a b s₂ s₃
+    (λ x x′ e. left-same nodes rows x x′ n0 n t e (refines newest (roomOf (given nodes rows s n t)) (meshIn nodes rows n t) marks)) r a b s₂ len

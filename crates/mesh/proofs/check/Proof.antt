@@ -8,7 +8,11 @@ check-number-requires : tie.Need-check-number-requires
 check-number-requires c κs = search (needs, zeroed)
 
 returns : tie.Need-returns
-returns c = search (needs, check-call)
+returns c =
+    let end = c .before .before in
+    let judge = end .before .before .before .before in
+    let clear = judge .before .before .before .before .before .before in
+    check-call _ _ _ _ _ _ _ _ _ (clear .clear .ensures) (judge .check-number .ensures) (end .clear2 .ensures) (end .before .before .before .scratch2 .given)
 
 pub check-spec : {M : Type 1} → statement M
 check-spec =

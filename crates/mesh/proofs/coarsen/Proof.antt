@@ -8,7 +8,11 @@ work-requires : tie.Need-work-requires
 work-requires c κs = search (needs, zeroed)
 
 returns : tie.Need-returns
-returns c = search (needs, coarsened-call)
+returns c =
+    let end = c .before .before in
+    let work = end .before .before .before .before .before .before .before in
+    let clear = work .before .before .before .before .before .before in
+    coarsened-call _ _ _ _ _ _ _ _ _ _ _ _ _ (clear .clear .ensures) (work .work .ensures) (end .clear2 .ensures) (end .before .before .before .scratch2 .given)
 
 pub coarsen-spec : {M : Type 1} → statement M
 coarsen-spec =

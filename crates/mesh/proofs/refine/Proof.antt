@@ -5,7 +5,11 @@ use Rattle.mesh.proofs.refine.Statement.{statement}
 use Rattle.mesh.proofs.refine.Tie as tie
 
 returns : tie.Need-returns
-returns c = search (needs, refined-call)
+returns c =
+    let end = c .before .before in
+    let work = end .before .before .before .before .before .before .before in
+    let clear = work .before .before .before .before .before .before in
+    refined-call _ _ _ _ _ _ _ _ _ _ _ _ _ (clear .clear .ensures) (work .work .ensures) (end .clear2 .ensures) (end .before .before .before .scratch2 .given)
 
 pub refine-spec : {M : Type 1} → statement M
 refine-spec =

@@ -5,7 +5,9 @@ use Rattle.mesh.proofs.coarsening.work.Statement.{statement}
 use Rattle.mesh.proofs.coarsening.work.Tie as tie
 
 returns : tie.Need-returns
-returns c = search (needs, coarsen-refused)
+returns c =
+    let judge = c .before .before .before .before in
+    coarsen-refused _ _ _ _ _ _ _ _ (judge .before .before .before .before .before .before .before .pre) (judge .judge .ensures .0) _ (c .before .if1 .taken) (c .said .ensures)
 
 take-out-requires : tie.Need-take-out-requires
 take-out-requires c κs =
@@ -14,7 +16,12 @@ take-out-requires c κs =
     (law-at _ _ _ _ (a .law), (a .sizes, ((a .nodes-fit, a .rows-fit), ((omega arith, omega arith), (omega arith, (a .notes, a .ready))))))
 
 returns-2 : tie.Need-returns-2
-returns-2 c = search (needs, coarsen-worked)
+returns-2 c =
+    let taken = c .before .before .before .before .before .before in
+    let go-on = taken .before .before .before .before in
+    let judge = go-on .before .before .before in
+    coarsen-worked _ _ _ _ _ _ _ _ (judge .before .before .before .before .before .before .before .pre) (judge .judge .ensures .0) (go-on .if1 .left) _ _ _ _
+    (taken .take-out .ensures) (c .said2 .ensures)
 
 pub work-spec : {M : Type 1} → statement M
 work-spec =

@@ -4,13 +4,17 @@ use Rattle.mesh.proofs.refining.weigh.Statement.{statement}
 use Rattle.mesh.proofs.refining.weigh.Tie as tie
 
 returns : tie.Need-returns
-returns c = search (needs, weigh-odd)
+returns c = weigh-odd _ _ _ _ _ _ _ _ (c .before .before .find-odd .ensures) (c .before .is-found .ensures) (c .if1 .taken)
 
 returns-2 : tie.Need-returns-2
-returns-2 c = search (needs, weigh-short)
+returns-2 c =
+    let found = c .before .before .before in
+    weigh-short _ _ _ _ _ _ _ _ (found .before .find-odd .ensures) (found .is-found .ensures) _ (c .before .before .if1 .left) (c .before .rows-after .ensures) (c .if2 .taken)
 
 returns-3 : tie.Need-returns-3
-returns-3 c = search (needs, weigh-done)
+returns-3 c =
+    let found = c .before .before .before in
+    weigh-done _ _ _ _ _ _ _ _ (found .before .find-odd .ensures) (found .is-found .ensures) _ (c .before .before .if1 .left) (c .before .rows-after .ensures) (c .if2 .left)
 
 pub weigh-spec : {M : Type 1} → statement M
 weigh-spec =

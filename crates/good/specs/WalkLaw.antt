@@ -138,16 +138,16 @@ module _ (s : List ℕ) (nc n t z : ℕ) (d : Linked s nc n t) (l : z < n) (os :
   pub walk-next : (k y : ℕ) → (k ≡ 0 → ⊥) → y ≡ k - 1 → Walk s nc n t z k → y < length s
   walk-next k y o e w = let a = walk-note k y o e w in omega arith
 
-  met : (k : ℕ) (r : Bool) → (k ≡ 0 → ⊥) → Walk s nc n t z k → r ≡ rivals (numbersAt s nc) z (k - 1) → r ≡ true → true ≡ isFound (lowest (rivals (numbersAt s nc) z) 0 n)
-  met k r o (over x) e y = absurd (o refl)
-  met k r o (at j h x f) e y =
+  walk-met : (k : ℕ) (r : Bool) → (k ≡ 0 → ⊥) → Walk s nc n t z k → r ≡ rivals (numbersAt s nc) z (k - 1) → r ≡ true → true ≡ isFound (lowest (rivals (numbersAt s nc) z) 0 n)
+  walk-met k r o (over x) e y = absurd (o refl)
+  walk-met k r o (at j h x f) e y =
       let q : j + 1 - 1 ≡ j = omega arith in
       sym (lowest-some (rivals (numbersAt s nc) z) n j h ((rw q at (sym e)) ∙ y))
 
-  passed : (k k′ : ℕ) (r : Bool) → (k ≡ 0 → ⊥) → Walk s nc n t z k → r ≡ rivals (numbersAt s nc) z (k - 1) → r ≡ false → k′ ≡ getD s (k - 1) 0 →
+  walk-passed : (k k′ : ℕ) (r : Bool) → (k ≡ 0 → ⊥) → Walk s nc n t z k → r ≡ rivals (numbersAt s nc) z (k - 1) → r ≡ false → k′ ≡ getD s (k - 1) 0 →
       (Walk s nc n t z k′) × (ahead n k′ < ahead n k)
-  passed k k′ r o (over x) e y g = absurd (o refl)
-  passed k k′ r o (at j h x f) e y g =
+  walk-passed k k′ r o (over x) e y g = absurd (o refl)
+  walk-passed k k′ r o (at j h x f) e y g =
       let q : j + 1 - 1 ≡ j = omega arith in
       let q0 : 0 + j ≡ j = omega arith in
       let p : rivals (numbersAt s nc) z j ≡ false = (rw q at (sym e)) ∙ y in
@@ -163,13 +163,13 @@ module _ (s : List ℕ) (nc n t z : ℕ) (d : Linked s nc n t) (l : z < n) (os :
 
   module _ (k y : ℕ) (r : Bool) (o : k ≡ 0 → ⊥) (q : y ≡ k - 1) (w : Walk s nc n t z k) (e : r ≡ rivals (numbersAt s nc) z y) where
     pub walk-hit : r ≡ true → true ≡ isFound (lowest (rivals (numbersAt s nc) z) 0 n)
-    walk-hit x = met k r o w (rw q at e) x
+    walk-hit x = walk-met k r o w (rw q at e) x
 
     pub walk-on : (k′ : ℕ) → r ≡ false → k′ ≡ getD s y 0 → Walk s nc n t z k′
-    walk-on k′ x g = passed k k′ r o w (rw q at e) x (rw q at g) .0
+    walk-on k′ x g = walk-passed k k′ r o w (rw q at e) x (rw q at g) .0
 
     pub walk-less : (k′ : ℕ) → r ≡ false → k′ ≡ getD s y 0 → ahead n k′ < ahead n k
-    walk-less k′ x g = passed k k′ r o w (rw q at e) x (rw q at g) .1
+    walk-less k′ x g = walk-passed k k′ r o w (rw q at e) x (rw q at g) .1
 
   pub walk-over : (k : ℕ) → k ≡ 0 → Walk s nc n t z k → false ≡ isFound (lowest (rivals (numbersAt s nc) z) 0 n)
   walk-over k e (over x) = sym (ap isFound x)

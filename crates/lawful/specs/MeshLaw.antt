@@ -78,9 +78,9 @@ module _ (nodes : List ℤ) (l s : List ℕ) (n t : ℕ) where
   after-named (At i) e x y h = refl
   after-named Nothing e x y h = h refl
 
-  pub fault-is : faultBy nodes l n t ≡ faultOf (meshOf (given nodes l s n t))
+  pub faultBy-is : faultBy nodes l n t ≡ faultOf (meshOf (given nodes l s n t))
   unfolding faultBy laterBy faultOf
-  fault-is =
+  faultBy-is =
       rw (← outside-is, ← misnamed-is, ← repeat-is, ← unused-is)
       (ap (orLater 3 (lowest (outsideAt nodes) 0 n))
       (after-named (lowest (misnamedAt l n) 0 t) refl _ _ (λ e. rw (flat-is e))))

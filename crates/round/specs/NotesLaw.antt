@@ -78,8 +78,8 @@ module _ (rows : List ℕ) (nc n t k : ℕ) (f : Fair rows n t) (room : n ≤ nc
             (getD-set-other s1 (nc + w .r) p 1 0 (omega arith) ∙ getD-set-other s (nc + w .q) p 1 0 (omega arith) ∙ m .low p l);
       }
 
-  marks-are : Marked (iter (olderStep rows nc) 0 t s₀)
-  marks-are = iter-keeps (olderStep rows nc) Marked t s₀ (λ i s h m. marks-turn i s h m) (record { same = record { long = refl; rest = refl }; low = λ p l. refl })
+  olders-marked : Marked (iter (olderStep rows nc) 0 t s₀)
+  olders-marked = iter-keeps (olderStep rows nc) Marked t s₀ (λ i s h m. marks-turn i s h m) (record { same = record { long = refl; rest = refl }; low = λ p l. refl })
 
 -- ---- links
 
@@ -92,16 +92,16 @@ module _ (rows : List ℕ) (nc n t k : ℕ) (f : Fair rows n t) (room : n ≤ nc
     same : Same k s₀ s
     between : (p : ℕ) → nc ≤ p → p < 2 * nc → getD s p 0 ≡ getD s₀ p 0
 
-  step-is : (i : ℕ) (s : List ℕ) → linkStep rows nc i s ≡ linked (0 + key rows i) (2 * nc + i) i s
+  link-step-is : (i : ℕ) (s : List ℕ) → linkStep rows nc i s ≡ linked (0 + key rows i) (2 * nc + i) i s
   unfolding linkStep
-  step-is i s = let e : 0 + key rows i ≡ key rows i = omega arith in rw e
+  link-step-is i s = let e : 0 + key rows i ≡ key rows i = omega arith in rw e
 
   links-turn : (i : ℕ) (s : List ℕ) → i < t → Linked (suc i) s → Linked i (linkStep rows nc i s)
   links-turn i s h l =
       let d = f .named i h in
       let q = l .same .long in
       let g = 0 + key rows i in
-      rw (step-is i s) (record {
+      rw (link-step-is i s) (record {
         chain =
             chain-link (key rows) n 0 (2 * nc) t i s h (l .chain) (d .p-below) (λ a j x y. omega arith) (omega arith) (omega arith);
         same = record {
@@ -136,7 +136,7 @@ module _ (rows s s₁ s₂ : List ℕ) (nc n t : ℕ) (f : Fair rows n t) (sizes
   long = let g = f .room in let h = sizes .scratch in omega arith
 
   M : Marked rows nc n t (indexAt nc (length rows)) f room fits s long s₁
-  M = subst (λ (r : List ℕ). Marked rows nc n t (indexAt nc (length rows)) f room fits s long r) (sym e₁) (marks-are rows nc n t (indexAt nc (length rows)) f room fits s long)
+  M = subst (λ (r : List ℕ). Marked rows nc n t (indexAt nc (length rows)) f room fits s long r) (sym e₁) (olders-marked rows nc n t (indexAt nc (length rows)) f room fits s long)
 
   long₁ : 2 * nc + t ≤ length s₁
   long₁ = let a = M .same .long in let b = long in omega arith

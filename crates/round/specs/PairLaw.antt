@@ -127,6 +127,15 @@ module _ (w x y v : Tri) (z : ℕ) (o : RowsOnce (w ∷ x ∷ y ∷ v ∷ [])) w
 ends-below : (x y n lo hi : ℕ) → x < n → y < n → lo ≡ min x y → hi ≡ max x y → (lo < n) × (hi < n)
 ends-below x y n lo hi a b c d = (omega arith, omega arith)
 
+brother-below : (w x y v : Tri) (z n : ℕ) → x .q < n → y .q < n → v .q < n → brotherOf w x y v z .q < n
+unfolding brotherOf
+brother-below w x y v z n a b c = go (joins w x z) (joins w y z)
+  where
+    go : (i j : Bool) → cases i x (cases j y v) .q < n
+    go true j = a
+    go false true = b
+    go false false = c
+
 -- ---- by number
 
 -- where G1 says yes, no row holds z otherwise
@@ -187,34 +196,18 @@ module _ (rows : List ℕ) (n t z : ℕ) (f : Fair rows n t) (s : List ℕ) (nc 
 
   -- its ends are nodes
   span-in : {k : Round} → Shape rows t z k → G2 (rowsAlone rows t) z ≡ true → (span (rowsAlone rows t) z .lo < n) × (span (rowsAlone rows t) z .hi < n)
-  unfolding rowIn brotherOf answer
+  unfolding rowIn
   span-in (two i j hi hj e) q =
-      let a = spanned (two i j hi hj e) q in
-      let x = f .named i hi in
-      let y = f .named j hj in
-      let l = ap (λ (d : Edge). d .lo) a in
-      let h = ap (λ (d : Edge). d .hi) a in
-      go (joins (rowAt rows i) (rowAt rows j) z) refl (sym (shaped (two i j hi hj e)) ∙ q) x y l h
-    where
-      go : (b : Bool) → joins (rowAt rows i) (rowAt rows j) z ≡ b → joins (rowAt rows i) (rowAt rows j) z ≡ true → Named n (rowAt rows i) → Named n (rowAt rows j) →
-          span (rowsAlone rows t) z .lo ≡ min (rowAt rows i .r) (cases (joins (rowAt rows i) (rowAt rows j) z) (rowAt rows j) (cases (joins (rowAt rows i) (rowIn rows 0) z) (rowIn rows 0) (rowIn rows 0)) .q) →
-          span (rowsAlone rows t) z .hi ≡ max (rowAt rows i .r) (cases (joins (rowAt rows i) (rowAt rows j) z) (rowAt rows j) (cases (joins (rowAt rows i) (rowIn rows 0) z) (rowIn rows 0) (rowIn rows 0)) .q) →
-          (span (rowsAlone rows t) z .lo < n) × (span (rowsAlone rows t) z .hi < n)
-      go true e y x w l h = ends-below (rowAt rows i .r) (rowAt rows j .q) n _ _ (x .r-below) (w .q-below) (rw e at l) (rw e at h)
-      go false e y x w l h = clash (sym y ∙ e)
+      let d : span (rowsAlone rows t) z ≡ edge (rowAt rows i .r) (brotherOf (rowAt rows i) (rowAt rows j) (rowIn rows 0) (rowIn rows 0) z .q) = spanned (two i j hi hj e) q in
+      let w = f .named i hi in
+      ends-below (rowAt rows i .r) _ n _ _ (w .r-below)
+      (brother-below (rowAt rows i) (rowAt rows j) (rowIn rows 0) (rowIn rows 0) z n (f .named j hj .q-below) (omega arith) (omega arith))
+      (ap (λ (x : Edge). x .lo) d) (ap (λ (x : Edge). x .hi) d)
   span-in (four i j k l hi hj hk hl e) q =
-      let a = spanned (four i j k l hi hj hk hl e) q in
-      go (joins (rowAt rows i) (rowAt rows j) z) (joins (rowAt rows i) (rowAt rows k) z)
-      (ap (λ (d : Edge). d .lo) a) (ap (λ (d : Edge). d .hi) a) (f .named i hi) (f .named j hj) (f .named k hk) (f .named l hl)
-    where
-      go : (b c : Bool) →
-          span (rowsAlone rows t) z .lo ≡ min (rowAt rows i .r) (cases b (rowAt rows j) (cases c (rowAt rows k) (rowAt rows l)) .q) →
-          span (rowsAlone rows t) z .hi ≡ max (rowAt rows i .r) (cases b (rowAt rows j) (cases c (rowAt rows k) (rowAt rows l)) .q) →
-          Named n (rowAt rows i) → Named n (rowAt rows j) → Named n (rowAt rows k) → Named n (rowAt rows l) →
-          (span (rowsAlone rows t) z .lo < n) × (span (rowsAlone rows t) z .hi < n)
-      go true c x y p q u v = ends-below (rowAt rows i .r) (rowAt rows j .q) n _ _ (p .r-below) (q .q-below) x y
-      go false true x y p q u v = ends-below (rowAt rows i .r) (rowAt rows k .q) n _ _ (p .r-below) (u .q-below) x y
-      go false false x y p q u v = ends-below (rowAt rows i .r) (rowAt rows l .q) n _ _ (p .r-below) (v .q-below) x y
+      let d : span (rowsAlone rows t) z ≡ edge (rowAt rows i .r) (brotherOf (rowAt rows i) (rowAt rows j) (rowAt rows k) (rowAt rows l) z .q) = spanned (four i j k l hi hj hk hl e) q in
+      ends-below (rowAt rows i .r) _ n _ _ (f .named i hi .r-below)
+      (brother-below (rowAt rows i) (rowAt rows j) (rowAt rows k) (rowAt rows l) z n (f .named j hj .q-below) (f .named k hk .q-below) (f .named l hl .q-below))
+      (ap (λ (x : Edge). x .lo) d) (ap (λ (x : Edge). x .hi) d)
   span-in {k} (other x y e) q = clash (sym some-shape ∙ sym (shape-test rows t z (other x y e)) ∙ e)
 
   -- as the code makes it

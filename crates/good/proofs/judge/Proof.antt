@@ -5,14 +5,8 @@ use borrow.Author.Needs.{needs}
 use Rattle.good.proofs.judge.Statement.{statement}
 use Rattle.good.proofs.judge.Tie as tie
 
-note-rows-requires : tie.Need-note-rows-requires
-note-rows-requires c κs = (search (needs, fair), (search needs, (search needs, (search needs, search needs))))
-
 signs-requires : tie.Need-signs-requires
 signs-requires c κs = (search (needs, fair), (search needs, (search needs, (search needs, (search needs, (search needs, search needs))))))
-
-tag-lone-requires : tie.Need-tag-lone-requires
-tag-lone-requires c κs = ((search needs, search needs, search needs), search (needs, some-row))
 
 returns : tie.Need-returns
 returns c = all-judged _ _ _ _ _ (c .before .before .before .before .before .before .before .before .before .before .before .before .before .before .pre .0) _ _ _ _ (c .before .before .before .before .before .before .signs .ensures) (c .before .before .tag-lone .ensures) (omega arith) (omega arith)
@@ -21,4 +15,5 @@ pub judge-spec : {M : Type 1} → statement M
 judge-spec =
     tie.close
     (tie.spec
-    note-rows-requires signs-requires tag-lone-requires (λ c. search needs) returns)
+    (λ c κs. (search (needs, fair), (search needs, (search needs, (search needs, search needs))))) signs-requires
+    (λ c κs. ((search needs, search needs, search needs), search (needs, some-row))) (λ c. search needs) returns)

@@ -13,18 +13,9 @@ Inv-loop s n z₀ z = (z ≤ n) × (lowest (blankAt s) z n ≡ lowest (blankAt s
 abbrev μ-loop : tie.MeasureT-loop
 μ-loop s n z₀ z = n - z
 
-returns : tie.Need-returns Inv-loop μ-loop
-returns c = search (needs, searching)
-
-loop-again : tie.Need-loop-again Inv-loop μ-loop
-loop-again c = search (needs, searching)
-
-returns-2 : tie.Need-returns-2 Inv-loop μ-loop
-returns-2 c = search (needs, searching)
-
 pub first-blank-spec : {M : Type 1} → statement M
 first-blank-spec =
     tie.close
     (tie.spec
-    Inv-loop μ-loop (λ c. search needs) (λ c κs. search needs) returns (λ c. search needs) (λ c. search needs)
-    loop-again returns-2)
+    Inv-loop μ-loop (λ c. search needs) (λ c κs. search needs) (λ c. search (needs, searching)) (λ c. search needs) (λ c. search needs)
+    (λ c. search (needs, searching)) (λ c. search (needs, searching)))

@@ -13,18 +13,9 @@ Inv-loop rows s nc t i₀ i = (i ≤ t) × (lowest (clashAt rows t) i t ≡ lowe
 abbrev μ-loop : tie.MeasureT-loop
 μ-loop rows s nc t i₀ i = t - i
 
-returns : tie.Need-returns Inv-loop μ-loop
-returns c = search (needs, searching)
-
-loop-again : tie.Need-loop-again Inv-loop μ-loop
-loop-again c = search (needs, searching)
-
-returns-2 : tie.Need-returns-2 Inv-loop μ-loop
-returns-2 c = search (needs, searching)
-
 pub first-clash-spec : {M : Type 1} → statement M
 first-clash-spec =
     tie.close
     (tie.spec
-    Inv-loop μ-loop (λ c. search needs) (λ c κs. search needs) returns (λ c. search needs) (λ c. search needs)
-    loop-again returns-2)
+    Inv-loop μ-loop (λ c. search needs) (λ c κs. search needs) (λ c. search (needs, searching)) (λ c. search needs) (λ c. search needs)
+    (λ c. search (needs, searching)) (λ c. search (needs, searching)))

@@ -14,21 +14,9 @@ Inv-loop nodes rows n t i₀ i = (i ≤ t) × (lowest (flatAt nodes rows) i t �
 abbrev μ-loop : tie.MeasureT-loop
 μ-loop nodes rows n t i₀ i = t - i
 
-flat-at-requires : tie.Need-flat-at-requires Inv-loop μ-loop
-flat-at-requires c κs = search (needs, not-misnamed)
-
-returns : tie.Need-returns Inv-loop μ-loop
-returns c = search (needs, searching)
-
-loop-again : tie.Need-loop-again Inv-loop μ-loop
-loop-again c = search (needs, searching)
-
-returns-2 : tie.Need-returns-2 Inv-loop μ-loop
-returns-2 c = search (needs, searching)
-
 pub first-flat-spec : {M : Type 1} → statement M
 first-flat-spec =
     tie.close
     (tie.spec
-    Inv-loop μ-loop (λ c. search needs) flat-at-requires returns (λ c. search needs) (λ c. search needs)
-    loop-again returns-2)
+    Inv-loop μ-loop (λ c. search needs) (λ c κs. search (needs, not-misnamed)) (λ c. search (needs, searching)) (λ c. search needs)
+    (λ c. search needs) (λ c. search (needs, searching)) (λ c. search (needs, searching)))

@@ -18,24 +18,16 @@ Inv-loop rows s₀ nc n t i₀ s i = (i ≤ t) × (length s ≡ length s₀) × 
 abbrev μ-loop : tie.MeasureT-loop
 μ-loop rows s₀ nc n t i₀ s i = t - i
 
-returns : tie.Need-returns Inv-loop μ-loop
-returns c = (search (needs, searching), (search needs, λ e. at-some _ e))
-
-add-row-requires : tie.Need-add-row-requires Inv-loop μ-loop
-add-row-requires c κs = search (needs, corners-at)
-
 loop-again : tie.Need-loop-again Inv-loop μ-loop
 loop-again c =
     let turn = c .before .before .before .before in
     let on = lowest-on (repeatAt _) _ _ _ _ (turn .before .before .before .loop-test .taken) (turn .before .repeat-at .ensures) (turn .if1 .left) (turn .before .before .before .before .loop .inv .4) in
     (search needs, search needs, search notes-kept, search needs, on)
 
-returns-2 : tie.Need-returns-2 Inv-loop μ-loop
-returns-2 c = (search (needs, searching), (search needs, search (needs, ready-end)))
-
 pub first-repeat-spec : {M : Type 1} → statement M
 first-repeat-spec =
     tie.close
     (tie.spec
-    Inv-loop μ-loop (λ c. search needs) (λ c κs. search needs) (λ c. search needs) returns add-row-requires
-    (λ c. search needs) (λ c. search needs) loop-again (λ c. search needs) returns-2)
+    Inv-loop μ-loop (λ c. search needs) (λ c κs. search needs) (λ c. search needs)
+    (λ c. (search (needs, searching), (search needs, λ e. at-some _ e))) (λ c κs. search (needs, corners-at)) (λ c. search needs) (λ c. search needs)
+    loop-again (λ c. search needs) (λ c. (search (needs, searching), (search needs, search (needs, ready-end)))))

@@ -5,9 +5,6 @@ use borrow.Author.Needs.{needs}
 use Rattle.lawful.proofs.later_fault.Statement.{statement}
 use Rattle.lawful.proofs.later_fault.Tie as tie
 
-first-repeat-requires : tie.Need-first-repeat-requires
-first-repeat-requires c κs = (search needs, (search needs, (search needs, search (needs, ready-start))))
-
 returns : tie.Need-returns
 unfolding laterBy
 returns c = (search (needs, chain), search (needs, judged-late))
@@ -15,9 +12,6 @@ returns c = (search (needs, chain), search (needs, judged-late))
 returns-2 : tie.Need-returns-2
 unfolding laterBy
 returns-2 c = (search (needs, chain), search (needs, judged-late))
-
-first-unused-requires : tie.Need-first-unused-requires
-first-unused-requires c κs = (search needs, (search needs, (search needs, search (needs, front-zero))))
 
 returns-3 : tie.Need-returns-3
 unfolding laterBy
@@ -31,7 +25,7 @@ pub later-fault-spec : {M : Type 1} → statement M
 later-fault-spec =
     tie.close
     (tie.spec
-    first-repeat-requires (λ c. search needs) (λ c. search needs) returns (λ c. search needs)
-    (λ c κs. search needs) (λ c. search needs) (λ c. search needs) returns-2 (λ c. search needs)
-    first-unused-requires (λ c. search needs) (λ c. search needs) returns-3 (λ c. search needs)
-    (λ c. search needs) returns-4)
+    (λ c κs. (search needs, (search needs, (search needs, search (needs, ready-start))))) (λ c. search needs) (λ c. search needs) returns
+    (λ c. search needs) (λ c κs. search needs) (λ c. search needs) (λ c. search needs) returns-2 (λ c. search needs)
+    (λ c κs. (search needs, (search needs, (search needs, search (needs, front-zero))))) (λ c. search needs) (λ c. search needs) returns-3
+    (λ c. search needs) (λ c. search needs) returns-4)

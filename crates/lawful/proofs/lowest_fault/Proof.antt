@@ -1,4 +1,4 @@
-use Rattle.lawful.specs.MeshLaw.{fault-is}
+use Rattle.lawful.specs.MeshLaw.{faultBy-is}
 use Rattle.lawful.specs.FaultLaw.{chain, judged-early}
 use Rattle.lawful.specs.Tests.{faultBy}
 use borrow.Author.Needs.{needs}
@@ -7,18 +7,18 @@ use Rattle.lawful.proofs.lowest_fault.Tie as tie
 
 returns : tie.Need-returns
 unfolding faultBy
-returns c = (rw (← fault-is) (search (needs, chain)), search (needs, judged-early))
+returns c = (rw (← faultBy-is) (search (needs, chain)), search (needs, judged-early))
 
 returns-2 : tie.Need-returns-2
 unfolding faultBy
-returns-2 c = (rw (← fault-is) (search (needs, chain)), search (needs, judged-early))
+returns-2 c = (rw (← faultBy-is) (search (needs, chain)), search (needs, judged-early))
 
 later-fault-requires : tie.Need-later-fault-requires
 later-fault-requires c κs = (search needs, ((search needs, search needs, search needs), (search (needs, chain), (search (needs, chain), search needs))))
 
 returns-3 : tie.Need-returns-3
 unfolding faultBy
-returns-3 c = (rw (← fault-is) (search (needs, chain)), search needs)
+returns-3 c = (rw (← faultBy-is) (search (needs, chain)), search needs)
 
 pub lowest-fault-spec : {M : Type 1} → statement M
 lowest-fault-spec =

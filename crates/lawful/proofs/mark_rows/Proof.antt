@@ -15,18 +15,9 @@ Inv-loop rows s₀ n t i₀ s i = (i ≤ t) × (length s ≡ length s₀) × (it
 abbrev μ-loop : tie.MeasureT-loop
 μ-loop rows s₀ n t i₀ s i = t - i
 
-mark-row-requires : tie.Need-mark-row-requires Inv-loop μ-loop
-mark-row-requires c κs = search (needs, not-misnamed)
-
-loop-again : tie.Need-loop-again Inv-loop μ-loop
-loop-again c = search (needs, looping)
-
-returns : tie.Need-returns Inv-loop μ-loop
-returns c = search (needs, looping)
-
 pub mark-rows-spec : {M : Type 1} → statement M
 mark-rows-spec =
     tie.close
     (tie.spec
-    Inv-loop μ-loop (λ c. search needs) mark-row-requires (λ c. search needs) (λ c. search needs) loop-again
-    (λ c. search needs) returns)
+    Inv-loop μ-loop (λ c. search needs) (λ c κs. search (needs, not-misnamed)) (λ c. search needs) (λ c. search needs) (λ c. search (needs, looping))
+    (λ c. search needs) (λ c. search (needs, looping)))

@@ -3,12 +3,8 @@ use borrow.Author.Needs.{needs}
 use Rattle.round.proofs.g2.Statement.{statement}
 use Rattle.round.proofs.g2.Tie as tie
 
-returns : tie.Need-returns
-returns c = search (needs, G2-two)
-
-returns-2 : tie.Need-returns-2
-returns-2 c = search (needs, G2-four)
-
 pub g2-spec : {M : Type 1} → statement M
-g2-spec = tie.close (tie.spec
-    (λ c κs. search needs) (λ c κs. search needs) returns (λ c κs. search needs) returns-2)
+g2-spec =
+    tie.close
+    (tie.spec
+    (λ c κs. search needs) (λ c κs. search needs) (λ c. search (needs, G2-two)) (λ c κs. search needs) (λ c. search (needs, G2-four)))

@@ -3,12 +3,9 @@ use borrow.Author.Needs.{needs}
 use Rattle.round.proofs.link.Statement.{statement}
 use Rattle.round.proofs.link.Tie as tie
 
-returns : tie.Need-returns
-returns c = search (needs, link-put)
-
 pub link-spec : {M : Type 1} → statement M
 link-spec =
     tie.close
     (tie.spec
-    (λ c κs. search needs) (λ c κs. search needs) (λ c. search needs) (λ c. search needs)
-    (λ c κs. search needs) (λ c. search needs) returns)
+    (λ c κs. search needs) (λ c κs. search needs) (λ c. search needs) (λ c. search needs) (λ c κs. search needs) (λ c. search needs)
+    (λ c. search (needs, link-put)))

@@ -3,9 +3,8 @@ use borrow.Author.Needs.{needs}
 use Rattle.round.proofs.note_rows.Statement.{statement}
 use Rattle.round.proofs.note_rows.Tie as tie
 
-returns : tie.Need-returns
-returns c = (search (needs, rows-around), search (needs, rows-ready))
-
 pub note-rows-spec : {M : Type 1} → statement M
-note-rows-spec = tie.close (tie.spec
-    (λ c κs. search needs) (λ c κs. search needs) (λ c. search needs) returns)
+note-rows-spec =
+    tie.close
+    (tie.spec
+    (λ c κs. search needs) (λ c κs. search needs) (λ c. search needs) (λ c. (search (needs, rows-around), search (needs, rows-ready))))

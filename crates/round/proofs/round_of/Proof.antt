@@ -3,14 +3,9 @@ use borrow.Author.Needs.{needs}
 use Rattle.round.proofs.round_of.Statement.{statement}
 use Rattle.round.proofs.round_of.Tie as tie
 
-after-requires : tie.Need-after-requires
-after-requires c κs = (search needs, search (needs, head-le))
-
-returns : tie.Need-returns
-returns c = (search (needs, round-made), search (needs, round-within))
-
 pub round-of-spec : {M : Type 1} → statement M
 round-of-spec =
     tie.close
     (tie.spec
-    (λ c κs. search needs) after-requires (λ c κs. search needs) (λ c κs. search needs) (λ c κs. search needs) returns)
+    (λ c κs. search needs) (λ c κs. (search needs, search (needs, head-le))) (λ c κs. search needs) (λ c κs. search needs) (λ c κs. search needs)
+    (λ c. (search (needs, round-made), search (needs, round-within))))

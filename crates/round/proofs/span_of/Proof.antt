@@ -3,12 +3,9 @@ use borrow.Author.Needs.{needs}
 use Rattle.round.proofs.span_of.Statement.{statement}
 use Rattle.round.proofs.span_of.Tie as tie
 
-returns : tie.Need-returns
-returns c = (search (needs, span-made), (search (needs, lo-below), search (needs, hi-below)))
-
 pub span-of-spec : {M : Type 1} → statement M
 span-of-spec =
     tie.close
     (tie.spec
     (λ c κs. search needs) (λ c κs. search needs) (λ c κs. search needs) (λ c κs. search needs) (λ c κs. search needs)
-    returns)
+    (λ c. (search (needs, span-made), (search (needs, lo-below), search (needs, hi-below)))))

@@ -14,18 +14,9 @@ Inv-loop s₀ o t i₀ s i = (i ≤ t) × (length s ≡ length s₀) × (s ≡ n
 abbrev μ-loop : tie.MeasureT-loop
 μ-loop s₀ o t i₀ s i = t - i
 
-loop-holds : tie.Need-loop-holds Inv-loop μ-loop
-loop-holds c = (search needs, search needs, noted-start _ blank _)
-
-loop-again : tie.Need-loop-again Inv-loop μ-loop
-loop-again c = search (needs, noting)
-
-returns : tie.Need-returns Inv-loop μ-loop
-returns c = search (needs, noting)
-
 pub blank-rows-spec : {M : Type 1} → statement M
 blank-rows-spec =
     tie.close
     (tie.spec
-    Inv-loop μ-loop loop-holds (λ c. search needs) (λ c κs. search needs) (λ c. search needs)
-    (λ c. search needs) loop-again (λ c. search needs) returns)
+    Inv-loop μ-loop (λ c. (search needs, search needs, noted-start _ blank _)) (λ c. search needs) (λ c κs. search needs) (λ c. search needs)
+    (λ c. search needs) (λ c. search (needs, noting)) (λ c. search needs) (λ c. search (needs, noting)))

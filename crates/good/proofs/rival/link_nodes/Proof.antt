@@ -15,18 +15,9 @@ Inv-loop s₀ nc n t z₀ s z = (z ≤ n) × (length s ≡ length s₀) × (down
 abbrev μ-loop : tie.MeasureT-loop
 μ-loop s₀ nc n t z₀ s z = z
 
-link-node-requires : tie.Need-link-node-requires Inv-loop μ-loop
-link-node-requires c κs = (search needs, (search (needs, some-down), (search needs, search needs)))
-
-loop-again : tie.Need-loop-again Inv-loop μ-loop
-loop-again c = search (needs, downward)
-
-returns : tie.Need-returns Inv-loop μ-loop
-returns c = search (needs, downward)
-
 pub link-nodes-spec : {M : Type 1} → statement M
 link-nodes-spec =
     tie.close
     (tie.spec
-    Inv-loop μ-loop (λ c. search needs) (λ c. search needs) link-node-requires (λ c. search needs)
-    loop-again (λ c. search needs) returns)
+    Inv-loop μ-loop (λ c. search needs) (λ c. search needs) (λ c κs. (search needs, (search (needs, some-down), (search needs, search needs))))
+    (λ c. search needs) (λ c. search (needs, downward)) (λ c. search needs) (λ c. search (needs, downward)))

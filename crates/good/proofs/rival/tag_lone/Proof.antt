@@ -3,14 +3,9 @@ use borrow.Author.Needs.{needs}
 use Rattle.good.proofs.rival.tag_lone.Statement.{statement}
 use Rattle.good.proofs.rival.tag_lone.Tie as tie
 
-tags-requires : tie.Need-tags-requires
-tags-requires c κs = (search (needs, nodes-linked), search needs)
-
-returns : tie.Need-returns
-returns c = search (needs, all-tagged)
-
 pub tag-lone-spec : {M : Type 1} → statement M
 tag-lone-spec =
     tie.close
     (tie.spec
-    (λ c. search needs) (λ c κs. search needs) (λ c κs. search needs) tags-requires (λ c. search needs) returns)
+    (λ c. search needs) (λ c κs. search needs) (λ c κs. search needs) (λ c κs. (search (needs, nodes-linked), search needs)) (λ c. search needs)
+    (λ c. search (needs, all-tagged)))

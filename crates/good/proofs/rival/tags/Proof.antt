@@ -15,20 +15,10 @@ Inv-loop s₀ nc n t z₀ s z = (z ≤ n) × (length s ≡ length s₀) × (s �
 abbrev μ-loop : tie.MeasureT-loop
 μ-loop s₀ nc n t z₀ s z = n - z
 
-loop-holds : tie.Need-loop-holds Inv-loop μ-loop
-loop-holds c = (search needs, search needs, noted-start _ (tagged _ _) _)
-
-tag-requires : tie.Need-tag-requires Inv-loop μ-loop
-tag-requires c κs = (search (needs, linked-still), (search needs, search (needs, some-up)))
-
-loop-again : tie.Need-loop-again Inv-loop μ-loop
-loop-again c = (search needs, search needs, search (needs, tag-put))
-
-returns : tie.Need-returns Inv-loop μ-loop
-returns c = search (needs, noting)
-
 pub tags-spec : {M : Type 1} → statement M
 tags-spec =
     tie.close
     (tie.spec
-    Inv-loop μ-loop loop-holds tag-requires (λ c. search needs) (λ c κs. search needs) (λ c. search needs) (λ c. search needs) loop-again (λ c. search needs) returns)
+    Inv-loop μ-loop (λ c. (search needs, search needs, noted-start _ (tagged _ _) _))
+    (λ c κs. (search (needs, linked-still), (search needs, search (needs, some-up)))) (λ c. search needs) (λ c κs. search needs) (λ c. search needs)
+    (λ c. search needs) (λ c. (search needs, search needs, search (needs, tag-put))) (λ c. search needs) (λ c. search (needs, noting)))

@@ -3,26 +3,15 @@ use borrow.Author.Needs.{needs}
 use Rattle.good.proofs.sign.sign.Statement.{statement}
 use Rattle.good.proofs.sign.sign.Tie as tie
 
-returns : tie.Need-returns
-returns c = (search (needs, sign-not-1), search needs)
-
-g2-requires : tie.Need-g2-requires
-g2-requires c κs = (search needs, (search needs, search (needs, came)))
-
-returns-2 : tie.Need-returns-2
-returns-2 c = (search (needs, sign-not-2), search needs)
-
 span-of-requires : tie.Need-span-of-requires
 span-of-requires c κs = (search needs, (search needs, (came _ _ (c .before .before .before .g1 .ensures) (c .before .before .if1 .left), came _ _ (c .before .g2 .ensures) (c .if2 .left))))
 
 sign-on-requires : tie.Need-sign-on-requires
 sign-on-requires c κs = (search needs, (search needs, (search needs, ((search needs, search needs, search needs), search needs))))
 
-returns-3 : tie.Need-returns-3
-returns-3 c = (search (needs, sign-all), search needs)
-
 pub sign-spec : {M : Type 1} → statement M
 sign-spec =
     tie.close
     (tie.spec
-    (λ c κs. search needs) returns g2-requires returns-2 span-of-requires sign-on-requires returns-3)
+    (λ c κs. search needs) (λ c. (search (needs, sign-not-1), search needs)) (λ c κs. (search needs, (search needs, search (needs, came))))
+    (λ c. (search (needs, sign-not-2), search needs)) span-of-requires sign-on-requires (λ c. (search (needs, sign-all), search needs)))

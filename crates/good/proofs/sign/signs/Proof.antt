@@ -17,20 +17,13 @@ Inv-loop nodes rows s₀ nc n0 n t z₀ s z = (z ≤ n) × (length s ≡ length 
 abbrev μ-loop : tie.MeasureT-loop
 μ-loop nodes rows s₀ nc n0 n t z₀ s z = n - z
 
-loop-holds : tie.Need-loop-holds Inv-loop μ-loop
-loop-holds c = (search needs, search needs, noted-start _ (fresh _ _) _)
-
 sign-from-requires : tie.Need-sign-from-requires Inv-loop μ-loop
 sign-from-requires c κs = (search needs, (search (needs, around-still), (search (needs, ready-still), (search needs, (search needs, search needs)))))
-
-loop-again : tie.Need-loop-again Inv-loop μ-loop
-loop-again c = (search needs, search needs, search (needs, sign-put))
-
-returns : tie.Need-returns Inv-loop μ-loop
-returns c = search (needs, noting)
 
 pub signs-spec : {M : Type 1} → statement M
 signs-spec =
     tie.close
     (tie.spec
-    Inv-loop μ-loop loop-holds sign-from-requires (λ c. search needs) (λ c. search needs) (λ c κs. search needs) (λ c. search needs) (λ c. search needs) loop-again (λ c. search needs) returns)
+    Inv-loop μ-loop (λ c. (search needs, search needs, noted-start _ (fresh _ _) _)) sign-from-requires (λ c. search needs) (λ c. search needs)
+    (λ c κs. search needs) (λ c. search needs) (λ c. search needs) (λ c. (search needs, search needs, search (needs, sign-put))) (λ c. search needs)
+    (λ c. search (needs, noting)))

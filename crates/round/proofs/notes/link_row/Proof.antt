@@ -3,15 +3,9 @@ use borrow.Author.Needs.{needs}
 use Rattle.round.proofs.notes.link_row.Statement.{statement}
 use Rattle.round.proofs.notes.link_row.Tie as tie
 
-link-requires : tie.Need-link-requires
-link-requires c κs = (search (needs, p-note), (search needs, search needs))
-
-returns : tie.Need-returns
-returns c = search (needs, link-row-put)
-
 pub link-row-spec : {M : Type 1} → statement M
 link-row-spec =
     tie.close
     (tie.spec
-    (λ c κs. search needs) (λ c. search needs) (λ c. search needs) (λ c. search needs) link-requires
-    (λ c. search needs) returns)
+    (λ c κs. search needs) (λ c. search needs) (λ c. search needs) (λ c. search needs)
+    (λ c κs. (search (needs, p-note), (search needs, search needs))) (λ c. search needs) (λ c. search (needs, link-row-put)))

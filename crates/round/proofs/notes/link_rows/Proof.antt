@@ -14,15 +14,9 @@ Inv-loop rows s₀ nc n t i₀ s i = (i ≤ t) × (length s ≡ length s₀) × 
 abbrev μ-loop : tie.MeasureT-loop
 μ-loop rows s₀ nc n t i₀ s i = i
 
-loop-again : tie.Need-loop-again Inv-loop μ-loop
-loop-again c = search (needs, downward)
-
-returns : tie.Need-returns Inv-loop μ-loop
-returns c = search (needs, downward)
-
 pub link-rows-spec : {M : Type 1} → statement M
 link-rows-spec =
     tie.close
     (tie.spec
-    Inv-loop μ-loop (λ c. search needs) (λ c. search needs) (λ c κs. search needs) (λ c. search needs)
-    loop-again (λ c. search needs) returns)
+    Inv-loop μ-loop (λ c. search needs) (λ c. search needs) (λ c κs. search needs) (λ c. search needs) (λ c. search (needs, downward))
+    (λ c. search needs) (λ c. search (needs, downward)))

@@ -13,13 +13,13 @@ use Rattle.lists.specs.ListsLaw.{and-left, and-right}
 use Rattle.lists.specs.Search.{items}
 use Rattle.lists.specs.AllLaw.{items-on, items-off, items-end}
 use Rattle.text.specs.Digits.{isDigit, number, field, listed}
-use Rattle.frames.specs.declared.Session.{Session}
-use Rattle.frames.specs.Frames.{wellFormed, allBelow, listsBelow, admits, takes}
+use Rattle.protocol.specs.declared.Session.{Session}
+use Rattle.protocol.specs.Frames.{wellFormed, allBelow, listsBelow, admits, takes}
 
 -- ---- what is listed
 
-pub below-is : (f : List ℕ) (i end k : ℕ) → k ≡ field 4 f i → ltb k end ≡ ltb (field 4 f i) end
-below-is f i end k e = rw e
+pub below-tested : (f : List ℕ) (i end k : ℕ) → k ≡ field 4 f i → ltb k end ≡ ltb (field 4 f i) end
+below-tested f i end k e = rw e
 
 -- a loop over the numbers listed: b is what the test said of number i, w the whole answer
 module _ (f : List ℕ) (end i : ℕ) (b w : Bool) where

@@ -1,5 +1,5 @@
 -- What stands in the tables and the buffer that are lent, after a line; and the sizes that the code relies on. Assumes nothing.
-use mathlib.Core.Path.{_≡_}
+use mathlib.Core.Path.{_≡_, sym, ap, _∙_}
 use mathlib.Core.Bool.{Bool, true, false, _&&_}
 use mathlib.Core.List.{List, []}
 use Prim.Native.Nat.{ℕ, _≤_}
@@ -10,9 +10,9 @@ use lib.ListN.{length}
 use Rattle.lists.specs.Lists.{cases}
 use Rattle.lists.specs.ListsLaw.{and-left, and-right}
 use Rattle.text.specs.Writing.{Wrote, wrote, writes}
-use Rattle.frames.specs.declared.Session.{Session}
+use Rattle.protocol.specs.declared.Session.{Session}
 use Rattle.frames.specs.declared.Answered.{Answered}
-use Rattle.frames.specs.Frames.{Held, held, Step, step, lineStep}
+use Rattle.protocol.specs.Frames.{Held, held, Step, step, lineStep}
 
 -- the tables and the session, and the buffer with the answer from its start on
 pub record Lent : Type 0 where
@@ -22,8 +22,8 @@ pub record Lent : Type 0 where
 abbrev pub lent : Answered → List ℤ → List ℕ → List ℕ → List ℕ → Lent
 lent r ns rs sc out = record { next = held ns rs sc (r .session); text = wrote (r .written) out }
 
-abbrev pub written : List ℕ → Step → Lent
-written out s = record { next = s .next; text = writes (wrote 0 out) (s .text) }
+abbrev pub writing : List ℕ → Step → Lent
+writing out s = record { next = s .next; text = writes (wrote 0 out) (s .text) }
 
 -- "The program holds each table whole": the lengths of its tables and of the buffer, and counts within its rooms
 unfoldable pub whole : ℕ → ℕ → ℕ → ℕ → Session → Bool
@@ -77,5 +77,19 @@ WholeHeld h ol = Whole (length (h .nodes)) (length (h .rows)) (length (h .scratc
 unfoldable pub lineLent : Held → List ℕ → List ℕ → Lent
 lineLent h line out =
     cases (whole (length (h .nodes)) (length (h .rows)) (length (h .scratch)) (length out) (h .session))
-    (written out (lineStep h line))
-    (written out (step h []))
+    (writing out (lineStep h line))
+    (writing out (step h []))
+
+-- two calls of `line` that were given the same, and meet the contract
+pub line-one : (h : Held) (line out : List ℕ) (a b : Answered) (ns ns′ : List ℤ) (rs rs′ sc sc′ o o′ : List ℕ) →
+    lent a ns rs sc o ≡ lineLent h line out → lent b ns′ rs′ sc′ o′ ≡ lineLent h line out →
+    (a .session ≡ b .session) × (a .written ≡ b .written) × (ns ≡ ns′) × (rs ≡ rs′) × (sc ≡ sc′) × (o ≡ o′)
+line-one h line out a b ns ns′ rs rs′ sc sc′ o o′ p q =
+    let e : lent a ns rs sc o ≡ lent b ns′ rs′ sc′ o′ = p ∙ sym q in (
+      ap (λ (x : Lent). x .next .session) e,
+      ap (λ (x : Lent). x .text .at) e,
+      ap (λ (x : Lent). x .next .nodes) e,
+      ap (λ (x : Lent). x .next .rows) e,
+      ap (λ (x : Lent). x .next .scratch) e,
+      ap (λ (x : Lent). x .text .out) e,
+    )

@@ -20,10 +20,10 @@ use Rattle.tables.specs.Put.{setPlace, setRow}
 use Rattle.text.specs.Digits.{number, listed}
 use Rattle.text.specs.Lines.{placeIn, rowIn, ffLine, answerLine, allLines}
 use Rattle.text.specs.Writing.{Wrote, wrote, writes}
-use Rattle.frames.specs.declared.Session.{Session}
+use Rattle.protocol.specs.declared.Session.{Session}
 use Rattle.frames.specs.declared.Answered.{Answered}
-use Rattle.frames.specs.Frames.{Held, held, session, step, ff, admits, takes, addNode, addRow, orDropped, marksOf, called, sessionAfter, frame, lineStep}
-use Rattle.frames.specs.Answered.{Lent, lent, written, whole, Whole, whole-is, lineLent}
+use Rattle.protocol.specs.Frames.{Held, held, session, step, ff, admits, takes, addNode, addRow, orDropped, marksOf, called, sessionAfter, frame, lineStep}
+use Rattle.frames.specs.Answered.{Lent, lent, writing, whole, Whole, whole-is, lineLent}
 use Rattle.frames.specs.AdmitLaw.{node-room, row-room, rest-is}
 use Rattle.frames.specs.MarksLaw.{markOne, marked-are}
 
@@ -93,23 +93,23 @@ module _ (nl rl sl ol kind : ℕ) (f : List ℕ) (s : Session) (w : Whole nl rl 
 
 module _ (ns : List ℤ) (rs sc out : List ℕ) (s : Session) (kind : ℕ) (f : List ℕ) where
   pub frame-node : (a : Place) (ns₁ : List ℤ) → kind ≡ 1 → a ≡ placeIn f → ns₁ ≡ setPlace ns (s .n) a →
-      lent (answered (session (s .n + 1) (s .t) (s .n0) (s .accepted)) 0) ns₁ rs sc out ≡ written out (frame (held ns rs sc s) kind f)
+      lent (answered (session (s .n + 1) (s .t) (s .n0) (s .accepted)) 0) ns₁ rs sc out ≡ writing out (frame (held ns rs sc s) kind f)
   unfolding frame addNode writes
   frame-node a ns₁ k p e = rw (k, e, p)
 
   pub frame-row : (w : Tri) (rs₁ : List ℕ) → kind ≡ 2 → w ≡ rowIn f → rs₁ ≡ setRow rs (s .t) w →
-      lent (answered (session (s .n) (s .t + 1) (s .n0) (s .accepted)) 0) ns rs₁ sc out ≡ written out (frame (held ns rs sc s) kind f)
+      lent (answered (session (s .n) (s .t + 1) (s .n0) (s .accepted)) 0) ns rs₁ sc out ≡ writing out (frame (held ns rs sc s) kind f)
   unfolding frame addRow writes
   frame-row w rs₁ k p e = rw (k, e, p)
 
   module _ (k : ℕ) (o : List ℕ) where
-    pub frame-all : kind ≡ 7 → wrote k o ≡ writes (wrote 0 out) (allLines ns rs (s .n) (s .t)) → lent (answered s k) ns rs sc o ≡ written out (frame (held ns rs sc s) kind f)
+    pub frame-all : kind ≡ 7 → wrote k o ≡ writes (wrote 0 out) (allLines ns rs (s .n) (s .t)) → lent (answered s k) ns rs sc o ≡ writing out (frame (held ns rs sc s) kind f)
     unfolding frame
     frame-all h e = rw h (ap (with (held ns rs sc s)) e)
 
     pub frame-called : (a : Answer) (ns₁ : List ℤ) (rs₁ sc₁ : List ℕ) (s₁ : Session) → (kind ≡ 1 → ⊥) → (kind ≡ 2 → ⊥) → (kind ≡ 7 → ⊥) →
         outcome a ns₁ rs₁ sc₁ ≡ called (held ns rs sc s) kind f → s₁ ≡ sessionAfter s kind a → wrote k o ≡ writes (wrote 0 out) (answerLine kind a) →
-        lent (answered s₁ k) ns₁ rs₁ sc₁ o ≡ written out (frame (held ns rs sc s) kind f)
+        lent (answered s₁ k) ns₁ rs₁ sc₁ o ≡ writing out (frame (held ns rs sc s) kind f)
     unfolding frame
     frame-called a ns₁ rs₁ sc₁ s₁ h₁ h₂ h₇ c e w =
         rw (ne-eqb kind 1 h₁, ne-eqb kind 2 h₂, ne-eqb kind 7 h₇, ← c, e) (ap (with (held ns₁ rs₁ sc₁ (sessionAfter s kind a))) w)
@@ -118,12 +118,12 @@ module _ (ns : List ℤ) (rs sc out : List ℕ) (s : Session) (kind : ℕ) (f : 
 
 module _ (ns : List ℤ) (rs sc out : List ℕ) (s : Session) (l : List ℕ) where
   module _ (y : Bool) (t : y ≡ takes s l) where
-    pub line-ff : (k : ℕ) (o : List ℕ) → not y ≡ true → wrote k o ≡ writes (wrote 0 out) ffLine → lent (answered s k) ns rs sc o ≡ written out (lineStep (held ns rs sc s) l)
+    pub line-ff : (k : ℕ) (o : List ℕ) → not y ≡ true → wrote k o ≡ writes (wrote 0 out) ffLine → lent (answered s k) ns rs sc o ≡ writing out (lineStep (held ns rs sc s) l)
     unfolding lineStep
     line-ff k o m e = rw (← t, not-true y m) (ap (with (held ns rs sc s)) e)
 
-    pub line-frame : (kind : ℕ) (x : Lent) → not y ≡ false → kind ≡ number 2 l 0 → x ≡ written out (frame (held ns rs sc s) kind (take (length l - 2) (drop 2 l))) →
-        x ≡ written out (lineStep (held ns rs sc s) l)
+    pub line-frame : (kind : ℕ) (x : Lent) → not y ≡ false → kind ≡ number 2 l 0 → x ≡ writing out (frame (held ns rs sc s) kind (take (length l - 2) (drop 2 l))) →
+        x ≡ writing out (lineStep (held ns rs sc s) l)
     unfolding lineStep
     line-frame kind x m e c = rw (← t, not-false y m, ← e) (rw (rest-is l) at c)
 
@@ -133,7 +133,7 @@ module _ (ns : List ℤ) (rs sc out : List ℕ) (s : Session) (l : List ℕ) whe
     unfolding lineLent writes
     line-none n = rw (← q, not-true b n)
 
-    pub line-plain : (x : Lent) → not b ≡ false → x ≡ written out (lineStep (held ns rs sc s) l) → x ≡ lineLent (held ns rs sc s) l out
+    pub line-plain : (x : Lent) → not b ≡ false → x ≡ writing out (lineStep (held ns rs sc s) l) → x ≡ lineLent (held ns rs sc s) l out
     unfolding lineLent
     line-plain x n e = rw (← q, not-false b n) e
 

@@ -1,4 +1,4 @@
--- The marks of what is listed: "A repeated number counts once"; and the loop that sets them. Assumes nothing.
+-- The marks of what is listed: the loop that sets them. Assumes nothing.
 use mathlib.Core.Path.{_≡_, refl, sym, ap, _∙_}
 use mathlib.Core.Bool.{Bool, true, false, _||_}
 use mathlib.Core.List.{List}
@@ -8,19 +8,11 @@ use borrow.Author.Tests.{eqb-true, eqb-false}
 use lib.Dec.{eqb}
 use lib.ListN.{length, getD, set, take, replicate, length-set, length-replicate, getD-replicate}
 use lib.Seq.{length-take-le, getD-take, getD-set-same, getD-set-other, set-out, ext-getD}
-use Rattle.lists.specs.Lists.{any, cases, once}
-use Rattle.lists.specs.AnyLaw.{any-once}
+use Rattle.lists.specs.Lists.{any, cases}
 use Rattle.lists.specs.Search.{items, itemsFrom, iter, iterFrom}
 use Rattle.lists.specs.IterLaw.{iter-keeps, length-items, getD-items}
 use Rattle.text.specs.Digits.{field, listed}
-use Rattle.frames.specs.Frames.{marksOf}
-
--- a list's marks are those of its members once each
-pub marks-once : (k : ℕ) (l : List ℕ) → marksOf k (once eqb l) ≡ marksOf k l
-unfolding marksOf
-marks-once k l =
-    let e : (i : ℕ) → any (eqb i) (once eqb l) ≡ any (eqb i) l = λ i. any-once eqb (eqb i) (λ x y q. ap (eqb i) (eqb-true x y q)) l in
-    simp e
+use Rattle.protocol.specs.Frames.{marksOf}
 
 -- number i of those listed, marked
 unfoldable pub markOne : List ℕ → ℕ → List ℕ → List ℕ

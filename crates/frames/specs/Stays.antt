@@ -28,7 +28,7 @@ use Rattle.tables.specs.PutLaw.{length-setPlace, length-setRow}
 use Rattle.text.specs.Digits.{listed}
 use Rattle.text.specs.Lines.{placeIn, rowIn, answerLine}
 use Rattle.text.specs.LinesAre.{answer-length, all-length}
-use Rattle.frames.specs.Frames.{Held, held, session, givenBy, Step, step, ff, wellFormed, admits, takes, kindOf, fieldsOf, addNode, addRow, orDropped, marksOf, called, sessionAfter, answering, frame, lineStep}
+use Rattle.protocol.specs.Frames.{Held, held, session, givenBy, Step, step, ff, wellFormed, admits, takes, kindOf, fieldsOf, addNode, addRow, orDropped, marksOf, called, sessionAfter, answering, frame, lineStep}
 use Rattle.frames.specs.Answered.{Whole, WholeHeld}
 use Rattle.frames.specs.AdmitLaw.{node-room, row-room}
 
@@ -100,8 +100,8 @@ module _ (g : Given) (a : 2 * g .n ≤ length (g .nodes)) (b : 3 * g .t ≤ leng
             t = c .rows;
           }
 
-  counted : (m : Mesh) → length (m .nodes) ≤ length (meshOf g .nodes) → length (m .tris) ≤ length (meshOf g .tris) → Counted g m
-  counted m h k = record { nodes = omega (arith, nodes-count g); rows = omega (arith, rows-count g) }
+  counted-less : (m : Mesh) → length (m .nodes) ≤ length (meshOf g .nodes) → length (m .tris) ≤ length (meshOf g .tris) → Counted g m
+  counted-less m h k = record { nodes = omega (arith, nodes-count g); rows = omega (arith, rows-count g) }
 
   sound-dropped : (o : Outcome) → Sound g o → Sound g (orDropped o)
   sound-dropped o s =
@@ -128,14 +128,14 @@ module _ (g : Given) (a : 2 * g .n ≤ length (g .nodes)) (b : 3 * g .t ≤ leng
   unfolding coarsenOut coarsens
   sound-coarsen n0 marks =
       let m = meshOf g in
-      sound-sized n0 (coarsenNo m marks) m (coarsened n0 m marks) 0 (λ e. counted (coarsened n0 m marks) (omega (arith, coarsened-count n0 m marks)) (coarsened-rows n0 m marks))
+      sound-sized n0 (coarsenNo m marks) m (coarsened n0 m marks) 0 (λ e. counted-less (coarsened n0 m marks) (omega (arith, coarsened-count n0 m marks)) (coarsened-rows n0 m marks))
 
   sound-restore : (n0 : ℕ) → Sound g (restoreOut g n0)
   unfolding restoreOut restores
   sound-restore n0 =
       let m = meshOf g in
       let r : Restored = restored n0 m in
-      sound-sized n0 (refusal m) m (r .end) (r .passes) (λ e. counted (r .end) (omega (arith, restored-fewer n0 m)) (passes-rows (restored-is n0 m)))
+      sound-sized n0 (refusal m) m (r .end) (r .passes) (λ e. counted-less (r .end) (omega (arith, restored-fewer n0 m)) (passes-rows (restored-is n0 m)))
 
 -- ---- what a line leaves
 
@@ -143,9 +143,9 @@ pub record Fine (ol : ℕ) (s : Step) : Type 0 where
   pub next : WholeHeld (s .next) ol
   pub few : length (s .text) ≤ 32768
 
-either : (ol : ℕ) (b : Bool) {x y : Step} → (b ≡ true → Fine ol x) → Fine ol y → Fine ol (cases b x y)
-either ol true p q = p refl
-either ol false p q = q
+fine-either : (ol : ℕ) (b : Bool) {x y : Step} → (b ≡ true → Fine ol x) → Fine ol y → Fine ol (cases b x y)
+fine-either ol true p q = p refl
+fine-either ol false p q = q
 
 module _ (h : Held) (ol : ℕ) (w : WholeHeld h ol) where
   called-sound : (kind : ℕ) (fields : List ℕ) → Sound (givenBy h) (called h kind fields)
@@ -213,9 +213,9 @@ module _ (h : Held) (ol : ℕ) (w : WholeHeld h ol) where
     frame-fine : Fine ol (frame h kind fields)
     unfolding frame
     frame-fine =
-        either ol (eqb kind 1) (λ e. node-fine (eqb-true kind 1 e))
-        (either ol (eqb kind 2) (λ e. row-fine (eqb-true kind 2 e))
-        (either ol (eqb kind 7)
+        fine-either ol (eqb kind 1) (λ e. node-fine (eqb-true kind 1 e))
+        (fine-either ol (eqb kind 2) (λ e. row-fine (eqb-true kind 2 e))
+        (fine-either ol (eqb kind 7)
         (λ e. record { next = w; few = omega (arith, all-length (h .nodes) (h .rows) (h .session .n) (h .session .t), w .few-nodes, w .few-rows) })
         (answering-fine kind (called h kind fields) (called-sound kind fields))))
 
@@ -223,6 +223,6 @@ module _ (h : Held) (ol : ℕ) (w : WholeHeld h ol) where
 pub line-fine : (h : Held) (ol : ℕ) (line : List ℕ) → WholeHeld h ol → Fine ol (lineStep h line)
 unfolding lineStep takes
 line-fine h ol line w =
-    either ol (takes (h .session) line)
+    fine-either ol (takes (h .session) line)
     (λ e. frame-fine h ol w (kindOf line) (fieldsOf line) (and-right (wellFormed line) (admits (h .session) (kindOf line) (fieldsOf line)) e))
     (record { next = w; few = omega arith })

@@ -4,8 +4,8 @@ ghost use Prim.Native.Nat.{ℕ, _+_, _*_, _≤_};
 ghost use lib.Dec.{ltb};
 ghost use lib.ListN.{length};
 ghost use Rattle.text.specs.Digits.{field, listed};
-ghost use Rattle.frames.specs.Frames as f;
-use crate::Session;
+ghost use Rattle.protocol.specs.Frames as f;
+use protocol::Session;
 use text::read;
 
 fn below(fields: &[u8], i: usize, end: usize) -> bool

@@ -8,10 +8,10 @@ ghost use Rattle.meaning.specs.Split.{newest};
 ghost use Rattle.meaning.specs.Tables.{given, outcome};
 ghost use Rattle.meaning.specs.Calls.{checkOut, refineOut, coarsenOut};
 ghost use Rattle.text.specs.Digits.{listed};
-ghost use Rattle.frames.specs.Frames as f;
+ghost use Rattle.protocol.specs.Frames as f;
 ghost use Rattle.frames.specs.MarksLaw.{markOne};
-use crate::Session;
 use meaning::Answer;
+use protocol::Session;
 use text::read;
 
 fn mark(marks: &mut [u8], fields: &[u8], i: usize)

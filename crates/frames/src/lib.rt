@@ -6,18 +6,11 @@ ghost use mathlib.Core.Path.{_≡_};
 ghost use mathlib.Core.Bool.{Bool, true};
 ghost use Prim.Native.Nat.{ℕ};
 ghost use lib.ListN.{length};
-ghost use Rattle.frames.specs.Frames as f;
+ghost use Rattle.protocol.specs.Frames as f;
 ghost use Rattle.frames.specs.Answered as l;
+use protocol::Session;
 use text::read;
 use text::write;
-
-// What the program knows beside its tables: how many nodes and rows they hold, whether a base is accepted, and its node count.
-pub struct Session {
-    pub n: usize,
-    pub t: usize,
-    pub n0: usize,
-    pub accepted: bool,
-}
 
 // After a line: the session, and how many bytes were written.
 pub struct Answered {
@@ -37,7 +30,7 @@ fn frame(
 ) -> Answered
     requires { ⌜ l.Whole (length (now nodes)) (length (now rows)) (length (now scratch)) (length (now out)) session ⌝ }
     requires { ⌜ f.admits session kind (now fields) ≡ true ⌝ }
-    ensures { λ r. ⌜ l.lent r (now (nodes .exit)) (now (rows .exit)) (now (scratch .exit)) (now (out .exit)) ≡ l.written (now (out .entry)) (f.frame (f.held (now (nodes .entry)) (now (rows .entry)) (now (scratch .entry)) session) kind (now (fields .entry))) ⌝ }
+    ensures { λ r. ⌜ l.lent r (now (nodes .exit)) (now (rows .exit)) (now (scratch .exit)) (now (out .exit)) ≡ l.writing (now (out .entry)) (f.frame (f.held (now (nodes .entry)) (now (rows .entry)) (now (scratch .entry)) session) kind (now (fields .entry))) ⌝ }
 {
     if kind == 1 {
         tables::put_place(nodes, session.n, read::place_in(fields));
@@ -97,7 +90,7 @@ fn plain_line(
     out: &mut [u8],
 ) -> Answered
     requires { ⌜ l.Whole (length (now nodes)) (length (now rows)) (length (now scratch)) (length (now out)) session ⌝ }
-    ensures { λ r. ⌜ l.lent r (now (nodes .exit)) (now (rows .exit)) (now (scratch .exit)) (now (out .exit)) ≡ l.written (now (out .entry)) (f.lineStep (f.held (now (nodes .entry)) (now (rows .entry)) (now (scratch .entry)) session) (now (line .entry))) ⌝ }
+    ensures { λ r. ⌜ l.lent r (now (nodes .exit)) (now (rows .exit)) (now (scratch .exit)) (now (out .exit)) ≡ l.writing (now (out .entry)) (f.lineStep (f.held (now (nodes .entry)) (now (rows .entry)) (now (scratch .entry)) session) (now (line .entry))) ⌝ }
 {
     if !admit::takes(session, line) {
         return Answered {

@@ -1,6 +1,6 @@
 // The line program of document 01. It only moves bytes from standard input to standard output: `reader` cuts them into lines and
 // `frames` answers each; the tables are here.
-use frames::Session;
+use protocol::Session;
 
 // What is carried from byte to byte: how many bytes of the line there are so far, the session, and whether to go on.
 struct Talk {

@@ -9,8 +9,8 @@ use lib.ListN.{length, set, take}
 use Rattle.lists.specs.Lists.{cases}
 use Rattle.text.specs.Lines.{ffLine}
 use Rattle.text.specs.Writing.{Wrote, wrote, writes}
-use Rattle.frames.specs.Frames.{Held, held}
-use Rattle.frames.specs.Program.{opening, closing}
+use Rattle.protocol.specs.Frames.{Held, held}
+use Rattle.protocol.specs.Program.{opening, closing}
 use Rattle.frames.specs.Answered.{Lent, lineLent}
 use Rattle.reader.specs.declared.Took.{Took}
 

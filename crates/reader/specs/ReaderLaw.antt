@@ -11,14 +11,14 @@ use lib.ListN.{length, set, take}
 use lib.Seq.{length-take-le}
 use Rattle.lists.specs.Lists.{cases}
 use Rattle.lists.specs.ListsLaw.{and-left, and-right}
-use Rattle.frames.specs.declared.Session.{Session}
+use Rattle.protocol.specs.declared.Session.{Session}
 use Rattle.frames.specs.declared.Answered.{Answered}
 use Rattle.reader.specs.declared.Took.{Took}
 use Rattle.text.specs.Lines.{ffLine}
-use Rattle.frames.specs.Frames.{Held, held}
+use Rattle.protocol.specs.Frames.{Held, held}
 use Rattle.text.specs.Writing.{Wrote, wrote, writes, then}
 use Rattle.frames.specs.Answered.{Lent, lent, lineLent}
-use Rattle.frames.specs.Program.{opening, closing}
+use Rattle.protocol.specs.Program.{opening, closing}
 use Rattle.reader.specs.Reader.{Unfinished, unfinished, longer, lineOf, Reading, reading, quiet, byteRead, roomBy, byteTook, took, finished, begun}
 
 -- ---- a byte of a line

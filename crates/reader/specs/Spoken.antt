@@ -16,10 +16,10 @@ use Rattle.lists.specs.Lists.{all, cases}
 use Rattle.lists.specs.ListsLaw.{and-both}
 use Rattle.text.specs.Digits.{isDigit}
 use Rattle.text.specs.Lines.{ffLine}
-use Rattle.frames.specs.Frames.{Held, session, Step, step, ff, wellFormed, takes, lineStep}
-use Rattle.frames.specs.Program.{Line, whole, endless, before, addByte, linesOf, stepOf, start, answers, opening, closing, program}
+use Rattle.protocol.specs.Frames.{Held, session, Step, step, ff, wellFormed, takes, lineStep}
+use Rattle.protocol.specs.Program.{Line, whole, endless, before, addByte, linesOf, stepOf, start, answers, opening, closing, program}
 use Rattle.text.specs.Writing.{Wrote, wrote, writes, writes-front, writes-length}
-use Rattle.frames.specs.Answered.{written, WholeHeld, is-whole, lineLent}
+use Rattle.frames.specs.Answered.{writing, WholeHeld, is-whole, lineLent}
 use Rattle.frames.specs.Stays.{line-fine}
 use Rattle.reader.specs.Reader.{Unfinished, unfinished, longer, lineOf, Reading, reading, quiet, byteRead, roomBy, byteTook, begun, finished}
 
@@ -95,12 +95,12 @@ record SoFar (l : List ℕ) (k : Unfinished) : Type 0 where
   used : k .used ≡ min 255 (length l)
   room : 255 ≤ length (k .buffer)
 
-none-yet : (buffer : List ℕ) → 255 ≤ length buffer → SoFar [] (unfinished 0 buffer)
-none-yet buffer h = record { line = refl; used = omega arith; room = h }
+so-far-none : (buffer : List ℕ) → 255 ≤ length buffer → SoFar [] (unfinished 0 buffer)
+so-far-none buffer h = record { line = refl; used = omega arith; room = h }
 
-one-more : (l : List ℕ) (k : Unfinished) (b : ℕ) → SoFar l k → SoFar (l ++ (b ∷ [])) (longer k b)
+so-far-more : (l : List ℕ) (k : Unfinished) (b : ℕ) → SoFar l k → SoFar (l ++ (b ∷ [])) (longer k b)
 unfolding longer
-one-more l k b h = go (ltb (k .used) 255) refl
+so-far-more l k b h = go (ltb (k .used) 255) refl
   where
     len : length (l ++ (b ∷ [])) ≡ length l + 1
     len = length-append l (b ∷ [])
@@ -125,7 +125,7 @@ one-more l k b h = go (ltb (k .used) 255) refl
 -- ---- the calls, lent buffers of the program's lengths
 
 module _ (h : Held) (out : List ℕ) (w : WholeHeld h (length out)) where
-  line-lent : (l : List ℕ) → lineLent h l out ≡ written out (lineStep h l)
+  line-lent : (l : List ℕ) → lineLent h l out ≡ writing out (lineStep h l)
   unfolding lineLent
   line-lent l = rw (is-whole (length (h .nodes)) (length (h .rows)) (length (h .scratch)) (length out) (h .session) w)
 
@@ -134,7 +134,7 @@ module _ (h : Held) (out : List ℕ) (w : WholeHeld h (length out)) where
     unfolding roomBy
     roomy = and-both (le-leb (k .used) 255 (omega (arith, s .used))) (le-leb 255 (length (k .buffer)) (s .room))
 
-    took-end : byteTook k h 10 out ≡ reading (unfinished 0 (k .buffer)) (written out (lineStep h l))
+    took-end : byteTook k h 10 out ≡ reading (unfinished 0 (k .buffer)) (writing out (lineStep h l))
     unfolding byteTook byteRead
     took-end = rw (roomy, line-lent (lineOf k), s .line, line-cut h l)
 
@@ -174,7 +174,7 @@ told-more b bs more l k h out s w = go (eqb b 10) refl
         let x : Wrote = writes (wrote 0 out) text in
         let f = line-fine h (length out) l w in
         let w′ : WholeHeld (lineStep h l .next) (length (x .out)) = rw (writes-length (wrote 0 out) text) (f .next) in
-        let ih = more [] (unfinished 0 (k .buffer)) (lineStep h l .next) (x .out) (none-yet (k .buffer) (s .room)) w′ in
+        let ih = more [] (unfinished 0 (k .buffer)) (lineStep h l .next) (x .out) (so-far-none (k .buffer) (s .room)) w′ in
         rw (took-end h out w l k s, front-is out text (omega (arith, f .few, w .out)), ih, after-none (linesOf bs), append-nil l)
         (sym (append-assoc text (answers (lineStep h l .next) (linesOf bs)) closing))
 
@@ -182,11 +182,11 @@ told-more b bs more l k h out s w = go (eqb b 10) refl
     go true e = let q : b ≡ 10 = eqb-true b 10 e in rw q ended
     go false e =
         rw (took-more h out w l k s b e, after-more l b (linesOf bs))
-        (more (l ++ (b ∷ [])) (longer k b) h out (one-more l k b s) w)
+        (more (l ++ (b ∷ [])) (longer k b) h out (so-far-more l k b s) w)
 
-told : (bs : List ℕ) → Told bs
-told [] = told-none
-told (b ∷ bs) = told-more b bs (told bs)
+told-all : (bs : List ℕ) → Told bs
+told-all [] = told-none
+told-all (b ∷ bs) = told-more b bs (told-all bs)
 
 begun-long : (out : List ℕ) → 32 ≤ length out → begun out ≡ writes (wrote 0 out) opening
 unfolding begun
@@ -211,7 +211,7 @@ spoken buffer out input h o =
     rw (
       e,
       front-is out opening (omega arith),
-      told input [] (unfinished 0 buffer) start (writes (wrote 0 out) opening .out) (none-yet buffer h) (start-whole _ o′),
+      told-all input [] (unfinished 0 buffer) start (writes (wrote 0 out) opening .out) (so-far-none buffer h) (start-whole _ o′),
       after-none (linesOf input),
     )
     (sym (append-assoc opening (answers start (linesOf input)) closing))

@@ -12,8 +12,8 @@ use lib.Seq.{length-take-le}
 use Rattle.lists.specs.Lists.{cases}
 use Rattle.text.specs.Lines.{ffLine}
 use Rattle.text.specs.Writing.{Wrote, wrote, writes, writes-at, writes-length}
-use Rattle.frames.specs.Frames.{Held, lineStep}
-use Rattle.frames.specs.Program.{opening, closing}
+use Rattle.protocol.specs.Frames.{Held, lineStep}
+use Rattle.protocol.specs.Program.{opening, closing}
 use Rattle.frames.specs.Answered.{Lent, whole, whole-is, lineLent}
 use Rattle.frames.specs.Stays.{line-fine}
 use Rattle.reader.specs.declared.Took.{Took}
@@ -49,27 +49,27 @@ in-byte u h b out =
     (λ e. pick-in (λ (x : Reading). x .lent .text) (eqb b 0x0a) (λ q. in-line h (lineOf u) out) (in-none out))
     (in-none out)
 
-last : (b : Bool) → length (cases b [] ffLine ++ closing) ≤ 32
-last true = omega arith
-last false = omega arith
+last-short : (b : Bool) → length (cases b [] ffLine ++ closing) ≤ 32
+last-short true = omega arith
+last-short false = omega arith
 
 -- ---- in the form of needs: no more bytes were written than the buffer has, and the part of it that was written has as many
 
 module _ (k : ℕ) (o : List ℕ) where
-  within : (w : Wrote) → wrote k o ≡ w → In w → k ≤ length o
-  within w e i = omega (arith, i .low, ap (λ (x : Wrote). x .at) e, ap (λ (x : Wrote). length (x .out)) e)
+  in-buffer : (w : Wrote) → wrote k o ≡ w → In w → k ≤ length o
+  in-buffer w e i = omega (arith, i .low, ap (λ (x : Wrote). x .at) e, ap (λ (x : Wrote). length (x .out)) e)
 
   pub begun-within : (out : List ℕ) → wrote k o ≡ begun out → k ≤ length o
   unfolding begun
   begun-within out e =
-      within (begun out) e (pick-in (λ (x : Wrote). x) (leb 32 (length out)) (λ q. in-text out opening (omega (arith, leb-true 32 (length out) q))) (in-none out))
+      in-buffer (begun out) e (pick-in (λ (x : Wrote). x) (leb 32 (length out)) (λ q. in-text out opening (omega (arith, leb-true 32 (length out) q))) (in-none out))
 
   pub finished-within : (used : ℕ) (out : List ℕ) → wrote k o ≡ finished used out → k ≤ length o
   unfolding finished
   finished-within used out e =
-      within (finished used out) e
+      in-buffer (finished used out) e
       (pick-in (λ (x : Wrote). x) (leb 32 (length out))
-      (λ q. in-text out (cases (eqb used 0) [] ffLine ++ closing) (omega (arith, last (eqb used 0), leb-true 32 (length out) q)))
+      (λ q. in-text out (cases (eqb used 0) [] ffLine ++ closing) (omega (arith, last-short (eqb used 0), leb-true 32 (length out) q)))
       (in-none out))
 
   pub begun-count : (out : List ℕ) → wrote k o ≡ begun out → k ≡ length (take k o)
@@ -80,7 +80,7 @@ module _ (k : ℕ) (o : List ℕ) where
 
 module _ (r : Took) (line rs sc o out : List ℕ) (ns : List ℤ) (u : Unfinished) (h : Held) (b : ℕ) (e : took r line ns rs sc o ≡ byteTook u h b out) where
   pub took-within : r .written ≤ length o
-  took-within = within (r .written) o (byteTook u h b out .lent .text) (ap (λ (x : Reading). x .lent .text) e) (in-byte u h b out)
+  took-within = in-buffer (r .written) o (byteTook u h b out .lent .text) (ap (λ (x : Reading). x .lent .text) e) (in-byte u h b out)
 
   pub took-count : r .written ≡ length (take (r .written) o)
   took-count = sym (length-take-le (r .written) o took-within)

@@ -4,9 +4,9 @@ ghost use mathlib.Core.Path.{_≡_};
 ghost use Prim.Native.Nat.{ℕ, _≤_};
 ghost use lib.ListN.{length};
 ghost use Rattle.text.specs.Writing.{wrote};
-ghost use Rattle.frames.specs.Frames.{held};
+ghost use Rattle.protocol.specs.Frames.{held};
 ghost use Rattle.reader.specs.Reader as r;
-use frames::Session;
+use protocol::Session;
 use text::write;
 
 // After a byte: how many bytes of the line there are so far, the session, and how many bytes were written.

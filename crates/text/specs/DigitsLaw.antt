@@ -94,28 +94,28 @@ unfolding unsigned
 unsigned-low (pos n) f t = let h : n < 2147483648 = f .sfits in rw (toZ-pos w32 h)
 unsigned-low (negsuc n) f t = clash (sym (rw (toZ-neg w32 n (f .sfits)) at t))
 
-turned : (n : ℕ) → n < 2147483648 → toZ w32 (4294967295 - (4294967296 - suc n)) ≡ pos n
-turned n h =
+bits-turned : (n : ℕ) → n < 2147483648 → toZ w32 (4294967295 - (4294967296 - suc n)) ≡ pos n
+bits-turned n h =
     let e : 4294967295 - (4294967296 - suc n) ≡ n = omega arith in
     rw e (toZ-pos w32 h)
 
 pub unsigned-turned : (z : ℤ) → SFits w32 z → leZ (pos 0) (toZ w32 (ofZ w32 z)) ≡ false →
     T (nonNeg (toZ w32 (4294967295 - ofZ w32 z))) × Fits w32 (natAbs (toZ w32 (4294967295 - ofZ w32 z)))
 unsigned-turned (pos n) f t = let h : n < 2147483648 = f .sfits in clash (sym (leb·zero n) ∙ (rw (toZ-pos w32 h) at t))
-unsigned-turned (negsuc n) f t = let h : n < 2147483648 = f .sfits in rw (turned n h) (tt, record { fits = omega arith })
+unsigned-turned (negsuc n) f t = let h : n < 2147483648 = f .sfits in rw (bits-turned n h) (tt, record { fits = omega arith })
 
 pub unsigned-high : (z : ℤ) → SFits w32 z → leZ (pos 0) (toZ w32 (ofZ w32 z)) ≡ false → 4294967295 - natAbs (toZ w32 (4294967295 - ofZ w32 z)) ≡ unsigned z
 unfolding unsigned
 unsigned-high (pos n) f t = let h : n < 2147483648 = f .sfits in clash (sym (leb·zero n) ∙ (rw (toZ-pos w32 h) at t))
-unsigned-high (negsuc n) f t = let h : n < 2147483648 = f .sfits in rw (turned n h)
+unsigned-high (negsuc n) f t = let h : n < 2147483648 = f .sfits in rw (bits-turned n h)
 
 -- ---- the fields of frames 01 and 02
 
 module _ (fields : List ℕ) where
-  pub place-is : (x y : ℤ) (v w : ℕ) → x ≡ signed v → v ≡ number 8 fields 0 → y ≡ signed w → w ≡ number 8 fields 8 → place x y ≡ placeIn fields
+  pub place-read : (x y : ℤ) (v w : ℕ) → x ≡ signed v → v ≡ number 8 fields 0 → y ≡ signed w → w ≡ number 8 fields 8 → place x y ≡ placeIn fields
   unfolding placeIn
-  place-is x y v w a b c d = rw (a, b, c, d)
+  place-read x y v w a b c d = rw (a, b, c, d)
 
-  pub row-is : (p q r : ℕ) → p ≡ number 4 fields 0 → q ≡ number 4 fields 4 → r ≡ number 4 fields 8 → tri p q r ≡ rowIn fields
+  pub row-read : (p q r : ℕ) → p ≡ number 4 fields 0 → q ≡ number 4 fields 4 → r ≡ number 4 fields 8 → tri p q r ≡ rowIn fields
   unfolding rowIn
-  row-is p q r a b c = rw (a, b, c)
+  row-read p q r a b c = rw (a, b, c)

@@ -12,9 +12,7 @@ abbrev μ-loop : tie.MeasureT-loop
 μ-loop piece line₀ nodes₀ rows₀ scratch₀ out₀ talk₀ i₀ line nodes rows scratch out talk i = length piece - i
 
 pub take-piece-spec : {M : Type 1} → statement M
-take-piece-spec =
-    tie.close
-    (tie.spec
-    Inv-loop μ-loop (λ c. search needs) (λ c. search needs) (λ c κs. search needs) (λ c. search needs)
-    (λ c. search needs) (λ c. search needs) (λ c. search needs) (λ c. search needs) (λ c. search needs)
-    (λ c. search needs) (λ c. search needs) (λ c. search needs))
+take-piece-spec = tie.close (tie.spec
+    Inv-loop μ-loop (λ c. search needs) (λ c. search needs) (λ c κs. search needs) (λ c. search needs) (λ c. search needs)
+    (λ c. search needs) (λ c. search needs) (λ c. search needs) (λ c. search needs) (λ c. search needs) (λ c. search needs)
+    (λ c. search needs))

@@ -3,13 +3,7 @@ use borrow.Author.Needs.{needs}
 use Rattle.reader.proofs.begin.Statement.{statement}
 use Rattle.reader.proofs.begin.Tie as tie
 
-returns : tie.Need-returns
-returns c = search (needs, begin-short)
-
-returns-2 : tie.Need-returns-2
-returns-2 c = search (needs, begin-opens)
-
 pub begin-spec : {M : Type 1} → statement M
-begin-spec =
-    tie.close (tie.spec
-    returns (λ c. search needs) (λ c κs. search needs) (λ c. search needs) returns-2)
+begin-spec = tie.close (tie.spec
+    (λ c. search (needs, begin-short)) (λ c. search needs) (λ c κs. search needs) (λ c. search needs)
+    (λ c. search (needs, begin-opens)))

@@ -1,6 +1,6 @@
 use Rattle.frames.specs.AdmitLaw.{listed-on, listed-off, listed-end}
 use Rattle.text.specs.Digits.{field, listed}
-use Rattle.frames.specs.Frames.{allBelow}
+use Rattle.protocol.specs.Frames.{allBelow}
 use Rattle.lists.specs.Search.{items}
 use lib.ListN.{length}
 use Prim.Native.Nat.{_≤_, _-_, _/_}
@@ -19,18 +19,7 @@ loop-holds : tie.Need-loop-holds Inv-loop μ-loop
 unfolding listed
 loop-holds c = search needs
 
-loop-again : tie.Need-loop-again Inv-loop μ-loop
-loop-again c = search (needs, listed-on)
-
-returns : tie.Need-returns Inv-loop μ-loop
-returns c = search (needs, listed-off)
-
-returns-2 : tie.Need-returns-2 Inv-loop μ-loop
-returns-2 c = search (needs, listed-end)
-
 pub all-below-spec : {M : Type 1} → statement M
-all-below-spec =
-    tie.close
-    (tie.spec
-    Inv-loop μ-loop loop-holds (λ c κs. search needs) (λ c. search needs) (λ c. search needs) loop-again
-    returns returns-2)
+all-below-spec = tie.close (tie.spec
+    Inv-loop μ-loop loop-holds (λ c κs. search needs) (λ c. search needs) (λ c. search needs)
+    (λ c. search (needs, listed-on)) (λ c. search (needs, listed-off)) (λ c. search (needs, listed-end)))

@@ -3,11 +3,6 @@ use borrow.Author.Needs.{needs}
 use Rattle.frames.proofs.admit.well_formed.Statement.{statement}
 use Rattle.frames.proofs.admit.well_formed.Tie as tie
 
-returns : tie.Need-returns
-returns c = search (needs, formed-made)
-
 pub well-formed-spec : {M : Type 1} → statement M
-well-formed-spec =
-    tie.close
-    (tie.spec
-    (λ c κs. search needs) returns)
+well-formed-spec = tie.close (tie.spec
+    (λ c κs. search needs) (λ c. search (needs, formed-made)))

@@ -3,16 +3,8 @@ use borrow.Author.Needs.{needs}
 use Rattle.frames.proofs.call.check_base.Statement.{statement}
 use Rattle.frames.proofs.call.check_base.Tie as tie
 
-returns : tie.Need-returns
-returns c = search (needs, check-kept)
-
-returns-2 : tie.Need-returns-2
-returns-2 c = search (needs, check-dropped)
-
 pub check-base-spec : {M : Type 1} → statement M
-check-base-spec =
-    tie.close
-    (tie.spec
-    (λ c κs. search needs) (λ c. search needs) (λ c. search needs) (λ c. search needs) returns
-    (λ c κs. search needs) (λ c κs. search needs) (λ c. search needs) (λ c. search needs)
-    (λ c. search needs) returns-2)
+check-base-spec = tie.close (tie.spec
+    (λ c κs. search needs) (λ c. search needs) (λ c. search needs) (λ c. search needs) (λ c. search (needs, check-kept))
+    (λ c κs. search needs) (λ c κs. search needs) (λ c. search needs) (λ c. search needs) (λ c. search needs)
+    (λ c. search (needs, check-dropped)))

@@ -3,15 +3,7 @@ use borrow.Author.Needs.{needs}
 use Rattle.frames.proofs.call.mark.Statement.{statement}
 use Rattle.frames.proofs.call.mark.Tie as tie
 
-returns : tie.Need-returns
-returns c = search (needs, mark-in)
-
-returns-2 : tie.Need-returns-2
-returns-2 c = search (needs, mark-out)
-
 pub mark-spec : {M : Type 1} → statement M
-mark-spec =
-    tie.close
-    (tie.spec
-    (λ c. search needs) (λ c κs. search needs) (λ c. search needs) (λ c. search needs)
-    (λ c. search needs) returns returns-2)
+mark-spec = tie.close (tie.spec
+    (λ c. search needs) (λ c κs. search needs) (λ c. search needs) (λ c. search needs) (λ c. search needs)
+    (λ c. search (needs, mark-in)) (λ c. search (needs, mark-out)))

@@ -14,15 +14,7 @@ Inv-loop marks₀ fields count i₀ marks i = (length marks ≡ length marks₀)
 abbrev μ-loop : tie.MeasureT-loop
 μ-loop marks₀ fields count i₀ marks i = count - i
 
-loop-again : tie.Need-loop-again Inv-loop μ-loop
-loop-again c = search (needs, looping)
-
-returns : tie.Need-returns Inv-loop μ-loop
-returns c = search (needs, looping)
-
 pub mark-listed-spec : {M : Type 1} → statement M
-mark-listed-spec =
-    tie.close
-    (tie.spec
+mark-listed-spec = tie.close (tie.spec
     Inv-loop μ-loop (λ c. search needs) (λ c κs. search needs) (λ c. search needs) (λ c. search needs)
-    loop-again (λ c. search needs) returns)
+    (λ c. search (needs, looping)) (λ c. search needs) (λ c. search (needs, looping)))

@@ -4,15 +4,7 @@ use borrow.Author.Needs.{needs}
 use Rattle.frames.proofs.call.refine_listed.Statement.{statement}
 use Rattle.frames.proofs.call.refine_listed.Tie as tie
 
-slice-aggregate-refine : tie.Need-slice-aggregate-refine
-slice-aggregate-refine c = search (needs, marked-count)
-
-returns : tie.Need-returns
-returns c = search (needs, refine-marked)
-
 pub refine-listed-spec : {M : Type 1} → statement M
-refine-listed-spec =
-    tie.close
-    (tie.spec
-    (λ c. search needs) (λ c κs. search needs) (λ c. search needs) slice-aggregate-refine
-    (λ c κs. search needs) (λ c. search needs) (λ c. search needs) (λ c. search needs) returns)
+refine-listed-spec = tie.close (tie.spec
+    (λ c. search needs) (λ c κs. search needs) (λ c. search needs) (λ c. search (needs, marked-count))
+    (λ c κs. search needs) (λ c. search needs) (λ c. search needs) (λ c. search needs) (λ c. search (needs, refine-marked)))

@@ -14,18 +14,7 @@ Inv-loop text i₀ i = (i ≤ length text) × (all isDigit (drop i text) ≡ all
 abbrev μ-loop : tie.MeasureT-loop
 μ-loop text i₀ i = length text - i
 
-loop-again : tie.Need-loop-again Inv-loop μ-loop
-loop-again c = search (needs, all-on)
-
-returns : tie.Need-returns Inv-loop μ-loop
-returns c = search (needs, all-off)
-
-returns-2 : tie.Need-returns-2 Inv-loop μ-loop
-returns-2 c = search (needs, all-end)
-
 pub all-digits-spec : {M : Type 1} → statement M
-all-digits-spec =
-    tie.close
-    (tie.spec
-    Inv-loop μ-loop (λ c. search needs) (λ c. search needs) (λ c κs. search needs) (λ c. search needs)
-    (λ c. search needs) loop-again returns returns-2)
+all-digits-spec = tie.close (tie.spec
+    Inv-loop μ-loop (λ c. search needs) (λ c. search needs) (λ c κs. search needs) (λ c. search needs) (λ c. search needs)
+    (λ c. search (needs, all-on)) (λ c. search (needs, all-off)) (λ c. search (needs, all-end)))

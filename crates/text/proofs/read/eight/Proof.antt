@@ -3,11 +3,7 @@ use borrow.Author.Needs.{needs}
 use Rattle.text.proofs.read.eight.Statement.{statement}
 use Rattle.text.proofs.read.eight.Tie as tie
 
-returns : tie.Need-returns
-returns c = search (needs, numbers)
-
 pub eight-spec : {M : Type 1} → statement M
-eight-spec =
-    tie.close (tie.spec
+eight-spec = tie.close (tie.spec
     (λ c κs. search needs) (λ c. search needs) (λ c. search needs) (λ c κs. search needs) (λ c. search needs)
-    returns)
+    (λ c. search (needs, numbers)))

@@ -3,12 +3,7 @@ use borrow.Author.Needs.{needs}
 use Rattle.text.proofs.read.two.Statement.{statement}
 use Rattle.text.proofs.read.two.Tie as tie
 
-returns : tie.Need-returns
-returns c = search (needs, numbers)
-
 pub two-spec : {M : Type 1} → statement M
-two-spec =
-    tie.close
-    (tie.spec
+two-spec = tie.close (tie.spec
     (λ c. search needs) (λ c κs. search needs) (λ c. search needs) (λ c. search needs) (λ c. search needs)
-    (λ c κs. search needs) (λ c. search needs) returns)
+    (λ c κs. search needs) (λ c. search needs) (λ c. search (needs, numbers)))

@@ -3,12 +3,7 @@ use borrow.Author.Needs.{needs}
 use Rattle.text.proofs.write.hex_digit.Statement.{statement}
 use Rattle.text.proofs.write.hex_digit.Tie as tie
 
-returns : tie.Need-returns
-returns c = search (needs, digit-low)
-
-returns-2 : tie.Need-returns-2
-returns-2 c = search (needs, digit-high)
-
 pub hex-digit-spec : {M : Type 1} → statement M
 hex-digit-spec = tie.close (tie.spec
-    (λ c. search needs) (λ c. search needs) returns (λ c. search needs) returns-2)
+    (λ c. search needs) (λ c. search needs) (λ c. search (needs, digit-low)) (λ c. search needs)
+    (λ c. search (needs, digit-high)))

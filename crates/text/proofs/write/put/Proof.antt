@@ -3,9 +3,6 @@ use borrow.Author.Needs.{needs}
 use Rattle.text.proofs.write.put.Statement.{statement}
 use Rattle.text.proofs.write.put.Tie as tie
 
-returns : tie.Need-returns
-returns c = search (needs, put-one)
-
 pub put-spec : {M : Type 1} → statement M
 put-spec = tie.close (tie.spec
-    (λ c. search needs) (λ c. search needs) (λ c. search needs) returns)
+    (λ c. search needs) (λ c. search needs) (λ c. search needs) (λ c. search (needs, put-one)))

@@ -3,13 +3,7 @@ use borrow.Author.Needs.{needs}
 use Rattle.text.proofs.write.put_node.Statement.{statement}
 use Rattle.text.proofs.write.put_node.Tie as tie
 
-returns : tie.Need-returns
-returns c = search (needs, node-put)
-
 pub put-node-spec : {M : Type 1} → statement M
-put-node-spec =
-    tie.close
-    (tie.spec
-    (λ c κs. search needs) (λ c κs. search needs) (λ c. search needs) (λ c κs. search needs)
-    (λ c κs. search needs) (λ c. search needs) (λ c κs. search needs) (λ c κs. search needs)
-    (λ c. search needs) returns)
+put-node-spec = tie.close (tie.spec
+    (λ c κs. search needs) (λ c κs. search needs) (λ c. search needs) (λ c κs. search needs) (λ c κs. search needs)
+    (λ c. search needs) (λ c κs. search needs) (λ c κs. search needs) (λ c. search needs) (λ c. search (needs, node-put)))

@@ -16,15 +16,7 @@ Inv-loop out₀ at rows t k₀ i₀ out k i = (length out ≡ length out₀) × 
 abbrev μ-loop : tie.MeasureT-loop
 μ-loop out₀ at rows t k₀ i₀ out k i = t - i
 
-loop-again : tie.Need-loop-again Inv-loop μ-loop
-loop-again c = search (needs, line-turn)
-
-returns : tie.Need-returns Inv-loop μ-loop
-returns c = search (needs, line-end)
-
 pub put-rows-spec : {M : Type 1} → statement M
-put-rows-spec =
-    tie.close
-    (tie.spec
+put-rows-spec = tie.close (tie.spec
     Inv-loop μ-loop (λ c. search needs) (λ c κs. search needs) (λ c κs. search needs) (λ c. search needs)
-    (λ c. search needs) loop-again (λ c. search needs) returns)
+    (λ c. search needs) (λ c. search (needs, line-turn)) (λ c. search needs) (λ c. search (needs, line-end)))

@@ -12,15 +12,7 @@ Inv-loop out₀ at text k₀ i₀ out k i = (length out ≡ length out₀) × (i
 abbrev μ-loop : tie.MeasureT-loop
 μ-loop out₀ at text k₀ i₀ out k i = length text - i
 
-loop-again : tie.Need-loop-again Inv-loop μ-loop
-loop-again c = search (needs, text-turn)
-
-returns : tie.Need-returns Inv-loop μ-loop
-returns c = search (needs, text-end)
-
 pub put-text-spec : {M : Type 1} → statement M
-put-text-spec =
-    tie.close
-    (tie.spec
-    Inv-loop μ-loop (λ c. search needs) (λ c. search needs) (λ c κs. search needs) (λ c. search needs)
-    (λ c. search needs) loop-again (λ c. search needs) returns)
+put-text-spec = tie.close (tie.spec
+    Inv-loop μ-loop (λ c. search needs) (λ c. search needs) (λ c κs. search needs) (λ c. search needs) (λ c. search needs)
+    (λ c. search (needs, text-turn)) (λ c. search needs) (λ c. search (needs, text-end)))

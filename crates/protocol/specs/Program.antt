@@ -6,7 +6,7 @@ use lib.Dec.{eqb}
 use lib.IntN.{pos}
 use lib.ListN.{replicate}
 use Rattle.text.specs.Digits.{bytes}
-use Rattle.frames.specs.Frames.{Held, held, session, Step, ff, lineStep}
+use Rattle.protocol.specs.Frames.{Held, held, session, Step, ff, lineStep}
 
 -- "one frame a line, .. ended by byte 0x0A": a line without that byte; or the last one, if it has none
 pub data Line : Type 0 where

@@ -15,7 +15,7 @@ use Rattle.meaning.specs.Calls.{checkOut, refineOut, coarsenOut, restoreOut}
 use Rattle.tables.specs.Put.{setPlace, setRow}
 use Rattle.text.specs.Digits.{isDigit, number, listed}
 use Rattle.text.specs.Lines.{placeIn, rowIn, ffLine, answerLine, allLines}
-use Rattle.frames.specs.declared.Session.{Session}
+use Rattle.protocol.specs.declared.Session.{Session}
 
 -- ---- what the program holds, and what a line makes of it
 

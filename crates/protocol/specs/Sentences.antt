@@ -1,17 +1,17 @@
--- Sentences of document 01 about a line, as theorems; and the contract of `line` admits one outcome. Assumes nothing.
-use mathlib.Core.Path.{_≡_, sym, ap, _∙_}
+-- Sentences of document 01 about a line, as theorems. Assumes nothing.
+use mathlib.Core.Path.{_≡_, ap}
 use mathlib.Core.Bool.{Bool, true, false}
 use mathlib.Core.List.{List, []}
 use Prim.Native.Nat.{ℕ, _+_, _*_, _≤_, _<_}
-use borrow.Author.Tests.{eq-eqb, lt-ltb}
-use lib.IntN.{ℤ}
+use borrow.Author.Tests.{eqb-true, eq-eqb, lt-ltb}
+use lib.Dec.{eqb}
 use lib.ListN.{length}
+use Rattle.lists.specs.Lists.{any, once}
+use Rattle.lists.specs.AnyLaw.{any-once}
 use Rattle.meaning.specs.Tables.{placeAt, rowAt}
 use Rattle.tables.specs.PutLaw.{place-set-same, row-set-same}
 use Rattle.text.specs.Lines.{placeIn, rowIn}
-use Rattle.frames.specs.declared.Answered.{Answered}
-use Rattle.frames.specs.Frames.{Held, step, wellFormed, admits, takes, kindOf, fieldsOf, addNode, addRow, frame, lineStep}
-use Rattle.frames.specs.Answered.{Lent, lent, lineLent}
+use Rattle.protocol.specs.Frames.{Held, step, wellFormed, admits, takes, kindOf, fieldsOf, addNode, addRow, marksOf, frame, lineStep}
 
 -- "Values in `01` and `02` are judged only by `03`." With room and no accepted base, a 01 of 16 digits is taken whatever they say: it
 -- answers nothing and stores them; and so is a 02 of 12. (What 03 then says: the rows of `talks` on values, in Worked.)
@@ -33,16 +33,9 @@ module _ (h : Held) (fields : List ℕ) where
   unfolding addRow
   row-stored r = row-set-same (h .rows) (h .session .t) (rowIn fields) r
 
--- two calls of `line` that were given the same, and meet the contract
-pub line-one : (h : Held) (line out : List ℕ) (a b : Answered) (ns ns′ : List ℤ) (rs rs′ sc sc′ o o′ : List ℕ) →
-    lent a ns rs sc o ≡ lineLent h line out → lent b ns′ rs′ sc′ o′ ≡ lineLent h line out →
-    (a .session ≡ b .session) × (a .written ≡ b .written) × (ns ≡ ns′) × (rs ≡ rs′) × (sc ≡ sc′) × (o ≡ o′)
-line-one h line out a b ns ns′ rs rs′ sc sc′ o o′ p q =
-    let e : lent a ns rs sc o ≡ lent b ns′ rs′ sc′ o′ = p ∙ sym q in (
-      ap (λ (x : Lent). x .next .session) e,
-      ap (λ (x : Lent). x .text .at) e,
-      ap (λ (x : Lent). x .next .nodes) e,
-      ap (λ (x : Lent). x .next .rows) e,
-      ap (λ (x : Lent). x .next .scratch) e,
-      ap (λ (x : Lent). x .text .out) e,
-    )
+-- "A repeated number counts once.": a list's marks are those of its members once each
+pub marks-once : (k : ℕ) (l : List ℕ) → marksOf k (once eqb l) ≡ marksOf k l
+unfolding marksOf
+marks-once k l =
+    let e : (i : ℕ) → any (eqb i) (once eqb l) ≡ any (eqb i) l = λ i. any-once eqb (eqb i) (λ x y q. ap (eqb i) (eqb-true x y q)) l in
+    simp e

@@ -17,8 +17,8 @@ use Rattle.meaning.specs.Calls.{checkNo, refineNo, coarsenNo, checks, refines, 
 use Rattle.tables.specs.Put.{setPlace, setRow}
 use Rattle.text.specs.Digits.{bytes, isDigit, worth, number, listed, signed, unsigned, hexDigit, hex}
 use Rattle.text.specs.Lines.{placeIn, rowIn, answerLine, nodeLine, rowLine, allLines}
-use Rattle.frames.specs.Frames.{wellFormed, listsBelow, admits, takes, addNode, addRow, marksOf, called, sessionAfter, frame, lineStep, Held, held, session, Step, step}
-use Rattle.frames.specs.Program.{program, start}
+use Rattle.protocol.specs.Frames.{wellFormed, listsBelow, admits, takes, addNode, addRow, marksOf, called, sessionAfter, frame, lineStep, Held, held, session, Step, step}
+use Rattle.protocol.specs.Program.{program, start}
 
 -- ---- whole texts
 

@@ -69,42 +69,42 @@ marked-no l t marks i s e = rw (ne-eqb (getD marks i 0) 1 e)
 
 -- ---- only the first t notes change
 
-abbrev pub Kept : ℕ → List ℕ → List ℕ → Type 0
-Kept b s m = (length m ≡ length s) × (drop b m ≡ drop b s)
+abbrev pub SameFrom : ℕ → List ℕ → List ℕ → Type 0
+SameFrom b s m = (length m ≡ length s) × (drop b m ≡ drop b s)
 
 module _ (l : List ℕ) (t b : ℕ) (u : t ≤ b) where
-  put-kept : (j : ℕ) (s : List ℕ) → j < t → Kept b s (set s j 1)
+  put-kept : (j : ℕ) (s : List ℕ) → j < t → SameFrom b s (set s j 1)
   put-kept j s h = (length-set s j 1, drop-set-lt b s j 1 (omega arith))
 
-  drawn-kept : (k j : ℕ) (s : List ℕ) → j < t → Kept b s (drawn k l t j s)
+  drawn-kept : (k j : ℕ) (s : List ℕ) → j < t → SameFrom b s (drawn k l t j s)
   unfolding drawn
   drawn-kept zero j s h = (refl, refl)
   drawn-kept (suc k) j s h = go (eqb (getD s j 0) 0) (λ i. drawn-kept k i (set s j 1))
     where
-      found : (w : Found) → acrossRow l t j ≡ w → ((i : ℕ) → i < t → Kept b (set s j 1) (drawn k l t i (set s j 1))) →
-          Kept b s (onFound w (λ i. drawn k l t i (set s j 1)) (set s j 1))
+      found : (w : Found) → acrossRow l t j ≡ w → ((i : ℕ) → i < t → SameFrom b (set s j 1) (drawn k l t i (set s j 1))) →
+          SameFrom b s (onFound w (λ i. drawn k l t i (set s j 1)) (set s j 1))
       found (At i) q below =
           let r = below i (across-below l t j i (At i) (sym q) refl) in
           let p = put-kept j s h in
           (r .0 ∙ p .0, r .1 ∙ p .1)
       found Nothing q below = put-kept j s h
 
-      go : (y : Bool) → ((i : ℕ) → i < t → Kept b (set s j 1) (drawn k l t i (set s j 1))) →
-          Kept b s (cases y (onFound (acrossRow l t j) (λ i. drawn k l t i (set s j 1)) (set s j 1)) s)
+      go : (y : Bool) → ((i : ℕ) → i < t → SameFrom b (set s j 1) (drawn k l t i (set s j 1))) →
+          SameFrom b s (cases y (onFound (acrossRow l t j) (λ i. drawn k l t i (set s j 1)) (set s j 1)) s)
       go true below = found (acrossRow l t j) refl below
       go false below = (refl, refl)
 
-  marked-kept : (marks : List ℕ) (i : ℕ) (s : List ℕ) → i < t → Kept b s (drawMarked l t marks i s)
+  marked-kept : (marks : List ℕ) (i : ℕ) (s : List ℕ) → i < t → SameFrom b s (drawMarked l t marks i s)
   unfolding drawMarked draws
   marked-kept marks i s h = go (eqb (getD marks i 0) 1)
     where
-      go : (y : Bool) → Kept b s (cases y (drawn (zeros s) l t i s) s)
+      go : (y : Bool) → SameFrom b s (cases y (drawn (zeros s) l t i s) s)
       go true = drawn-kept (zeros s) i s h
       go false = (refl, refl)
 
-  pub close-kept : (marks s : List ℕ) → Kept b s (iter (drawMarked l t marks) 0 t s)
+  pub close-kept : (marks s : List ℕ) → SameFrom b s (iter (drawMarked l t marks) 0 t s)
   close-kept marks s =
-      iter-keeps (drawMarked l t marks) (Kept b s) t s
+      iter-keeps (drawMarked l t marks) (SameFrom b s) t s
       (λ j r h p. let k = marked-kept marks j r h in (k .0 ∙ p .0, k .1 ∙ p .1)) (refl, refl)
 
 -- ---- so the index stays

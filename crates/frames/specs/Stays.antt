@@ -19,7 +19,7 @@ use Rattle.meaning.specs.Split.{newest, refined}
 use Rattle.meaning.specs.Good.{Brothers, pairs}
 use Rattle.meaning.specs.Coarsen.{becomes, fate, renamed, without, taken, coarsened, allMarked, pass, Restored, restored}
 use Rattle.meaning.specs.Tables.{Given, Outcome, meshOf, roomOf, filled}
-use Rattle.meaning.specs.Calls.{says, checkNo, refineNo, coarsenNo, refines, coarsens, restores, sizesFit, untouched, left, sized, checkOut, refineOut, coarsenOut, restoreOut}
+use Rattle.meaning.specs.Calls.{says, checkNo, refineNo, coarsenNo, refines, coarsens, restores, sizesFit, untouched, leaves, sized, checkOut, refineOut, coarsenOut, restoreOut}
 use Rattle.laws.specs.Coarsen.{coarsened-count}
 use Rattle.laws.specs.Refine.{newest-done}
 use Rattle.laws.specs.Restore.{Passes, none-good, one-pass, restored-is, restored-fewer}
@@ -84,10 +84,10 @@ module _ (g : Given) (a : 2 * g .n ≤ length (g .nodes)) (b : 3 * g .t ≤ leng
   sound-untouched : (k : ℕ) → Sound g (untouched g k)
   sound-untouched k = record { nodes = refl; rows = refl; scratch = length-replicate (length (g .scratch)) 0; n = a; t = b }
 
-  sound-sized : (n0 k : ℕ) (old new : Mesh) (p : ℕ) → (k ≡ 0 → Counted g new) → Sound g (sized g n0 (left g (says k old new p)))
+  sound-sized : (n0 k : ℕ) (old new : Mesh) (p : ℕ) → (k ≡ 0 → Counted g new) → Sound g (sized g n0 (leaves g (says k old new p)))
   sound-sized n0 k old new p = go (sizesFit g n0) k
     where
-      go : (x : Bool) (k : ℕ) → (k ≡ 0 → Counted g new) → Sound g (cases x (left g (says k old new p)) (untouched g 1))
+      go : (x : Bool) (k : ℕ) → (k ≡ 0 → Counted g new) → Sound g (cases x (leaves g (says k old new p)) (untouched g 1))
       go false k h = sound-untouched 1
       go true (suc k) h = sound-untouched (suc k)
       go true zero h =

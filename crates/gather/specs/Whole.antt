@@ -21,17 +21,17 @@ pub record Settled (s : List ℕ) (nc n0 : ℕ) (m : Mesh) (marks l : List ℕ) 
   pub pairs : (z : ℕ) → z < n → getD s (nc + z) 0 ≡ takeNo n0 m marks z
   pub fates : (i : ℕ) → i < t → getD s (2 * nc + i) 0 ≡ fateNo (takeNo n0 m marks (rowAt l i .p)) (rowAt l i)
 
-pub record Left : Type 0 where
+pub record Tabled : Type 0 where
   pub counts : Counts
   pub nodes : List ℤ
   pub rows : List ℕ
 
-abbrev pub left : Counts → List ℤ → List ℕ → Left
-left c a b = record { counts = c; nodes = a; rows = b }
+abbrev pub tabled : Counts → List ℤ → List ℕ → Tabled
+tabled c a b = record { counts = c; nodes = a; rows = b }
 
 abbrev pub counts : ℕ → ℕ → Counts
 counts a b = record { n = a; t = b }
 
 -- a mesh in tables of these lengths
-unfoldable pub leftOf : ℕ → ℕ → Mesh → Left
-leftOf nl tl m = left (counts (length (m .nodes)) (length (m .tris))) (filled (pos 0) nl (flatNodes (m .nodes))) (filled 0 tl (flatRows (m .tris)))
+unfoldable pub tabledOf : ℕ → ℕ → Mesh → Tabled
+tabledOf nl tl m = tabled (counts (length (m .nodes)) (length (m .tris))) (filled (pos 0) nl (flatNodes (m .nodes))) (filled 0 tl (flatRows (m .tris)))

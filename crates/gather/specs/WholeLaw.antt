@@ -26,7 +26,7 @@ use Rattle.good.specs.Rival.{judged}
 use Rattle.good.specs.RivalLaw.{sign-few}
 use Rattle.gather.specs.Goes.{Small, takeAt, fateNo, fateAt, goneNode, numberBelow, goneRow, fatherBy, renamedBy, newRow}
 use Rattle.gather.specs.GoneLaw.{takeNo, take-is, stays-is, number-renumber, fate-note, father-in}
-use Rattle.gather.specs.Whole.{Going, Settled, left, counts, leftOf}
+use Rattle.gather.specs.Whole.{Going, Settled, tabled, counts, tabledOf}
 
 -- ---- lists that close up
 
@@ -199,6 +199,6 @@ module _ (nodes : List ℤ) (l s : List ℕ) (n0 n t nc : ℕ) (marks : List ℕ
   pub all-left : (rows places : ℕ) (l′ : List ℕ) (nodes′ : List ℤ) →
       rows ≡ length (remaining (goneRow s nc) (newRow s nc l) 0 t) → l′ ≡ filled 0 (length l) (flatRows (remaining (goneRow s nc) (newRow s nc l) 0 t)) →
       places ≡ length (remaining (goneNode s nc) (placeAt nodes) 0 n) → nodes′ ≡ filled (pos 0) (length nodes) (flatNodes (remaining (goneNode s nc) (placeAt nodes) 0 n)) →
-      left (counts places rows) nodes′ l′ ≡ leftOf (length nodes) (length l) (coarsened n0 (meshAt nodes l n t) marks)
-  unfolding leftOf
+      tabled (counts places rows) nodes′ l′ ≡ tabledOf (length nodes) (length l) (coarsened n0 (meshAt nodes l n t) marks)
+  unfolding tabledOf
   all-left rows places l′ nodes′ a b c e = rw (a, b, c, e, rows-left, nodes-left)

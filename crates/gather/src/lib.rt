@@ -17,7 +17,7 @@ ghost use Rattle.tables.specs.Sized.{Sized, indexAt};
 ghost use Rattle.tables.specs.Put.{setRow, setPlace};
 ghost use Rattle.tables.specs.Ready.{Ready};
 ghost use Rattle.laws.specs.Meshes.{meshAt, Fair};
-ghost use Rattle.gather.specs.Whole.{Going, Settled, left, leftOf};
+ghost use Rattle.gather.specs.Whole.{Going, Settled, tabled, tabledOf};
 ghost use Rattle.gather.specs.Goes.{Small, takeAt, fateNo, fateAt, goneNode, nextNumber, numberBelow, goneRow, fatherBy, renamedBy, newRow};
 use meaning::Place;
 use meaning::Tri;
@@ -363,7 +363,7 @@ pub fn take_out(
     requires { ⌜ n ≤ length (now marks) ⌝ }
     requires { ⌜ take (indexAt nc (length (now rows))) (now scratch) ≡ replicate (indexAt nc (length (now rows))) 0 ⌝ }
     requires { ⌜ Ready (now scratch) nc (now rows) t ⌝ }
-    ensures { λ r. ⌜ left r (now (nodes .exit)) (now (rows .exit)) ≡ leftOf (length (now (nodes .entry))) (length (now (rows .entry))) (coarsened n0 (meshAt (now (nodes .entry)) (now (rows .entry)) n t) (now (marks .entry))) ⌝ }
+    ensures { λ r. ⌜ tabled r (now (nodes .exit)) (now (rows .exit)) ≡ tabledOf (length (now (nodes .entry))) (length (now (rows .entry))) (coarsened n0 (meshAt (now (nodes .entry)) (now (rows .entry)) n t) (now (marks .entry))) ⌝ }
 {
     note(nodes, rows, scratch, marks, nc, n0, n, t);
     let t_left = close_rows(rows, scratch, nc, t);

@@ -22,7 +22,7 @@ use Rattle.laws.specs.Edges.{edge-comm, sameTri-eq}
 use Rattle.laws.specs.Stay.{stayed-more, staying-length}
 use Rattle.laws.specs.Star.{Pair, good-added}
 use Rattle.laws.specs.CoarsenRows.{Takeable, touched, brood, Fate, to-father, to-none, to-self, fate-is, touched-is, broods}
-use Rattle.laws.specs.Coarsen.{taken-is, takeable, coarsened-lawful, coarsened-gone, coarsened-kept}
+use Rattle.laws.specs.Coarsen.{taken-is, takeable, coarsened-lawful, coarsened-gone, coarsened-preserved}
 use Rattle.growth.specs.Labels.Names.{mid-injective, Same, straight, crossed}
 use Rattle.growth.specs.Labels.Corners.{Corners, is-p, arrow-rp}
 use Rattle.growth.specs.Labels.Cover.{Label, corners-of}
@@ -269,5 +269,5 @@ module _ (base m : Mesh) (G : GrownFrom base m) (marks : List ℕ) where
   from-coarsened = record {
     lawful = coarsened-lawful (length (base .nodes)) m marks (G .lawful);
     grown = grown-coarsened (G .grown) Y merging;
-    base-place = λ k l. coarsened-kept (length (base .nodes)) m marks (G .lawful) (G .grown .enough) .base-kept k l ∙ G .base-place k l;
+    base-place = λ k l. coarsened-preserved (length (base .nodes)) m marks (G .lawful) (G .grown .enough) .base-kept k l ∙ G .base-place k l;
   }

@@ -21,7 +21,7 @@ use Rattle.growth.specs.GrownFrom.{GrownFrom, from-checked}
 use Rattle.growth.specs.Coarsening.{from-coarsened}
 use Rattle.growth.specs.Refining.{from-refine}
 use Rattle.growth.specs.Restoring.{pass-removes, restored-base}
-use Rattle.laws.specs.TableMesh.{nodes-count, rows-count, written, left-by}
+use Rattle.laws.specs.TableMesh.{nodes-count, rows-count, written, tablesAfter}
 use Rattle.laws.specs.CallLaw.{AsGiven, check-leaves, refine-leaves, coarsen-leaves, restore-leaves}
 use Rattle.growth.specs.OnTables.{GrownTables, fit₀, tables-begin, tables-same, tables-refine, tables-coarsen, tables-restore, tables-sizes, restore-number, restore-leaves-base, tables-passes, end-here, pass-done, pass-less}
 
@@ -111,10 +111,10 @@ pub data TablesReached (g₀ : Given) : Given → Type 0 where
   lent : {g : Given} → TablesReached g₀ g → (scratch : List ℕ) → TablesReached g₀ (given (g .nodes) (g .rows) scratch (g .n) (g .t))
   -- accepted, with the base's node count, on the tables and counts that the accepted call before left
   refined-by : {g : Given} → TablesReached g₀ g → (w : Way) → w .cutting ≡ bisected → (marks : List ℕ) →
-      refineOut w g (g₀ .n) marks .answer .number ≡ 0 → TablesReached g₀ (left-by (refineOut w g (g₀ .n) marks))
+      refineOut w g (g₀ .n) marks .answer .number ≡ 0 → TablesReached g₀ (tablesAfter (refineOut w g (g₀ .n) marks))
   coarsened-by : {g : Given} → TablesReached g₀ g → (marks : List ℕ) →
-      coarsenOut g (g₀ .n) marks .answer .number ≡ 0 → TablesReached g₀ (left-by (coarsenOut g (g₀ .n) marks))
-  restored-by : {g : Given} → TablesReached g₀ g → restoreOut g (g₀ .n) .answer .number ≡ 0 → TablesReached g₀ (left-by (restoreOut g (g₀ .n)))
+      coarsenOut g (g₀ .n) marks .answer .number ≡ 0 → TablesReached g₀ (tablesAfter (coarsenOut g (g₀ .n) marks))
+  restored-by : {g : Given} → TablesReached g₀ g → restoreOut g (g₀ .n) .answer .number ≡ 0 → TablesReached g₀ (tablesAfter (restoreOut g (g₀ .n)))
   -- refused, with whatever counts, n0, marks and scratch: the counts held stay
   refused-by : {g : Given} → TablesReached g₀ g → (scratch : List ℕ) (n t : ℕ) {o : Outcome} → Call (given (g .nodes) (g .rows) scratch n t) o →
       o .answer .number ≢ 0 → TablesReached g₀ (still g o)

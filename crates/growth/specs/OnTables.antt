@@ -28,7 +28,7 @@ use Rattle.growth.specs.GrownFrom.{GrownFrom, from-checked}
 use Rattle.growth.specs.Coarsening.{from-coarsened}
 use Rattle.growth.specs.Refining.{from-refine}
 use Rattle.growth.specs.Restoring.{pass-removes, restored-base}
-use Rattle.laws.specs.TableMesh.{Fits, nodes-count, rows-count, left-by, done-mesh, done-nodes, done-rows}
+use Rattle.laws.specs.TableMesh.{Fits, nodes-count, rows-count, tablesAfter, done-mesh, done-nodes, done-rows}
 use Rattle.laws.specs.CallLaw.{Sizes, sizes-exact, sizes-unfit, sizes-again, check-leaves, refine-leaves, coarsen-leaves, restore-leaves}
 
 -- What the tables have, whatever calls left them.
@@ -60,7 +60,7 @@ module _ (g₀ : Given) (ok : checkOut g₀ .answer .number ≡ 0) where
 
   -- An accepted call leaves a mesh that is grown from the base, if it fits.
   tables-done : (g : Given) → GrownTables g₀ g → (m : Mesh) (k : ℕ) → GrownFrom base m → 2 * length (m .nodes) ≤ length (g .nodes) → 3 * length (m .tris) ≤ length (g .rows) →
-      GrownTables g₀ (left-by (done g m k))
+      GrownTables g₀ (tablesAfter (done g m k))
   tables-done g h m k G a b = record {
     grown = subst (GrownFrom base) (sym (done-mesh g m k)) G;
     fit = record { nodes-fit = omega (arith, done-nodes g m k a b); rows-fit = omega (arith, done-rows g m k a b) };
@@ -79,7 +79,7 @@ module _ (g₀ : Given) (ok : checkOut g₀ .answer .number ≡ 0) where
       (record { grown = h .grown; fit = record { nodes-fit = h .fit .nodes-fit; rows-fit = h .fit .rows-fit }; nodes-length = h .nodes-length; rows-kept = h .rows-kept })
 
   pub tables-refine : (g : Given) → GrownTables g₀ g → (w : Way) → w .cutting ≡ bisected → (marks : List ℕ) → refineOut w g (g₀ .n) marks .answer .number ≡ 0 →
-      GrownTables g₀ (left-by (refineOut w g (g₀ .n) marks))
+      GrownTables g₀ (tablesAfter (refineOut w g (g₀ .n) marks))
   tables-refine g h w cuts marks e =
       let c = refine-leaves g (g₀ .n) w marks in
       let z = c .sized-and-0 e .1 in
@@ -96,7 +96,7 @@ module _ (g₀ : Given) (ok : checkOut g₀ .answer .number ≡ 0) where
       let c = coarsened-gone (g₀ .n) (meshOf g) marks (h .grown .lawful) in
       (omega (arith, c .node-count, nodes-count g, h .fit .nodes-fit), omega (arith, c .row-count, rows-count g, h .fit .rows-fit))
 
-  pub tables-coarsen : (g : Given) → GrownTables g₀ g → (marks : List ℕ) → coarsenOut g (g₀ .n) marks .answer .number ≡ 0 → GrownTables g₀ (left-by (coarsenOut g (g₀ .n) marks))
+  pub tables-coarsen : (g : Given) → GrownTables g₀ g → (marks : List ℕ) → coarsenOut g (g₀ .n) marks .answer .number ≡ 0 → GrownTables g₀ (tablesAfter (coarsenOut g (g₀ .n) marks))
   tables-coarsen g h marks e =
       let (a, b) = coarsen-fits g h marks in
       rw (coarsen-leaves g (g₀ .n) marks .done-is e) (tables-done g h (coarsened (g₀ .n) (meshOf g) marks) 0 (coarsen-keeps (meshOf g) (h .grown) marks) a b)
@@ -104,7 +104,7 @@ module _ (g₀ : Given) (ok : checkOut g₀ .answer .number ≡ 0) where
   pub end-here : (g : Given) → GrownTables g₀ g → restored (g₀ .n) (meshOf g) .end ≡ base
   end-here g h = subst (λ (j : ℕ). restored j (meshOf g) .end ≡ base) (nodes-count g₀) (restored-base base (h .grown))
 
-  pub tables-restore : (g : Given) → GrownTables g₀ g → restoreOut g (g₀ .n) .answer .number ≡ 0 → GrownTables g₀ (left-by (restoreOut g (g₀ .n)))
+  pub tables-restore : (g : Given) → GrownTables g₀ g → restoreOut g (g₀ .n) .answer .number ≡ 0 → GrownTables g₀ (tablesAfter (restoreOut g (g₀ .n)))
   tables-restore g h e =
       let f = fit₀ in
       rw (restore-leaves g (g₀ .n) .done-is e, end-here g h)

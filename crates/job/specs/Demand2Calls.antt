@@ -23,7 +23,7 @@ use Rattle.laws.specs.Bisected.{bisected-laws}
 use Rattle.laws.specs.Refine.{toSplit, Least, OddSum, Fits, TooMany, RefineSays, unlawful, Refined, refine-splits, refine-exact, refine-8, refine-9, refine-0, refine-only-8-9, refine-done}
 use Rattle.laws.specs.CoarsenCalls.{Coarsened, CoarsenSays, well-marked, RestoreDone, coarsen-exact, coarsen-0, coarsen-done, restore-done}
 use Rattle.laws.specs.Restore.{restored-fewer, restored-rows}
-use Rattle.laws.specs.TableMesh.{nodes-count, rows-count, left-by}
+use Rattle.laws.specs.TableMesh.{nodes-count, rows-count, tablesAfter}
 use Rattle.laws.specs.CallLaw.{Sizes, sizes-exact, AsGiven, Holds, Answers, CallLeaves, call-answers, done-holds, check-leaves, refine-leaves, coarsen-leaves, restore-leaves}
 
 -- ---- what a user finds
@@ -45,7 +45,7 @@ pub record RefineDone (w : Way) (g : Given) (marks : List ℕ) (o : Outcome) : T
   -- the tables hold the refined mesh, zeros past it
   pub holds : Holds g (refined w (meshOf g) marks) o
   -- which is lawful, of the same total, with the nodes and rows that splitting makes
-  pub is-refined : Refined w (roomOf g) (meshOf g) marks (meshOf (left-by o))
+  pub is-refined : Refined w (roomOf g) (meshOf g) marks (meshOf (tablesAfter o))
   -- and the edges that are split are the least closed set
   pub splits-least : Least (meshOf g .tris) (started w marks (meshOf g .tris)) (toSplit w (meshOf g) marks)
   pub reports-none : o .answer .passes ≡ 0
@@ -59,7 +59,7 @@ pub record CoarsenDone (g : Given) (n0 : ℕ) (marks : List ℕ) (o : Outcome) :
   -- the tables hold the coarsened mesh, zeros past it
   pub holds : Holds g (coarsened n0 (meshOf g) marks) o
   -- exactly the marked good nodes are gone; the mesh is lawful, of the same total, with the base nodes
-  pub is-coarsened : Coarsened n0 (meshOf g) marks (meshOf (left-by o))
+  pub is-coarsened : Coarsened n0 (meshOf g) marks (meshOf (tablesAfter o))
   pub reports-none : o .answer .passes ≡ 0
 
 pub record CoarsenMade (g : Given) (n0 : ℕ) (marks : List ℕ) (o : Outcome) : Type 0 where

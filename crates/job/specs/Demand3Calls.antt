@@ -14,7 +14,7 @@ use Rattle.meaning.specs.Split.{newest}
 use Rattle.meaning.specs.Coarsen.{restored}
 use Rattle.meaning.specs.Tables.{Given, Outcome, given, meshOf, roomOf}
 use Rattle.meaning.specs.Calls.{sizesFit, checkOut, refineOut, coarsenOut, restoreOut}
-use Rattle.laws.specs.TableMesh.{left-by}
+use Rattle.laws.specs.TableMesh.{tablesAfter}
 use Rattle.growth.specs.Demand3.{Removals, TablesReached, begin, lent, refined-by, coarsened-by, restored-by, refused-by, checked-by, a-refine, a-coarsen, a-restore, still, baseAgain, Restores, demand3-tables}
 
 -- A call that was made on the tables g: what it left, o, is what its contract ensures.
@@ -31,9 +31,9 @@ pub data Held (g₀ : Given) : Given → Type 0 where
   -- scratch may be another table at every call
   scratch-anew : {g : Given} → Held g₀ g → (scratch : List ℕ) → Held g₀ (given (g .nodes) (g .rows) scratch (g .n) (g .t))
   -- an accepted refine, coarsen or restore with the base's node count, on the tables and counts left by the accepted call before
-  after-refine : {g : Given} → Held g₀ g → (marks : List ℕ) (o : Outcome) → o ≡ refineOut newest g (g₀ .n) marks → o .answer .number ≡ 0 → Held g₀ (left-by o)
-  after-coarsen : {g : Given} → Held g₀ g → (marks : List ℕ) (o : Outcome) → o ≡ coarsenOut g (g₀ .n) marks → o .answer .number ≡ 0 → Held g₀ (left-by o)
-  after-restore : {g : Given} → Held g₀ g → (o : Outcome) → o ≡ restoreOut g (g₀ .n) → o .answer .number ≡ 0 → Held g₀ (left-by o)
+  after-refine : {g : Given} → Held g₀ g → (marks : List ℕ) (o : Outcome) → o ≡ refineOut newest g (g₀ .n) marks → o .answer .number ≡ 0 → Held g₀ (tablesAfter o)
+  after-coarsen : {g : Given} → Held g₀ g → (marks : List ℕ) (o : Outcome) → o ≡ coarsenOut g (g₀ .n) marks → o .answer .number ≡ 0 → Held g₀ (tablesAfter o)
+  after-restore : {g : Given} → Held g₀ g → (o : Outcome) → o ≡ restoreOut g (g₀ .n) → o .answer .number ≡ 0 → Held g₀ (tablesAfter o)
   -- a refused call of any kind, with whatever counts, n0, marks and scratch: the counts held stay
   after-refusal : {g : Given} → Held g₀ g → (scratch : List ℕ) (n t : ℕ) (o : Outcome) → Made (given (g .nodes) (g .rows) scratch n t) o → o .answer .number ≢ 0 →
       Held g₀ (still g o)
@@ -59,11 +59,11 @@ held-reached : (g₀ : Given) {g : Given} → Held g₀ g → TablesReached g₀
 held-reached g₀ base-held = begin
 held-reached g₀ (scratch-anew h scratch) = lent (held-reached g₀ h) scratch
 held-reached g₀ (after-refine {g = g} h marks o e z) =
-    subst (λ x. TablesReached g₀ (left-by x)) (sym e) (refined-by (held-reached g₀ h) newest refl marks (ap (λ x. x .answer .number) (sym e) ∙ z))
+    subst (λ x. TablesReached g₀ (tablesAfter x)) (sym e) (refined-by (held-reached g₀ h) newest refl marks (ap (λ x. x .answer .number) (sym e) ∙ z))
 held-reached g₀ (after-coarsen {g = g} h marks o e z) =
-    subst (λ x. TablesReached g₀ (left-by x)) (sym e) (coarsened-by (held-reached g₀ h) marks (ap (λ x. x .answer .number) (sym e) ∙ z))
+    subst (λ x. TablesReached g₀ (tablesAfter x)) (sym e) (coarsened-by (held-reached g₀ h) marks (ap (λ x. x .answer .number) (sym e) ∙ z))
 held-reached g₀ (after-restore {g = g} h o e z) =
-    subst (λ x. TablesReached g₀ (left-by x)) (sym e) (restored-by (held-reached g₀ h) (ap (λ x. x .answer .number) (sym e) ∙ z))
+    subst (λ x. TablesReached g₀ (tablesAfter x)) (sym e) (restored-by (held-reached g₀ h) (ap (λ x. x .answer .number) (sym e) ∙ z))
 held-reached g₀ (after-refusal {g = g} h scratch n t o m z) = go m (held-reached g₀ h)
   where
     go : Made (given (g .nodes) (g .rows) scratch n t) o → TablesReached g₀ g → TablesReached g₀ (still g o)

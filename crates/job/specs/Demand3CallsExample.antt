@@ -15,7 +15,7 @@ use Rattle.meaning.specs.Good.{pairs, span, G1-4, good}
 use Rattle.meaning.specs.Coarsen.{taken, without, coarsened, goodNodes, pass, restored}
 use Rattle.meaning.specs.Tables.{Given, Outcome, given, outcome, answer, placeAt, rowAt, meshOf}
 use Rattle.meaning.specs.Calls.{checkNo, refineNo, coarsenNo, checks, refines, coarsens, restores, sizesFit, checkOut, refineOut, coarsenOut, restoreOut}
-use Rattle.laws.specs.TableMesh.{left-by}
+use Rattle.laws.specs.TableMesh.{tablesAfter}
 use Rattle.job.specs.Demand2Calls.{RefineDone, CoarsenDone, demand2-calls}
 use Rattle.job.specs.Demand3Calls.{Held, base-held, scratch-anew, after-refine, after-coarsen, after-refusal, check-made, refine-made, coarsen-made, restore-made, demand3-calls}
 
@@ -90,7 +90,7 @@ refined-first : RefineDone newest S (1 ∷ 0 ∷ []) (leaving 0 5 4 0 nodes2 row
 unfolding leaving square two nodes2 rows2 S lowest lowestFrom items itemsFrom placeAt rowAt meshOf twiceArea firstOutside firstMisnamed firstRepeat firstFlat firstUnused faultOf refusal closure splitEdges splitAt split refined refineNo refines sizesFit refineOut
 refined-first = demand2-calls .of-refine S 4 (1 ∷ 0 ∷ []) (leaving 0 5 4 0 nodes2 rows2 76) refl .leaves-refined refl
 
-coarsened-last : CoarsenDone (left-by (leaving 0 8 8 0 nodes4 rows4 76)) 4 (0 ∷ 0 ∷ 0 ∷ 0 ∷ 0 ∷ 0 ∷ 1 ∷ 0 ∷ []) (leaving 0 7 6 0 nodes5 rows5 76)
+coarsened-last : CoarsenDone (tablesAfter (leaving 0 8 8 0 nodes4 rows4 76)) 4 (0 ∷ 0 ∷ 0 ∷ 0 ∷ 0 ∷ 0 ∷ 1 ∷ 0 ∷ []) (leaving 0 7 6 0 nodes5 rows5 76)
 unfolding leaving square nodes4 nodes5 rows4 rows5 lowest lowestFrom items itemsFrom placeAt rowAt meshOf twiceArea firstOutside firstMisnamed firstRepeat firstFlat firstUnused faultOf refusal pairs span G1-4 good taken without coarsened coarsenNo coarsens sizesFit coarsenOut
 coarsened-last = demand2-calls .of-coarsen _ 4 _ _ refl .leaves-coarsened refl
 

@@ -16,13 +16,13 @@ use Rattle.meaning.specs.Mesh.{Mesh}
 use Rattle.meaning.specs.Lawful.{Lawful, refusal}
 use Rattle.meaning.specs.Coarsen.{coarsened, goodNodes, allMarked, pass, Restored, restored}
 use Rattle.meaning.specs.Tables.{Given, Outcome, given, outcome, answer, meshOf, cleared}
-use Rattle.meaning.specs.Calls.{unless, marksFit, coarsenNo, coarsens, restores, says, sizesFit, untouched, done, left, coarsenOut, restoreOut}
+use Rattle.meaning.specs.Calls.{unless, marksFit, coarsenNo, coarsens, restores, says, sizesFit, untouched, done, leaves, coarsenOut, restoreOut}
 use Rattle.laws.specs.Lawful.{refusal-lawful, lawful-refusal}
 use Rattle.laws.specs.Marks.{marks-exact, ones-fit}
-use Rattle.laws.specs.Coarsen.{Kept}
-use Rattle.laws.specs.Restore.{ones-mark-all, pass-count, pass-gone, pass-kept, restored-stop, restored-step}
+use Rattle.laws.specs.Coarsen.{Preserved}
+use Rattle.laws.specs.Restore.{ones-mark-all, pass-count, pass-gone, pass-preserved, restored-stop, restored-step}
 use Rattle.laws.specs.StillLaw.{pass-still}
-use Rattle.laws.specs.TableMesh.{nodes-count, rows-count, left-by}
+use Rattle.laws.specs.TableMesh.{nodes-count, rows-count, tablesAfter}
 use Rattle.laws.specs.CallLaw.{Sizes, sizes-exact, sizes-again, Holds, done-holds}
 use Rattle.job.specs.Pass.{passOut, after}
 
@@ -60,14 +60,14 @@ pass-and-restore g n0 = go (sizesFit g n0) refl
     fit = marks-exact (length (meshOf g .nodes)) (allMarked (meshOf g .nodes)) .1 (rw (← ones-mark-all (meshOf g .nodes)) (ones-fit (length (meshOf g .nodes))))
 
     lawful : Sizes g n0 → (k : ℕ) → refusal (meshOf g) ≡ k →
-        Said g n0 (left g (says k (meshOf g) (coarsened n0 (meshOf g) (allMarked (meshOf g .nodes))) 0)) (left g (says k (meshOf g) (restored n0 (meshOf g) .end) (restored n0 (meshOf g) .passes)))
+        Said g n0 (leaves g (says k (meshOf g) (coarsened n0 (meshOf g) (allMarked (meshOf g .nodes))) 0)) (leaves g (says k (meshOf g) (restored n0 (meshOf g) .end) (restored n0 (meshOf g) .passes)))
     lawful s zero e = passed s (refusal-lawful (meshOf g) e)
     lawful s (suc k) e = refused (suc k) (omega arith)
 
     go : (b : Bool) → sizesFit g n0 ≡ b →
         Said g n0
-        (cases b (left g (says (unless (marksFit (length (meshOf g .nodes)) (replicate (min (g .n) 1024) 1)) 2 (refusal (meshOf g))) (meshOf g) (coarsened n0 (meshOf g) (replicate (min (g .n) 1024) 1)) 0)) (untouched g 1))
-        (cases b (left g (says (refusal (meshOf g)) (meshOf g) (restored n0 (meshOf g) .end) (restored n0 (meshOf g) .passes))) (untouched g 1))
+        (cases b (leaves g (says (unless (marksFit (length (meshOf g .nodes)) (replicate (min (g .n) 1024) 1)) 2 (refusal (meshOf g))) (meshOf g) (coarsened n0 (meshOf g) (replicate (min (g .n) 1024) 1)) 0)) (untouched g 1))
+        (cases b (leaves g (says (refusal (meshOf g)) (meshOf g) (restored n0 (meshOf g) .end) (restored n0 (meshOf g) .passes))) (untouched g 1))
     go true e = let s = sizes-exact g n0 .0 e in rw (marks s, fit) (lawful s (refusal (meshOf g)) refl)
     go false e = refused 1 (omega arith)
 
@@ -114,8 +114,8 @@ module _ (g : Given) (n0 : ℕ) where
 
   -- a pass that takes a node leaves tables to go on with
   module _ (s : Sizes g n0) (law : Lawful (meshOf g)) where
-    kept : Kept n0 (meshOf g) (pass n0 (meshOf g))
-    kept = pass-kept n0 (meshOf g) law (omega (arith, nodes-count g, s .n0-fits))
+    preserved : Preserved n0 (meshOf g) (pass n0 (meshOf g))
+    preserved = pass-preserved n0 (meshOf g) law (omega (arith, nodes-count g, s .n0-fits))
 
     -- which hold it,
     holds : Holds g (pass n0 (meshOf g)) (done g (pass n0 (meshOf g)) 0)
@@ -124,17 +124,17 @@ module _ (g : Given) (n0 : ℕ) where
         (omega (arith, pass-count n0 (meshOf g), nodes-count g, s .n-fits)) (omega (arith, pass-gone n0 (meshOf g) law .row-count, rows-count g, s .t-fits))
 
     -- and whose sizes fit
-    sizes-after : Sizes (left-by (done g (pass n0 (meshOf g)) 0)) n0
+    sizes-after : Sizes (tablesAfter (done g (pass n0 (meshOf g)) 0)) n0
     sizes-after =
         sizes-again s (holds .nodes-long) (holds .rows-long) (omega (arith, holds .nodes-long, pass-count n0 (meshOf g), nodes-count g, s .n-fits))
-        (omega (arith, holds .rows-long, pass-gone n0 (meshOf g) law .row-count, rows-count g, s .t-fits)) (kept .base-there) (rw (length-replicate {A = ℕ} (length (g .scratch)) 0) (s .scratch-fits))
+        (omega (arith, holds .rows-long, pass-gone n0 (meshOf g) law .row-count, rows-count g, s .t-fits)) (preserved .base-there) (rw (length-replicate {A = ℕ} (length (g .scratch)) 0) (s .scratch-fits))
 
     -- what restore leaves of these
-    on-from : restoreOut (left-by (done g (pass n0 (meshOf g)) 0)) n0 ≡ done g (restored n0 (pass n0 (meshOf g)) .end) (restored n0 (pass n0 (meshOf g)) .passes)
+    on-from : restoreOut (tablesAfter (done g (pass n0 (meshOf g)) 0)) n0 ≡ done g (restored n0 (pass n0 (meshOf g)) .end) (restored n0 (pass n0 (meshOf g)) .passes)
     unfolding restoreOut restores
     on-from =
-        let h = left-by (done g (pass n0 (meshOf g)) 0) in
-        let z : refusal (pass n0 (meshOf g)) ≡ 0 = lawful-refusal (pass n0 (meshOf g)) (kept .lawful) in
+        let h = tablesAfter (done g (pass n0 (meshOf g)) 0) in
+        let z : refusal (pass n0 (meshOf g)) ≡ 0 = lawful-refusal (pass n0 (meshOf g)) (preserved .lawful) in
         let c : length (replicate {A = ℕ} (length (g .scratch)) 0) ≡ length (g .scratch) = length-replicate (length (g .scratch)) 0 in
         rw (sizes-exact h n0 .1 sizes-after, holds .mesh-is, z, holds .nodes-long, holds .rows-long, c)
 
@@ -195,7 +195,7 @@ module _ (a : Answer) (g : Given) (nodes′ : List ℤ) (rows′ scratch′ : Li
           go (refused k r) e inv = absurd (r (sym (ap (λ (o : Outcome). o .answer .number) e) ∙ z))
           go (passed s l) e inv =
               let b : length (pass n0 (meshOf g) .nodes) ≢ length (meshOf g .nodes) = (λ q. o (ap (λ (o : Outcome). o .answer .n) e ∙ q ∙ nodes-count g)) in
-              ap (λ (o : Outcome). after (p + 1) n t (restoreOut (left-by o) n0)) e
+              ap (λ (o : Outcome). after (p + 1) n t (restoreOut (tablesAfter o) n0)) e
               ∙ ap (after (p + 1) n t) (on-from g n0 s l)
               ∙ after-done (p + 1) n t g (restored n0 (pass n0 (meshOf g)) .end) (restored n0 (pass n0 (meshOf g)) .passes)
               ∙ stepped g n0 s l b p

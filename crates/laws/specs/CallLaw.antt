@@ -17,9 +17,9 @@ use Rattle.meaning.specs.Tables.{Given, Outcome, meshOf, roomOf, flatNodes, fla
 use Rattle.meaning.specs.Lawful.{refusal}
 use Rattle.meaning.specs.Split.{Way, refined}
 use Rattle.meaning.specs.Coarsen.{coarsened, restored}
-use Rattle.meaning.specs.Calls.{says, checkNo, refineNo, coarsenNo, refines, coarsens, restores, sizesFit, untouched, done, left, sized, checkOut, refineOut, coarsenOut, restoreOut}
+use Rattle.meaning.specs.Calls.{says, checkNo, refineNo, coarsenNo, refines, coarsens, restores, sizesFit, untouched, done, leaves, sized, checkOut, refineOut, coarsenOut, restoreOut}
 use Rattle.laws.specs.Exact.{unfit}
-use Rattle.laws.specs.TableMesh.{flat-nodes-length, flat-rows-length, left-by, done-mesh, done-nodes, done-rows}
+use Rattle.laws.specs.TableMesh.{flat-nodes-length, flat-rows-length, tablesAfter, done-mesh, done-nodes, done-rows}
 
 -- ---- sizes
 
@@ -117,7 +117,7 @@ pub record AsGiven (g : Given) (o : Outcome) : Type 0 where
 
 -- done: the tables, of the same lengths, hold the new mesh; "node and triangle entries past the new counts are zero"
 pub record Holds (g : Given) (new : Mesh) (o : Outcome) : Type 0 where
-  pub mesh-is : meshOf (left-by o) ≡ new
+  pub mesh-is : meshOf (tablesAfter o) ≡ new
   pub nodes-long : length (o .nodes) ≡ length (g .nodes)
   pub rows-long : length (o .rows) ≡ length (g .rows)
   pub nodes-past : (i : ℕ) → 2 * o .answer .n ≤ i → getD (o .nodes) i (pos 0) ≡ pos 0
@@ -154,10 +154,10 @@ untouched-as-given : (g : Given) (j : ℕ) → AsGiven g (untouched g j)
 untouched-as-given g j = record { nodes-same = refl; rows-same = refl; n-same = refl; t-same = refl; no-passes = refl }
 
 -- WHAT A CALL LEAVES, whatever it is given.
-pub call-leaves : (g : Given) (n0 k : ℕ) (old new : Mesh) (p : ℕ) → CallLeaves g n0 k new p (sized g n0 (left g (says k old new p)))
+pub call-leaves : (g : Given) (n0 k : ℕ) (old new : Mesh) (p : ℕ) → CallLeaves g n0 k new p (sized g n0 (leaves g (says k old new p)))
 call-leaves g n0 k old new p = go (sizesFit g n0) refl k
   where
-    go : (b : Bool) → sizesFit g n0 ≡ b → (k : ℕ) → CallLeaves g n0 k new p (cases b (left g (says k old new p)) (untouched g 1))
+    go : (b : Bool) → sizesFit g n0 ≡ b → (k : ℕ) → CallLeaves g n0 k new p (cases b (leaves g (says k old new p)) (untouched g 1))
     go true q zero = record { number-said = rw q; sized-and-0 = λ e. (sizes-exact g n0 .0 q, refl); done-is = λ e. refl; refusal-leaves = λ n. absurd (n refl); scratch-zero = refl }
     go true q (suc k) = record { number-said = rw q; sized-and-0 = λ e. absurd (omega arith); done-is = λ e. absurd (omega arith); refusal-leaves = λ n. untouched-as-given g (suc k); scratch-zero = refl }
     go false q k = record { number-said = rw q; sized-and-0 = λ e. absurd (omega arith); done-is = λ e. absurd (omega arith); refusal-leaves = λ n. untouched-as-given g 1; scratch-zero = refl }

@@ -21,7 +21,7 @@ use Rattle.meaning.specs.Coarsen.{marked, taken, fate, stays, renumber, renamed
 use Rattle.laws.specs.Stay.{stayed-mono, stayed-all, renumber-lt, renumber-falls, staying-rest}
 use Rattle.laws.specs.Star.{Pair, GoodStar, good-added, good-star}
 use Rattle.laws.specs.CoarsenRows.{Takeable, Fate, brood, broods, fate-is}
-use Rattle.laws.specs.Without.{left-length, left-at, left-below, left-onto, without-lawful, without-total, without-rows}
+use Rattle.laws.specs.Without.{without-length, without-at, without-below, without-onto, without-lawful, without-total, without-rows}
 
 -- ---- the nodes that are taken
 
@@ -75,7 +75,7 @@ pub record Gone (m : Mesh) (zs : List ℕ) (after : Mesh) : Type 0 where
   pub brothers-are : All (λ b. (z : ℕ) × List·Memᴰ z zs × Pair m z b) (brood m zs)
 
 -- what is kept of a mesh whose base has n0 nodes
-pub record Kept (n0 : ℕ) (m after : Mesh) : Type 0 where
+pub record Preserved (n0 : ℕ) (m after : Mesh) : Type 0 where
   pub lawful : Lawful after
   pub total-kept : total after ≡ total m
   -- the base nodes are there, with their numbers and places
@@ -125,25 +125,25 @@ module _ (n0 : ℕ) (m : Mesh) (marks : List ℕ) where
         record {
           node-count = coarsened-count n0 m marks;
           row-count = without-rows m zs law takeable;
-          place-kept = left-at m zs;
-          number-below = left-below m zs;
+          place-kept = without-at m zs;
+          number-below = without-below m zs;
           number-falls = renumber-falls zs (taken-once n0 m marks);
           order-kept = renumber-lt zs;
-          no-other = left-onto m zs;
+          no-other = without-onto m zs;
           rows-are = refl;
           row-fate = λ {t} j. fate-is m zs law takeable j;
           brothers-are = broods m zs law takeable;
         }
 
-    pub coarsened-kept : n0 ≤ length (m .nodes) → Kept n0 m (coarsened n0 m marks)
+    pub coarsened-preserved : n0 ≤ length (m .nodes) → Preserved n0 m (coarsened n0 m marks)
     unfolding coarsened
-    coarsened-kept le =
+    coarsened-preserved le =
         let g = coarsened-gone in
         record {
           lawful = coarsened-lawful;
           total-kept = coarsened-total;
           base-there =
-              (let a = left-length m (taken n0 m marks) in
+              (let a = without-length m (taken n0 m marks) in
               let b = stayed-mono (taken n0 m marks) 0 n0 (length (m .nodes)) le in
               let c = base-number n0 (omega arith) in
               omega arith);

@@ -17,8 +17,8 @@ use Rattle.laws.specs.Lawful.{refusal-lowest, refusal-lawful, lawful-ref
 use Rattle.laws.specs.Numbers.{unless-done}
 use Rattle.laws.specs.Marks.{WellMarked, marks-exact, marks-unfit}
 use Rattle.laws.specs.Good.{good-is}
-use Rattle.laws.specs.Coarsen.{Kept, Gone, taken-is, coarsened-gone, coarsened-kept}
-use Rattle.laws.specs.Restore.{Passes, goodNodes-is, restored-is, restored-ends, restored-kept, restored-passes}
+use Rattle.laws.specs.Coarsen.{Preserved, Gone, taken-is, coarsened-gone, coarsened-preserved}
+use Rattle.laws.specs.Restore.{Passes, goodNodes-is, restored-is, restored-ends, restored-preserved, restored-passes}
 
 -- ---- coarsen
 
@@ -41,13 +41,13 @@ pub record Coarsened (n0 : ℕ) (m : Mesh) (marks : List ℕ) (after : Mesh) : T
   pub takes : Takes n0 m marks
   -- these go, and no other
   pub goes : Gone m (taken n0 m marks) after
-  pub keeps : Kept n0 m after
+  pub keeps : Preserved n0 m after
 
 pub coarsen-done : (n0 : ℕ) (m : Mesh) (marks : List ℕ) → n0 ≤ length (m .nodes) → coarsenNo m marks ≡ 0 → Coarsened n0 m marks (coarsened n0 m marks)
 unfolding coarsenNo
 coarsen-done n0 m marks le e =
     let law = refusal-lawful m (unless-done (marksFit (length (m .nodes)) marks) 2 _ (omega arith) e .1) in
-    record { takes = coarsened-takes n0 m marks law; goes = coarsened-gone n0 m marks law; keeps = coarsened-kept n0 m marks law le }
+    record { takes = coarsened-takes n0 m marks law; goes = coarsened-gone n0 m marks law; keeps = coarsened-preserved n0 m marks law le }
 
 module _ (m : Mesh) (marks : List ℕ) where
   -- when each number is given, line by line
@@ -115,19 +115,19 @@ pub record RestoreDone (n0 : ℕ) (m : Mesh) : Type 0 where
   -- full passes while a good node exists, each removing one; the passes reported are those made
   pub made : Passes n0 m (restored n0 m)
   pub none-good : (z : ℕ) → z < length (restored n0 m .end .nodes) → ¬ Good n0 (restored n0 m .end) z
-  pub keeps : Kept n0 m (restored n0 m .end)
+  pub keeps : Preserved n0 m (restored n0 m .end)
   -- no more passes than nodes were added
   pub at-most : restored n0 m .passes + n0 ≤ length (m .nodes)
 
 pub restore-done : (n0 : ℕ) (m : Mesh) → n0 ≤ length (m .nodes) → refusal m ≡ 0 → RestoreDone n0 m
 restore-done n0 m le e =
     let law = refusal-lawful m e in
-    let kept = restored-kept n0 m law le in
+    let preserved = restored-preserved n0 m law le in
     let after = restored n0 m .end in
     record {
       made = restored-is n0 m;
       none-good = λ z l g.
-          All-at {P = λ y. ⊥} nil (subst (λ zs. List·Memᴰ z zs) (restored-ends n0 m) (goodNodes-is n0 after z .1 (l, good-is n0 after z (kept .lawful) l .1 g)));
-      keeps = kept;
+          All-at {P = λ y. ⊥} nil (subst (λ zs. List·Memᴰ z zs) (restored-ends n0 m) (goodNodes-is n0 after z .1 (l, good-is n0 after z (preserved .lawful) l .1 g)));
+      keeps = preserved;
       at-most = restored-passes n0 m law le;
     }

@@ -15,7 +15,7 @@ use Rattle.meaning.specs.Mesh.{Mesh}
 use Rattle.meaning.specs.Lawful.{Lawful}
 use Rattle.meaning.specs.Good.{good}
 use Rattle.meaning.specs.Coarsen.{marked, taken, without, coarsened, goodNodes, allMarked, pass, Restored, more, run, restored}
-use Rattle.laws.specs.Coarsen.{Gone, Kept, coarsened-count, coarsened-gone, coarsened-kept}
+use Rattle.laws.specs.Coarsen.{Gone, Preserved, coarsened-count, coarsened-gone, coarsened-preserved}
 
 -- the good nodes, as a list
 pub goodNodes-is : (n0 : ℕ) (m : Mesh) (z : ℕ) → List·Memᴰ z (goodNodes n0 m) ↔ ((z < length (m .nodes)) × (good n0 m z ≡ true))
@@ -59,9 +59,9 @@ module _ (n0 : ℕ) (m : Mesh) where
   unfolding pass
   pass-gone law = subst (λ zs. Gone m zs (pass n0 m)) pass-takes (coarsened-gone n0 m (allMarked (m .nodes)) law)
 
-  pub pass-kept : Lawful m → n0 ≤ length (m .nodes) → Kept n0 m (pass n0 m)
+  pub pass-preserved : Lawful m → n0 ≤ length (m .nodes) → Preserved n0 m (pass n0 m)
   unfolding pass
-  pass-kept law le = coarsened-kept n0 m (allMarked (m .nodes)) law le
+  pass-preserved law le = coarsened-preserved n0 m (allMarked (m .nodes)) law le
 
   no-nodes : length (m .nodes) ≡ 0 → goodNodes n0 m ≡ []
   unfolding goodNodes
@@ -132,26 +132,26 @@ passes-fewer : {n0 : ℕ} {m : Mesh} {r : Restored} → Passes n0 m r → r .pas
 passes-fewer (none-good e) = omega arith
 passes-fewer {n0} {m} (one-pass z zs e p) = let a = passes-fewer p in let f = pass-fewer n0 m z zs e in omega arith
 
-kept-self : (n0 : ℕ) (m : Mesh) → Lawful m → n0 ≤ length (m .nodes) → Kept n0 m m
-kept-self n0 m law le = record { lawful = law; total-kept = refl; base-there = le; base-kept = λ k h. refl }
+preserved-self : (n0 : ℕ) (m : Mesh) → Lawful m → n0 ≤ length (m .nodes) → Preserved n0 m m
+preserved-self n0 m law le = record { lawful = law; total-kept = refl; base-there = le; base-kept = λ k h. refl }
 
-kept-on : {n0 : ℕ} {a b c : Mesh} → Kept n0 a b → Kept n0 b c → Kept n0 a c
-kept-on h k = record {
+preserved-on : {n0 : ℕ} {a b c : Mesh} → Preserved n0 a b → Preserved n0 b c → Preserved n0 a c
+preserved-on h k = record {
   lawful = k .lawful;
   total-kept = k .total-kept ∙ h .total-kept;
   base-there = k .base-there;
   base-kept = λ j l. k .base-kept j l ∙ h .base-kept j l;
 }
 
-passes-kept : {n0 : ℕ} {m : Mesh} {r : Restored} → Passes n0 m r → Lawful m → n0 ≤ length (m .nodes) → Kept n0 m (r .end)
-passes-kept {n0} {m} (none-good e) law le = kept-self n0 m law le
-passes-kept {n0} {m} (one-pass z zs e p) law le = let k = pass-kept n0 m law le in kept-on k (passes-kept p (k .lawful) (k .base-there))
+passes-preserved : {n0 : ℕ} {m : Mesh} {r : Restored} → Passes n0 m r → Lawful m → n0 ≤ length (m .nodes) → Preserved n0 m (r .end)
+passes-preserved {n0} {m} (none-good e) law le = preserved-self n0 m law le
+passes-preserved {n0} {m} (one-pass z zs e p) law le = let k = pass-preserved n0 m law le in preserved-on k (passes-preserved p (k .lawful) (k .base-there))
 
 -- and no pass adds a row
 passes-rows : {n0 : ℕ} {m : Mesh} {r : Restored} → Passes n0 m r → Lawful m → n0 ≤ length (m .nodes) → length (r .end .tris) ≤ length (m .tris)
 passes-rows (none-good e) law le = omega arith
 passes-rows {n0} {m} (one-pass z zs e p) law le =
-    let k = pass-kept n0 m law le in omega (arith, passes-rows p (k .lawful) (k .base-there), pass-gone n0 m law .row-count)
+    let k = pass-preserved n0 m law le in omega (arith, passes-rows p (k .lawful) (k .base-there), pass-gone n0 m law .row-count)
 
 module _ (n0 : ℕ) (m : Mesh) where
   -- no good node is left
@@ -162,12 +162,12 @@ module _ (n0 : ℕ) (m : Mesh) where
   restored-fewer = passes-fewer (restored-is n0 m)
 
   module _ (law : Lawful m) (le : n0 ≤ length (m .nodes)) where
-    pub restored-kept : Kept n0 m (restored n0 m .end)
-    restored-kept = passes-kept (restored-is n0 m) law le
+    pub restored-preserved : Preserved n0 m (restored n0 m .end)
+    restored-preserved = passes-preserved (restored-is n0 m) law le
 
     pub restored-rows : length (restored n0 m .end .tris) ≤ length (m .tris)
     restored-rows = passes-rows (restored-is n0 m) law le
 
     -- no more passes than nodes were added
     pub restored-passes : restored n0 m .passes + n0 ≤ length (m .nodes)
-    restored-passes = let a = restored-fewer in let b = restored-kept .base-there in omega arith
+    restored-passes = let a = restored-fewer in let b = restored-preserved .base-there in omega arith

@@ -15,7 +15,7 @@ use Rattle.meaning.specs.declared.Place.{Place}
 use Rattle.meaning.specs.declared.Tri.{Tri}
 use Rattle.meaning.specs.Mesh.{Mesh, mesh}
 use Rattle.meaning.specs.Tables.{Given, Outcome, given, nodeForm, rowForm, nodes-faithful, rows-faithful, placeAt, rowAt, meshOf, flatNodes, flatRows, filled}
-use Rattle.meaning.specs.Calls.{says, sizesFit, untouched, done, left, sized}
+use Rattle.meaning.specs.Calls.{says, sizesFit, untouched, done, leaves, sized}
 
 -- ---- reading and writing
 
@@ -50,12 +50,12 @@ filled-length z len xs h = omega (arith, length-append xs (replicate (len - leng
 -- ---- what an outcome leaves
 
 -- its tables, with its counts
-abbrev pub left-by : Outcome → Given
-left-by o = given (o .nodes) (o .rows) (o .scratch) (o .answer .n) (o .answer .t)
+abbrev pub tablesAfter : Outcome → Given
+tablesAfter o = given (o .nodes) (o .rows) (o .scratch) (o .answer .n) (o .answer .t)
 
 -- The tables of an accepted call hold its mesh, and have their lengths.
 module _ (g : Given) (m : Mesh) (k : ℕ) where
-  pub done-mesh : meshOf (left-by (done g m k)) ≡ m
+  pub done-mesh : meshOf (tablesAfter (done g m k)) ≡ m
   unfolding meshOf placeAt rowAt
   done-mesh = ap₂ mesh (read-back nodeForm nodes-faithful (m .nodes) _) (read-back rowForm rows-faithful (m .tris) _)
 
@@ -68,21 +68,21 @@ module _ (g : Given) (m : Mesh) (k : ℕ) where
 
 -- A call on a mesh, in tables: accepted, it leaves the new mesh,
 module _ (g : Given) (n0 k : ℕ) (old new : Mesh) (p : ℕ) where
-  pub accepted : sized g n0 (left g (says k old new p)) .answer .number ≡ 0 → (sizesFit g n0 ≡ true) × (k ≡ 0)
+  pub accepted : sized g n0 (leaves g (says k old new p)) .answer .number ≡ 0 → (sizesFit g n0 ≡ true) × (k ≡ 0)
   accepted = go (sizesFit g n0) k
     where
-      go : (b : Bool) (k : ℕ) → cases b (left g (says k old new p)) (untouched g 1) .answer .number ≡ 0 → (b ≡ true) × (k ≡ 0)
+      go : (b : Bool) (k : ℕ) → cases b (leaves g (says k old new p)) (untouched g 1) .answer .number ≡ 0 → (b ≡ true) × (k ≡ 0)
       go false k e = absurd (omega arith)
       go true zero e = (refl, refl)
       go true (suc k) e = absurd (omega arith)
 
   -- and refused, the tables as they were.
-  pub refused : sized g n0 (left g (says k old new p)) .answer .number ≢ 0 →
-      (sized g n0 (left g (says k old new p)) .nodes ≡ g .nodes) × (sized g n0 (left g (says k old new p)) .rows ≡ g .rows)
+  pub refused : sized g n0 (leaves g (says k old new p)) .answer .number ≢ 0 →
+      (sized g n0 (leaves g (says k old new p)) .nodes ≡ g .nodes) × (sized g n0 (leaves g (says k old new p)) .rows ≡ g .rows)
   refused = go (sizesFit g n0) k
     where
-      go : (b : Bool) (k : ℕ) → cases b (left g (says k old new p)) (untouched g 1) .answer .number ≢ 0 →
-          (cases b (left g (says k old new p)) (untouched g 1) .nodes ≡ g .nodes) × (cases b (left g (says k old new p)) (untouched g 1) .rows ≡ g .rows)
+      go : (b : Bool) (k : ℕ) → cases b (leaves g (says k old new p)) (untouched g 1) .answer .number ≢ 0 →
+          (cases b (leaves g (says k old new p)) (untouched g 1) .nodes ≡ g .nodes) × (cases b (leaves g (says k old new p)) (untouched g 1) .rows ≡ g .rows)
       go false k n = (refl, refl)
       go true zero n = absurd (n refl)
       go true (suc k) n = (refl, refl)

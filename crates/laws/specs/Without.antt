@@ -32,26 +32,26 @@ use Rattle.laws.specs.CoarsenRows.{Takeable, touched, brood, newest-of, 
 -- ---- the nodes that are left
 
 module _ (m : Mesh) (zs : List ℕ) where
-  pub left-length : length (without m zs .nodes) ≡ renumber zs (length (m .nodes))
+  pub without-length : length (without m zs .nodes) ≡ renumber zs (length (m .nodes))
   unfolding without
-  left-length = staying-length zs 0 (m .nodes)
+  without-length = staying-length zs 0 (m .nodes)
 
   -- a node that stays keeps its place and gets a number of the new mesh
-  pub left-at : (k : ℕ) → k < length (m .nodes) → stays zs k ≡ true → at (without m zs) (renumber zs k) ≡ at m k
+  pub without-at : (k : ℕ) → k < length (m .nodes) → stays zs k ≡ true → at (without m zs) (renumber zs k) ≡ at m k
   unfolding without
-  left-at k h s = staying-at zs (m .nodes) origin k h s
+  without-at k h s = staying-at zs (m .nodes) origin k h s
 
-  pub left-below : (k : ℕ) → k < length (m .nodes) → stays zs k ≡ true → renumber zs k < length (without m zs .nodes)
-  left-below k h s = let a = renumber-lt zs k (length (m .nodes)) h s in let b = left-length in omega arith
+  pub without-below : (k : ℕ) → k < length (m .nodes) → stays zs k ≡ true → renumber zs k < length (without m zs .nodes)
+  without-below k h s = let a = renumber-lt zs k (length (m .nodes)) h s in let b = without-length in omega arith
 
   -- and every node of the new mesh is such a one
-  pub left-onto : (j : ℕ) → j < length (without m zs .nodes) → (k : ℕ) × (k < length (m .nodes)) × (stays zs k ≡ true) × (renumber zs k ≡ j)
+  pub without-onto : (j : ℕ) → j < length (without m zs .nodes) → (k : ℕ) × (k < length (m .nodes)) × (stays zs k ≡ true) × (renumber zs k ≡ j)
   unfolding without
-  left-onto j h = staying-onto zs (m .nodes) j h
+  without-onto j h = staying-onto zs (m .nodes) j h
 
-  left-range : All InRange (m .nodes) → All InRange (without m zs .nodes)
+  without-range : All InRange (m .nodes) → All InRange (without m zs .nodes)
   unfolding without
-  left-range h = staying-all zs 0 h
+  without-range h = staying-all zs 0 h
 
 -- ---- sums of what is above 0
 
@@ -246,9 +246,9 @@ module _ (m : Mesh) (zs : List ℕ) (law : Lawful m) (ok : Takeable m zs) where
   new-named t h =
       let n = h .named in
       record {
-        p-below = left-below m zs (t .p) (n .p-below) (h .p-stays);
-        q-below = left-below m zs (t .q) (n .q-below) (h .q-stays);
-        r-below = left-below m zs (t .r) (n .r-below) (h .r-stays);
+        p-below = without-below m zs (t .p) (n .p-below) (h .p-stays);
+        q-below = without-below m zs (t .q) (n .q-below) (h .q-stays);
+        r-below = without-below m zs (t .r) (n .r-below) (h .r-stays);
         p≢q = λ w. n .p≢q (renumber-one zs (t .p) (t .q) (h .p-stays) (h .q-stays) w);
         q≢r = λ w. n .q≢r (renumber-one zs (t .q) (t .r) (h .q-stays) (h .r-stays) w);
         r≢p = λ w. n .r≢p (renumber-one zs (t .r) (t .p) (h .r-stays) (h .p-stays) w);
@@ -258,7 +258,7 @@ module _ (m : Mesh) (zs : List ℕ) (law : Lawful m) (ok : Takeable m zs) where
   unfolding twiceArea
   new-area t h =
       let n = h .named in
-      rw (left-at m zs (t .p) (n .p-below) (h .p-stays), left-at m zs (t .q) (n .q-below) (h .q-stays), left-at m zs (t .r) (n .r-below) (h .r-stays))
+      rw (without-at m zs (t .p) (n .p-below) (h .p-stays), without-at m zs (t .q) (n .q-below) (h .q-stays), without-at m zs (t .r) (n .r-below) (h .r-stays))
 
   new-rows : without m zs .tris ≡ map (renamed zs) rows-after
   unfolding without rows-after
@@ -293,8 +293,8 @@ module _ (m : Mesh) (zs : List ℕ) (law : Lawful m) (ok : Takeable m zs) where
       go false x y w = let g = ltb-false (e .from) n′ x in beyond (λ t h a b an bn p q. omega arith)
       go true x false w = let g = ltb-false (e .to) n′ w in beyond (λ t h a b an bn p q. omega arith)
       go true x true w =
-          let k = left-onto m zs (e .from) (ltb-true (e .from) n′ x) in
-          let l = left-onto m zs (e .to) (ltb-true (e .to) n′ w) in
+          let k = without-onto m zs (e .from) (ltb-true (e .from) n′ x) in
+          let l = without-onto m zs (e .to) (ltb-true (e .to) n′ w) in
           let d = arrow (k .0) (l .0) in
           let z = tally-le (λ t. hits e (renamed zs t)) (hits d) (All-imp (one k l) sound) in
           let u = after-once d in
@@ -314,7 +314,7 @@ module _ (m : Mesh) (zs : List ℕ) (law : Lawful m) (ok : Takeable m zs) where
 
   new-used : (z : ℕ) → z < length (without m zs .nodes) → 1 ≤ count (holdsNode z) (without m zs .tris)
   new-used z h =
-      let k = left-onto m zs z h in
+      let k = without-onto m zs z h in
       let a = after-used (k .0) (k .1) (k .2) in
       let b : tally (names z) (without m zs .tris) ≡ tally (λ t. names z (renamed zs t)) rows-after = ap (tally (names z)) new-rows ∙ tally-map (names z) (renamed zs) rows-after in
       let c = tally-le (names (k .0)) (λ t. names z (renamed zs t)) (All-of rows-after (λ t i. one (k .0) (k .3) t)) in
@@ -332,7 +332,7 @@ module _ (m : Mesh) (zs : List ℕ) (law : Lawful m) (ok : Takeable m zs) where
 
   pub without-lawful : Lawful (without m zs)
   without-lawful = record {
-    range = left-range m zs (law .range);
+    range = without-range m zs (law .range);
     named = subst⁻¹ (All (Named (length (without m zs .nodes)))) new-rows (All-map (renamed zs) (All-imp new-named sound));
     noTwice = new-once;
     positive = subst⁻¹ (All (λ t. pos 0 <ℤ twiceArea (without m zs) t)) new-rows

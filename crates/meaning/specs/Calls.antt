@@ -95,12 +95,12 @@ done g m k =
     (cleared (g .scratch))
 
 -- what a reply leaves in the tables
-abbrev pub leaves : Given → ℕ → Mesh → ℕ → Outcome
-leaves g zero m k = done g m k
-leaves g (suc j) m k = untouched g (suc j)
+abbrev pub leavesBy : Given → ℕ → Mesh → ℕ → Outcome
+leavesBy g zero m k = done g m k
+leavesBy g (suc j) m k = untouched g (suc j)
 
-abbrev pub left : Given → Reply → Outcome
-left g r = leaves g (r .number) (r .after) (r .passes)
+abbrev pub leaves : Given → Reply → Outcome
+leaves g r = leavesBy g (r .number) (r .after) (r .passes)
 
 -- 1 comes first
 abbrev pub sized : Given → ℕ → Outcome → Outcome
@@ -111,10 +111,10 @@ unfoldable pub checkOut : Given → Outcome
 checkOut g = sized g 0 (untouched g (checkNo (meshOf g)))
 
 unfoldable pub refineOut : Way → Given → ℕ → List ℕ → Outcome
-refineOut w g n0 marks = sized g n0 (left g (refines w (roomOf g) (meshOf g) marks))
+refineOut w g n0 marks = sized g n0 (leaves g (refines w (roomOf g) (meshOf g) marks))
 
 unfoldable pub coarsenOut : Given → ℕ → List ℕ → Outcome
-coarsenOut g n0 marks = sized g n0 (left g (coarsens n0 (meshOf g) marks))
+coarsenOut g n0 marks = sized g n0 (leaves g (coarsens n0 (meshOf g) marks))
 
 unfoldable pub restoreOut : Given → ℕ → Outcome
-restoreOut g n0 = sized g n0 (left g (restores n0 (meshOf g)))
+restoreOut g n0 = sized g n0 (leaves g (restores n0 (meshOf g)))

@@ -26,8 +26,8 @@ infix 20 _is_
 lent : List ℕ → List ℕ → ℕ → ℕ → ℕ → Given
 lent ns rs k n t = given (map pos ns) rs (replicate k 7) n t
 
-left : ℕ → ℕ → ℕ → ℕ → List ℕ → List ℕ → ℕ → Outcome
-left j n t k ns rs c = outcome (answer j n t k) (map pos ns) rs (replicate c 0)
+said : ℕ → ℕ → ℕ → ℕ → List ℕ → List ℕ → ℕ → Outcome
+said j n t k ns rs c = outcome (answer j n t k) (map pos ns) rs (replicate c 0)
 
 square : List ℕ
 square = 0 ∷ 0 ∷ 8 ∷ 0 ∷ 8 ∷ 8 ∷ 0 ∷ 8 ∷ []
@@ -46,18 +46,18 @@ four = 4 ∷ 1 ∷ 2 ∷ 4 ∷ 3 ∷ 0 ∷ 4 ∷ 0 ∷ 1 ∷ 4 ∷ 2 ∷ 3 ∷ [
 
 -- a check that draws 1 leaves all but scratch
 wrong : List ℕ → List ℕ → ℕ → ℕ → ℕ → Row
-wrong ns rs k n t = checkOut (lent ns rs k n t) is left 1 n t 0 ns rs k
+wrong ns rs k n t = checkOut (lent ns rs k n t) is said 1 n t 0 ns rs k
 
 outcomes : List Row
 outcomes =
     -- S in room for 5 nodes and 5 rows: 4 × 10 numbers of scratch are enough
-    (checkOut (lent spare wide 40 4 2) is left 0 4 2 0 spare wide 40) ∷
-    (refineOut newest (lent spare wide 40 4 2) 4 (1 ∷ 0 ∷ []) is left 0 5 4 0 (square ++ 4 ∷ 4 ∷ []) (four ++ 0 ∷ 0 ∷ 0 ∷ []) 40) ∷
-    (coarsenOut (lent (square ++ 4 ∷ 4 ∷ []) (four ++ 7 ∷ 7 ∷ 7 ∷ []) 43 5 4) 4 (1 ∷ 1 ∷ 1 ∷ 1 ∷ 1 ∷ []) is left 0 4 2 0 (square ++ 0 ∷ 0 ∷ []) (two ++ replicate 9 0) 43) ∷
-    (restoreOut (lent (square ++ 4 ∷ 4 ∷ []) four 36 5 4) 4 is left 0 4 2 1 (square ++ 0 ∷ 0 ∷ []) (two ++ replicate 6 0) 36) ∷
+    (checkOut (lent spare wide 40 4 2) is said 0 4 2 0 spare wide 40) ∷
+    (refineOut newest (lent spare wide 40 4 2) 4 (1 ∷ 0 ∷ []) is said 0 5 4 0 (square ++ 4 ∷ 4 ∷ []) (four ++ 0 ∷ 0 ∷ 0 ∷ []) 40) ∷
+    (coarsenOut (lent (square ++ 4 ∷ 4 ∷ []) (four ++ 7 ∷ 7 ∷ 7 ∷ []) 43 5 4) 4 (1 ∷ 1 ∷ 1 ∷ 1 ∷ 1 ∷ []) is said 0 4 2 0 (square ++ 0 ∷ 0 ∷ []) (two ++ replicate 9 0) 43) ∷
+    (restoreOut (lent (square ++ 4 ∷ 4 ∷ []) four 36 5 4) 4 is said 0 4 2 1 (square ++ 0 ∷ 0 ∷ []) (two ++ replicate 6 0) 36) ∷
     -- a refused refine and a coarsen that takes nothing
-    (refineOut newest (lent square two 24 4 2) 4 (1 ∷ 0 ∷ []) is left 9 4 2 0 square two 24) ∷
-    (coarsenOut (lent spare wide 40 4 2) 4 (1 ∷ 1 ∷ 1 ∷ 1 ∷ []) is left 0 4 2 0 (square ++ 0 ∷ 0 ∷ []) (two ++ replicate 9 0) 40) ∷
+    (refineOut newest (lent square two 24 4 2) 4 (1 ∷ 0 ∷ []) is said 9 4 2 0 square two 24) ∷
+    (coarsenOut (lent spare wide 40 4 2) 4 (1 ∷ 1 ∷ 1 ∷ 1 ∷ []) is said 0 4 2 0 (square ++ 0 ∷ 0 ∷ []) (two ++ replicate 9 0) 40) ∷
     -- 1: scratch is short; a table length is no multiple of its row; a room, a count or n0 is too large
     wrong spare wide 39 4 2 ∷
     wrong spare wide 0 4 2 ∷
@@ -66,14 +66,14 @@ outcomes =
     wrong spare (9 ∷ 9 ∷ wide) 60 4 2 ∷
     wrong spare wide 40 6 2 ∷
     wrong spare wide 40 4 6 ∷
-    (refineOut newest (lent spare wide 40 4 2) 5 (1 ∷ 0 ∷ []) is left 1 4 2 0 spare wide 40) ∷
-    (coarsenOut (lent spare wide 40 4 2) 5 (1 ∷ []) is left 1 4 2 0 spare wide 40) ∷
-    (restoreOut (lent spare wide 40 4 2) 5 is left 1 4 2 0 spare wide 40) ∷
-    (checkOut (lent (replicate 2048 0) (replicate 6144 0) 12288 0 0) is left 0 0 0 0 (replicate 2048 0) (replicate 6144 0) 12288) ∷
+    (refineOut newest (lent spare wide 40 4 2) 5 (1 ∷ 0 ∷ []) is said 1 4 2 0 spare wide 40) ∷
+    (coarsenOut (lent spare wide 40 4 2) 5 (1 ∷ []) is said 1 4 2 0 spare wide 40) ∷
+    (restoreOut (lent spare wide 40 4 2) 5 is said 1 4 2 0 spare wide 40) ∷
+    (checkOut (lent (replicate 2048 0) (replicate 6144 0) 12288 0 0) is said 0 0 0 0 (replicate 2048 0) (replicate 6144 0) 12288) ∷
     wrong (replicate 2050 0) [] 4100 0 0 ∷
     wrong [] (replicate 6147 0) 8196 0 0 ∷
     []
 
 hand-tables : map (λ r. r .got) outcomes ≡ map (λ r. r .expected) outcomes
-unfolding outcomes wrong lent left square spare two wide four _is_ lowest lowestFrom items itemsFrom placeAt rowAt meshOf twiceArea firstOutside firstMisnamed firstRepeat firstFlat firstUnused firstClash faultOf refusal compatible closure splitEdges splitAt split refined pairs span G1-4 good taken without coarsened goodNodes pass restored checkNo refineNo coarsenNo checks refines coarsens restores sizesFit checkOut refineOut coarsenOut restoreOut
+unfolding outcomes wrong lent said square spare two wide four _is_ lowest lowestFrom items itemsFrom placeAt rowAt meshOf twiceArea firstOutside firstMisnamed firstRepeat firstFlat firstUnused firstClash faultOf refusal compatible closure splitEdges splitAt split refined pairs span G1-4 good taken without coarsened goodNodes pass restored checkNo refineNo coarsenNo checks refines coarsens restores sizesFit checkOut refineOut coarsenOut restoreOut
 hand-tables = refl

@@ -9,12 +9,12 @@ use Rattle.meaning.specs.Mesh.{Mesh}
 use Rattle.meaning.specs.Lawful.{Lawful, refusal}
 use Rattle.meaning.specs.Coarsen.{coarsened}
 use Rattle.meaning.specs.Tables.{given, outcome, answer, meshOf}
-use Rattle.meaning.specs.Calls.{unless, orElse, marksFit, coarsenNo, coarsens, says, leaves, left, sized, coarsenOut}
+use Rattle.meaning.specs.Calls.{unless, orElse, marksFit, coarsenNo, coarsens, says, leavesBy, leaves, sized, coarsenOut}
 use Rattle.laws.specs.TableMesh.{nodes-count}
 use Rattle.laws.specs.Meshes.{meshAt}
 use Rattle.gather.specs.Whole as Gather
 use Rattle.gather.specs.declared.Counts.{Counts}
-use Rattle.mesh.specs.Judge.{meshIn, early, leaves-late, leaves-refused, leaves-done, left-same, call-out}
+use Rattle.mesh.specs.Judge.{meshIn, early, leaves-late, leaves-refused, leaves-done, leaves-same, call-out}
 
 pub law-at : (nodes : List ℤ) (rows : List ℕ) (n t : ℕ) → Lawful (meshIn nodes rows n t) → Lawful (meshAt nodes rows n t)
 unfolding meshAt
@@ -29,23 +29,23 @@ module _ (nodes : List ℤ) (rows s marks : List ℕ) (n0 n t k : ℕ) (z : s �
   unfolding coarsenNo
   coarsen-number = rw (nodes-count (given nodes rows s n t), orElse-zero (refusal (meshOf (given nodes rows s n t))))
 
-  coarsen-leaves : leaves (given nodes rows s n t) k (coarsened n0 (meshOf (given nodes rows s n t)) marks) 0 ≡ coarsenOut (given nodes rows s n t) n0 marks
+  coarsen-leaves : leavesBy (given nodes rows s n t) k (coarsened n0 (meshOf (given nodes rows s n t)) marks) 0 ≡ coarsenOut (given nodes rows s n t) n0 marks
   unfolding coarsenOut coarsens
   coarsen-leaves =
       let g = given nodes rows s n t in
       let m : Mesh = meshOf (given nodes rows s n t) in
-      sym (ap (λ (j : ℕ). sized g n0 (left g (says j m (coarsened n0 m marks) 0))) coarsen-number ∙ leaves-late g n0 n marks 0 (coarsened n0 m marks) ∙ rw (orElse-zero (early g n0 n marks), ← e))
+      sym (ap (λ (j : ℕ). sized g n0 (leaves g (says j m (coarsened n0 m marks) 0))) coarsen-number ∙ leaves-late g n0 n marks 0 (coarsened n0 m marks) ∙ rw (orElse-zero (early g n0 n marks), ← e))
 
   pub coarsen-refused : (r : Answer) → (k ≡ 0 → ⊥) → r ≡ answer k n t 0 → outcome r nodes rows s ≡ coarsenOut (given nodes rows s n t) n0 marks
   coarsen-refused r o f = leaves-refused nodes rows s n t _ z k r o f ∙ coarsen-leaves
 
   pub coarsen-worked : k ≡ 0 → (c : Counts) (a : List ℤ) (b : List ℕ) (r : Answer) →
-      Gather.left c a b ≡ Gather.leftOf (length nodes) (length rows) (coarsened n0 (meshAt nodes rows n t) marks) → r ≡ answer 0 (c .n) (c .t) 0 →
+      Gather.tabled c a b ≡ Gather.tabledOf (length nodes) (length rows) (coarsened n0 (meshAt nodes rows n t) marks) → r ≡ answer 0 (c .n) (c .t) 0 →
       outcome r a b s ≡ coarsenOut (given nodes rows s n t) n0 marks
-  unfolding Gather.leftOf meshAt meshOf
+  unfolding Gather.tabledOf meshAt meshOf
   coarsen-worked y c a b r q f =
       leaves-done nodes rows s n t (coarsened n0 (meshIn nodes rows n t) marks) z r a b (c .n) (c .t)
-      (ap (λ (x : Gather.Left). x .counts .n) q) (ap (λ (x : Gather.Left). x .counts .t) q) (ap (λ (x : Gather.Left). x .nodes) q) (ap (λ (x : Gather.Left). x .rows) q) f
+      (ap (λ (x : Gather.Tabled). x .counts .n) q) (ap (λ (x : Gather.Tabled). x .counts .t) q) (ap (λ (x : Gather.Tabled). x .nodes) q) (ap (λ (x : Gather.Tabled). x .rows) q) f
       ∙ rw y at coarsen-leaves
 
 pub coarsened-call : (nodes a : List ℤ) (rows b s s₁ s₂ marks : List ℕ) (n0 n t len : ℕ) (r : Answer) → s₁ ≡ replicate (length s) 0 →
@@ -53,5 +53,5 @@ pub coarsened-call : (nodes a : List ℤ) (rows b s s₁ s₂ marks : List ℕ) 
     outcome r a b s₂ ≡ coarsenOut (given nodes rows s n t) n0 marks
 unfolding coarsenOut meshOf
 coarsened-call nodes a rows b s s₁ s₂ marks n0 n t len r p =
-    call-out s s₁ p (λ x. coarsenOut (given nodes rows x n t) n0 marks) (λ x x′ l. left-same nodes rows x x′ n0 n t l (coarsens n0 (meshIn nodes rows n t) marks))
+    call-out s s₁ p (λ x. coarsenOut (given nodes rows x n t) n0 marks) (λ x x′ l. leaves-same nodes rows x x′ n0 n t l (coarsens n0 (meshIn nodes rows n t) marks))
     r a b s₂ len

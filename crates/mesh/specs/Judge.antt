@@ -16,7 +16,7 @@ use Rattle.meaning.specs.declared.Fault.{Fault}
 use Rattle.meaning.specs.Mesh.{Mesh, mesh}
 use Rattle.meaning.specs.Lawful.{Lawful, faultOf, refusal}
 use Rattle.meaning.specs.Tables.{Given, given, Outcome, outcome, answer, meshOf, rowAt, placeAt, flatNodes, flatRows, filled}
-use Rattle.meaning.specs.Calls.{Reply, says, unless, orElse, marksFit, sizesFit, untouched, leaves, left, sized}
+use Rattle.meaning.specs.Calls.{Reply, says, unless, orElse, marksFit, sizesFit, untouched, leavesBy, leaves, sized}
 use Rattle.laws.specs.Lawful.{refusal-lawful}
 use Rattle.tables.specs.Sized.{Sized, indexAt}
 use Rattle.tables.specs.Ready.{Ready}
@@ -112,25 +112,25 @@ module _ (g : Given) (n0 k : ℕ) (marks : List ℕ) (late : ℕ) where
       go true false = refl
       go false c = refl
 
-  pub leaves-late : (after : Mesh) → sized g n0 (left g (says (unless (marksFit k marks) 2 (orElse (refusal (meshOf g)) late)) (meshOf g) after 0)) ≡
-      leaves g (orElse (early g n0 k marks) late) after 0
-  leaves-late after = go (sizesFit g n0) (unless (marksFit k marks) 2 (orElse (refusal (meshOf g)) late)) ∙ ap (λ (j : ℕ). leaves g j after 0) number-late
+  pub leaves-late : (after : Mesh) → sized g n0 (leaves g (says (unless (marksFit k marks) 2 (orElse (refusal (meshOf g)) late)) (meshOf g) after 0)) ≡
+      leavesBy g (orElse (early g n0 k marks) late) after 0
+  leaves-late after = go (sizesFit g n0) (unless (marksFit k marks) 2 (orElse (refusal (meshOf g)) late)) ∙ ap (λ (j : ℕ). leavesBy g j after 0) number-late
     where
-      go : (b : Bool) (j : ℕ) → cases b (left g (says j (meshOf g) after 0)) (untouched g 1) ≡ leaves g (cases b j 1) after 0
+      go : (b : Bool) (j : ℕ) → cases b (leaves g (says j (meshOf g) after 0)) (untouched g 1) ≡ leavesBy g (cases b j 1) after 0
       go true zero = refl
       go true (suc j) = refl
       go false j = refl
 
 module _ (nodes : List ℤ) (rows s : List ℕ) (n t : ℕ) (after : Mesh) (z : s ≡ replicate (length s) 0) where
   -- refused: nothing is written
-  pub leaves-refused : (j : ℕ) (r : Answer) → (j ≡ 0 → ⊥) → r ≡ answer j n t 0 → outcome r nodes rows s ≡ leaves (given nodes rows s n t) j after 0
+  pub leaves-refused : (j : ℕ) (r : Answer) → (j ≡ 0 → ⊥) → r ≡ answer j n t 0 → outcome r nodes rows s ≡ leavesBy (given nodes rows s n t) j after 0
   leaves-refused zero r o e = absurd (o refl)
   leaves-refused (suc j) r o e = rw e (ap (outcome (answer (suc j) n t 0) nodes rows) z)
 
   -- done: both tables hold the mesh after
   pub leaves-done : (r : Answer) (a : List ℤ) (b : List ℕ) (n1 t1 : ℕ) → n1 ≡ length (after .nodes) → t1 ≡ length (after .tris) →
       a ≡ filled (pos 0) (length nodes) (flatNodes (after .nodes)) → b ≡ filled 0 (length rows) (flatRows (after .tris)) → r ≡ answer 0 n1 t1 0 →
-      outcome r a b s ≡ leaves (given nodes rows s n t) 0 after 0
+      outcome r a b s ≡ leavesBy (given nodes rows s n t) 0 after 0
   leaves-done r a b n1 t1 p q x y e = rw (e, x, y, p, q) (ap (outcome _ _ _) z)
 
 -- ---- scratch before the call does not matter, but for its length
@@ -142,10 +142,10 @@ module _ (nodes : List ℤ) (rows s s′ : List ℕ) (n0 n t : ℕ) (e : length 
       sym (fitting-is nodes rows s′ n0 n t) ∙ ap (λ (k : ℕ). fitting (length nodes) (length rows) k n0 n t) e ∙ fitting-is nodes rows s n0 n t in
       rw (fits, f, e)
 
-  pub left-same : (r : Reply) → sized (given nodes rows s′ n t) n0 (left (given nodes rows s′ n t) r) ≡ sized (given nodes rows s n t) n0 (left (given nodes rows s n t) r)
-  left-same r = sized-same _ _ (go (r .number) (r .after) (r .passes))
+  pub leaves-same : (r : Reply) → sized (given nodes rows s′ n t) n0 (leaves (given nodes rows s′ n t) r) ≡ sized (given nodes rows s n t) n0 (leaves (given nodes rows s n t) r)
+  leaves-same r = sized-same _ _ (go (r .number) (r .after) (r .passes))
     where
-      go : (k : ℕ) (m : Mesh) (p : ℕ) → leaves (given nodes rows s′ n t) k m p ≡ leaves (given nodes rows s n t) k m p
+      go : (k : ℕ) (m : Mesh) (p : ℕ) → leavesBy (given nodes rows s′ n t) k m p ≡ leavesBy (given nodes rows s n t) k m p
       go zero m p = rw e
       go (suc k) m p = rw e
 

@@ -22,7 +22,7 @@ use Rattle.meaning.specs.Mesh.{Mesh, Edge, at, origin}
 use Rattle.meaning.specs.Lawful.{InRange, Named}
 use Rattle.meaning.specs.Split.{bisected, splitEdges, splitAt, split, newest, refined, halves, memEdge, closure, started}
 use Rattle.meaning.specs.Tables.{given, outcome, answer, roomOf, meshOf, rowAt, placeAt, flatNodes, flatRows, filled}
-use Rattle.meaning.specs.Calls.{unless, refineNo, refines, leaves, refineOut}
+use Rattle.meaning.specs.Calls.{unless, refineNo, refines, leavesBy, refineOut}
 use Rattle.tables.specs.Sized.{Corners, indexAt}
 use Rattle.tables.specs.Ready.{Ready}
 use Rattle.notes.specs.Notes.{noteAt}
@@ -39,7 +39,7 @@ use Rattle.number.specs.SplitLaw.{SplitNotes, split-notes, split-length}
 use Rattle.cut.specs.Cutting.{cutAt, cutAll, splits}
 use Rattle.cut.specs.MeshLaw.{cut-mesh, count-rows, count-mesh}
 use Rattle.mesh.specs.declared.refining.Plan.{Plan}
-use Rattle.mesh.specs.Judge.{meshIn, early, Admitted, first-of, leaves-late, leaves-refused, leaves-done, left-same, call-out}
+use Rattle.mesh.specs.Judge.{meshIn, early, Admitted, first-of, leaves-late, leaves-refused, leaves-done, leaves-same, call-out}
 use Rattle.mesh.specs.Refine.{splitIn, afterIn, fitsIn, planOf, weighed, Weighty, lateNumber, refineNumber, Carry, Pair, bothTables, carried, Planned}
 
 -- ---- 8 and 9, by the notes: each test of `weigh` as the code has it
@@ -256,7 +256,7 @@ carry-done nodes a c rows b d s n t n1 t1 p la q lb fc fd = rw (fc, fd, q, la, l
 -- ---- what the call leaves
 
 module _ (nodes : List ℤ) (rows s marks : List ℕ) (n0 n t k : ℕ) (z : s ≡ replicate (length s) 0) (e : k ≡ refineNumber (given nodes rows s n t) n0 marks) where
-  refine-leaves : leaves (given nodes rows s n t) k (afterIn nodes rows marks n t) 0 ≡ refineOut newest (given nodes rows s n t) n0 marks
+  refine-leaves : leavesBy (given nodes rows s n t) k (afterIn nodes rows marks n t) 0 ≡ refineOut newest (given nodes rows s n t) n0 marks
   unfolding refineOut refines refineNo refineNumber lateNumber meshOf
   refine-leaves = rw (e, length-items (rowAt rows) t) (sym (leaves-late (given nodes rows s n t) n0 t marks (lateNumber nodes rows marks n t) (afterIn nodes rows marks n t)))
 
@@ -279,4 +279,4 @@ pub refined-call : (nodes a : List ℤ) (rows b s s₁ s₂ marks : List ℕ) (n
 unfolding refineOut meshOf
 refined-call nodes a rows b s s₁ s₂ marks n0 n t len r p =
     call-out s s₁ p (λ x. refineOut newest (given nodes rows x n t) n0 marks)
-    (λ x x′ e. left-same nodes rows x x′ n0 n t e (refines newest (roomOf (given nodes rows s n t)) (meshIn nodes rows n t) marks)) r a b s₂ len
+    (λ x x′ e. leaves-same nodes rows x x′ n0 n t e (refines newest (roomOf (given nodes rows s n t)) (meshIn nodes rows n t) marks)) r a b s₂ len

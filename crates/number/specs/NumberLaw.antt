@@ -412,8 +412,8 @@ module _ (l : List ℕ) (t n : ℕ) (only-one : OnceAt l t) (named : (i : ℕ) �
 
   -- the sweep has reached row i; N is the length of scratch
   pub record Reached (N i : ℕ) (st : Numbers) : Type 0 where
-    pub done : (j : ℕ) → j < i → noteAt (st .table) j ≡ noteFor j
-    pub todo : (j : ℕ) → i ≤ j → j < t → noteAt (st .table) j .m ≡ bit (mem (base (rowAt l j)))
+    pub below-noted : (j : ℕ) → j < i → noteAt (st .table) j ≡ noteFor j
+    pub still-bare : (j : ℕ) → i ≤ j → j < t → noteAt (st .table) j .m ≡ bit (mem (base (rowAt l j)))
     pub counted : st .count ≡ length (once sameEdge (metBelow i))
     pub few : st .count ≤ 3 * i
     pub long : length (st .table) ≡ N
@@ -433,8 +433,8 @@ module _ (l : List ℕ) (t n : ℕ) (only-one : OnceAt l t) (named : (i : ℕ) �
     reach : (i : ℕ) (st : Numbers) → i < t → Reached N i st → Reached N (i + 1) (numberRow l t i st)
     unfolding numberRow noteAt
     reach i st h d = rw is (record {
-      done = λ j a. at j a (ℕ-discrete j i);
-      todo = λ j a c. ap (λ (k : ℕ). unpacked k .m) (getD-set-other (st .table) i j (packed (noteFor i)) 0 (omega arith)) ∙ d .todo j (omega arith) c;
+      below-noted = λ j a. at j a (ℕ-discrete j i);
+      still-bare = λ j a c. ap (λ (k : ℕ). unpacked k .m) (getD-set-other (st .table) i j (packed (noteFor i)) 0 (omega arith)) ∙ d .still-bare j (omega arith) c;
       counted = (let a = length-next i h in let k = d .counted in omega arith);
       few = (let a = for-tight i few′ in let k = d .few in omega arith);
       long = length-set (st .table) i (packed (noteFor i)) ∙ d .long;
@@ -447,8 +447,8 @@ module _ (l : List ℕ) (t n : ℕ) (only-one : OnceAt l t) (named : (i : ℕ) �
         bits j g = by (decLt j i)
           where
             by : Dec (j < i) → noteAt (st .table) j .m ≡ bit (mem (base (rowAt l j)))
-            by (yes a) = ap (λ (c : Note). c .m) (d .done j a)
-            by (no a) = d .todo j (omega arith) g
+            by (yes a) = ap (λ (c : Note). c .m) (d .below-noted j a)
+            by (no a) = d .still-bare j (omega arith) g
 
         is : noteOf l t (st .table) i (st .count) ≡ noteFor i
         is = rw (d .counted) (of-is (st .table) bits i h)
@@ -456,7 +456,7 @@ module _ (l : List ℕ) (t n : ℕ) (only-one : OnceAt l t) (named : (i : ℕ) �
         at : (j : ℕ) → j < i + 1 → Dec (j ≡ i) → unpacked (getD (set (st .table) i (packed (noteFor i))) j 0) ≡ noteFor j
         at j a (yes e) =
             rw (e, getD-set-same (st .table) i (packed (noteFor i)) 0 (let y = d .long in omega arith)) (unpacked-packed (noteFor i) (for-tight i few′))
-        at j a (no o) = ap unpacked (getD-set-other (st .table) i j (packed (noteFor i)) 0 o) ∙ d .done j (omega arith)
+        at j a (no o) = ap unpacked (getD-set-other (st .table) i j (packed (noteFor i)) 0 o) ∙ d .below-noted j (omega arith)
 
     -- from notes of 1 where a row is split
     pub reach-all : (s : List ℕ) → length s ≡ N → ((j : ℕ) → j < t → getD s j 0 ≡ bit (mem (base (rowAt l j)))) → Reached N t (iter (numberRow l t) 0 t (numbers s 0))
@@ -464,8 +464,8 @@ module _ (l : List ℕ) (t n : ℕ) (only-one : OnceAt l t) (named : (i : ℕ) �
     reach-all s e f =
         iter-carries (numberRow l t) (λ i st. Reached N i st) t (numbers s 0) reach
         (record {
-          done = λ j a. absurd (omega arith);
-          todo = λ j a c. rw (f j c) (mod-bit (mem (base (rowAt l j))));
+          below-noted = λ j a. absurd (omega arith);
+          still-bare = λ j a c. rw (f j c) (mod-bit (mem (base (rowAt l j))));
           counted = none-met;
           few = omega arith;
           long = e;

@@ -45,7 +45,7 @@ module _ (rows : List ℕ) (t z : ℕ) where
 
   -- one step
   data Peel (i : ℕ) : ℕ → Type 0 where
-    done : rest i ≡ [] → Peel i 0
+    no-more : rest i ≡ [] → Peel i 0
     more : (j : ℕ) → j < t → rowAt rows j .p ≡ z → rest i ≡ rowAt rows j ∷ rest (j + 1) → Peel i (suc j)
 
   peel : (i : ℕ) → i ≤ t → Peel i (code (lowest (newestAt rows z) i t))
@@ -53,7 +53,7 @@ module _ (rows : List ℕ) (t z : ℕ) where
   peel i h = go (lowest (newestAt rows z) i t) refl (search-is (newestAt rows z) i t h)
     where
       go : (r : Found) → lowest (newestAt rows z) i t ≡ r → From (newestAt rows z) i t r → Peel i (code r)
-      go r e (nowhere n) = done (only-nowhere (newest z) (rowAt rows) t i h e)
+      go r e (nowhere n) = no-more (only-nowhere (newest z) (rowAt rows) t i h e)
       go r e (there j a b y n) =
           let q : suc j ≡ j + 1 = omega arith in
           rw (← q) (more j b (eqb-true (rowAt rows j .p) z y) (only-there (newest z) (rowAt rows) t i j h e))
@@ -72,7 +72,7 @@ module _ (rows : List ℕ) (t z : ℕ) where
     fifth : (i j k l : ℕ) → i < t → j < t → k < t → l < t → rowsRound rows t z ≡ rowAt rows i ∷ rowAt rows j ∷ rowAt rows k ∷ rowAt rows l ∷ rest (l + 1) →
         {e : ℕ} → Peel (l + 1) e → Shape rows t z (round (suc i) (suc j) (suc k) (suc l) e)
     unfolding twoOrFour
-    fifth i j k l hi hj hk hl q (done p) = four i j k l hi hj hk hl (rw p at q)
+    fifth i j k l hi hj hk hl q (no-more p) = four i j k l hi hj hk hl (rw p at q)
     fifth i j k l hi hj hk hl q (more m hm e p) =
         let n = ap length (rw p at q) in
         other (λ f. omega arith) (λ f. omega arith) refused
@@ -83,7 +83,7 @@ module _ (rows : List ℕ) (t z : ℕ) where
     fourth : (i j k : ℕ) → i < t → j < t → k < t → rowsRound rows t z ≡ rowAt rows i ∷ rowAt rows j ∷ rowAt rows k ∷ rest (k + 1) →
         {d : ℕ} → Peel (k + 1) d → Shape rows t z (round (suc i) (suc j) (suc k) d (nextOf s nc d))
     unfolding twoOrFour
-    fourth i j k hi hj hk q (done p) =
+    fourth i j k hi hj hk q (no-more p) =
         let n = ap length (rw p at q) in
         rw none-after (other (λ f. omega arith) (λ f. omega arith) refused)
       where
@@ -93,13 +93,13 @@ module _ (rows : List ℕ) (t z : ℕ) where
 
     third : (i j : ℕ) → i < t → j < t → rowsRound rows t z ≡ rowAt rows i ∷ rowAt rows j ∷ rest (j + 1) →
         {c : ℕ} → Peel (j + 1) c → Shape rows t z (round (suc i) (suc j) c (nextOf s nc c) (nextOf s nc (nextOf s nc c)))
-    third i j hi hj q (done p) = rw (none-after, none-after) (two i j hi hj (rw p at q))
+    third i j hi hj q (no-more p) = rw (none-after, none-after) (two i j hi hj (rw p at q))
     third i j hi hj q (more k hk e p) = fourth i j k hi hj hk (rw p at q) (step k hk e)
 
     second : (i : ℕ) → i < t → rowsRound rows t z ≡ rowAt rows i ∷ rest (i + 1) →
         {b : ℕ} → Peel (i + 1) b → Shape rows t z (round (suc i) b (nextOf s nc b) (nextOf s nc (nextOf s nc b)) (nextOf s nc (nextOf s nc (nextOf s nc b))))
     unfolding twoOrFour
-    second i hi q (done p) =
+    second i hi q (no-more p) =
         let n = ap length (rw p at q) in
         rw (none-after, none-after, none-after) (other (λ f. omega arith) (λ f. omega arith) refused)
       where
@@ -109,7 +109,7 @@ module _ (rows : List ℕ) (t z : ℕ) where
 
     first : {a : ℕ} → Peel 0 a → Shape rows t z (roundFrom s nc a)
     unfolding rest twoOrFour
-    first (done p) =
+    first (no-more p) =
         let n = ap length p in
         rw (none-after, none-after, none-after, none-after) (other (λ f. omega arith) (λ f. omega arith) refused)
       where

@@ -144,20 +144,20 @@ module _ (B : List (Corners ℕ)) (i : ℕ) (z : Name) where
     keeping-on (suc n) = (rw (keeping-length n) (along-past w steps n), keeping-on n)
 
 -- A stream through w on which every longer path leads to a triangle that holds z.
-pub record Kept (B : List (Corners ℕ)) (i : ℕ) (w : Path) (z : Name) : Type 0 where
+pub record Carried (B : List (Corners ℕ)) (i : ℕ) (w : Path) (z : Name) : Type 0 where
   pub stream : Stream
   pub begins : on w stream
   pub holds : (u : Path) → on u stream → length w ≤ length u → Holds z (corners B i u)
 
 -- From any triangle that holds z a stream goes on that keeps z for ever.
-pub kept-stream : (B : List (Corners ℕ)) (i : ℕ) (w : Path) (z : Name) → Holds z (corners B i w) → Kept B i w z
-kept-stream B i w z h = record { stream = s; begins = on-along w (steps B i z w h); holds = kept }
+pub carried-stream : (B : List (Corners ℕ)) (i : ℕ) (w : Path) (z : Name) → Holds z (corners B i w) → Carried B i w z
+carried-stream B i w z h = record { stream = s; begins = on-along w (steps B i z w h); holds = carried }
   where
     s : Stream
     s = along w (steps B i z w h)
 
-    kept : (u : Path) → on u s → length w ≤ length u → Holds z (corners B i u)
-    kept u o l =
+    carried : (u : Path) → on u s → length w ≤ length u → Holds z (corners B i u)
+    carried u o l =
         let k = keeping B i z w h (length u - length w) in
         let e : k .0 ≡ u = on-same-length (k .0) u s (keeping-on B i z w h (length u - length w)) o (rw keeping-length (omega arith)) in
         rw e at (k .1)

@@ -7,7 +7,7 @@ use native.Mathlib.Omega.{arith}
 use lib.ListN.{length}
 use Rattle.growth.specs.Labels.Names.{Name, mid, mid-injective, Same, straight, crossed}
 use Rattle.growth.specs.Labels.Paths.{Side, L, Path, Stream, on, _⊑_, ⊑-refl, ⊑-step, ⊑-trans, ⊑-length, on-⊑, on-shorter, along, on-along}
-use Rattle.growth.specs.Labels.Corners.{Corners, half-keeps, mid-is-born, corners, Holds, is-q, is-r, Kept, kept-stream}
+use Rattle.growth.specs.Labels.Corners.{Corners, half-keeps, mid-is-born, corners, Holds, is-q, is-r, Carried, carried-stream}
 
 -- A label: a base row and a path down from it.
 pub record Label : Type 0 where
@@ -98,8 +98,8 @@ module _ {B : List (Corners ℕ)} {t : ℕ} {lab : ℕ → Label} (cov : Covers 
   pub kept-row : (i : ℕ) → i < length B → (u : Path) → Halved t lab i u → (y : Side) (z : Name) → Holds z (corners B i (y ∷ u)) → Keeps B t lab i (y ∷ u) z
   kept-row i l u H y z h = go (decLe (suc (length u)) (length (M .by)))
     where
-      K : Kept B i (y ∷ u) z
-      K = kept-stream B i (y ∷ u) z h
+      K : Carried B i (y ∷ u) z
+      K = carried-stream B i (y ∷ u) z h
 
       M : Meets t lab i (K .stream)
       M = cov .meets i l (K .stream)

@@ -1,5 +1,2 @@
 pub mod Pass
 pub mod PassLaw
-pub mod Demand2Calls
-pub mod Demand3Calls
-pub mod Demand3CallsExample

@@ -13,7 +13,7 @@ use lib.Seq.{getD-append-add}
 use Rattle.lists.specs.Lists.{cases}
 use Rattle.lists.specs.ListsLaw.{and-left, and-right}
 use Rattle.meaning.specs.Mesh.{Mesh}
-use Rattle.meaning.specs.Tables.{Given, Outcome, meshOf, roomOf, flatNodes, flatRows, filled, cleared}
+use Rattle.meaning.specs.Tables.{Given, Outcome, nodeForm, rowForm, meshOf, roomOf, flatNodes, flatRows, filled, cleared}
 use Rattle.meaning.specs.Lawful.{refusal}
 use Rattle.meaning.specs.Split.{Way, refined}
 use Rattle.meaning.specs.Coarsen.{coarsened, restored}
@@ -25,14 +25,14 @@ use Rattle.laws.specs.TableMesh.{flat-nodes-length, flat-rows-length, ta
 
 -- none of "a table length is not a multiple of its row, a room or count breaks the sizes above, or scratch is short"
 pub record Sizes (g : Given) (n0 : ℕ) : Type 0 where
-  pub nodes-even : length (g .nodes) % 2 ≡ 0
-  pub rows-three : length (g .rows) % 3 ≡ 0
-  pub few-nodes : length (g .nodes) / 2 ≤ 1024
-  pub few-rows : length (g .rows) / 3 ≤ 2048
-  pub n-fits : g .n ≤ length (g .nodes) / 2
-  pub t-fits : g .t ≤ length (g .rows) / 3
+  pub nodes-whole : length (g .nodes) % nodeForm .width ≡ 0
+  pub rows-whole : length (g .rows) % rowForm .width ≡ 0
+  pub few-nodes : roomOf g .nodes ≤ 1024
+  pub few-rows : roomOf g .rows ≤ 2048
+  pub n-fits : g .n ≤ roomOf g .nodes
+  pub t-fits : g .t ≤ roomOf g .rows
   pub n0-fits : n0 ≤ g .n
-  pub scratch-fits : 4 * (length (g .nodes) / 2 + length (g .rows) / 3) ≤ length (g .scratch)
+  pub scratch-fits : 4 * (roomOf g .nodes + roomOf g .rows) ≤ length (g .scratch)
 
 and-parts : (a b : Bool) → a && b ≡ true → (a ≡ true) × (b ≡ true)
 and-parts a b e = (and-left a b e, and-right a b e)
@@ -43,7 +43,7 @@ module _ (g : Given) (n0 : ℕ) where
   sizes-exact = (
     there,
     λ s.
-        rw (eq-eqb _ _ (s .nodes-even), eq-eqb _ _ (s .rows-three), le-leb _ _ (s .few-nodes), le-leb _ _ (s .few-rows), le-leb _ _ (s .n-fits), le-leb _ _ (s .t-fits), le-leb _ _ (s .n0-fits), le-leb _ _ (s .scratch-fits)),
+        rw (eq-eqb _ _ (s .nodes-whole), eq-eqb _ _ (s .rows-whole), le-leb _ _ (s .few-nodes), le-leb _ _ (s .few-rows), le-leb _ _ (s .n-fits), le-leb _ _ (s .t-fits), le-leb _ _ (s .n0-fits), le-leb _ _ (s .scratch-fits)),
   )
     where
       there : sizesFit g n0 ≡ true → Sizes g n0
@@ -56,8 +56,8 @@ module _ (g : Given) (n0 : ℕ) where
           let (e2, c) = and-parts _ _ e3 in
           let (a, b) = and-parts _ _ e2 in
           record {
-            nodes-even = eqb-true _ _ a;
-            rows-three = eqb-true _ _ b;
+            nodes-whole = eqb-true _ _ a;
+            rows-whole = eqb-true _ _ b;
             few-nodes = leb-true _ _ c;
             few-rows = leb-true _ _ d;
             n-fits = leb-true _ _ e;
@@ -71,10 +71,10 @@ module _ (g : Given) (n0 : ℕ) where
 
 -- other counts, n0 and scratch, in tables of the same lengths
 pub sizes-again : {g h : Given} {n0 m0 : ℕ} → Sizes g n0 → length (h .nodes) ≡ length (g .nodes) → length (h .rows) ≡ length (g .rows) →
-    2 * h .n ≤ length (h .nodes) → 3 * h .t ≤ length (h .rows) → m0 ≤ h .n → 4 * (length (g .nodes) / 2 + length (g .rows) / 3) ≤ length (h .scratch) → Sizes h m0
+    nodeForm .width * h .n ≤ length (h .nodes) → rowForm .width * h .t ≤ length (h .rows) → m0 ≤ h .n → 4 * (roomOf g .nodes + roomOf g .rows) ≤ length (h .scratch) → Sizes h m0
 sizes-again s a b n t m0 c = record {
-  nodes-even = rw a (s .nodes-even);
-  rows-three = rw b (s .rows-three);
+  nodes-whole = rw a (s .nodes-whole);
+  rows-whole = rw b (s .rows-whole);
   few-nodes = rw a (s .few-nodes);
   few-rows = rw b (s .few-rows);
   n-fits = omega arith;
@@ -120,8 +120,8 @@ pub record Holds (g : Given) (new : Mesh) (o : Outcome) : Type 0 where
   pub mesh-is : meshOf (tablesAfter o) ≡ new
   pub nodes-long : length (o .nodes) ≡ length (g .nodes)
   pub rows-long : length (o .rows) ≡ length (g .rows)
-  pub nodes-past : (i : ℕ) → 2 * o .answer .n ≤ i → getD (o .nodes) i (pos 0) ≡ pos 0
-  pub rows-past : (i : ℕ) → 3 * o .answer .t ≤ i → getD (o .rows) i 0 ≡ 0
+  pub nodes-past : (i : ℕ) → nodeForm .width * o .answer .n ≤ i → getD (o .nodes) i (pos 0) ≡ pos 0
+  pub rows-past : (i : ℕ) → rowForm .width * o .answer .t ≤ i → getD (o .rows) i 0 ≡ 0
 
 -- a call's outcome, k being its number for the mesh, new the mesh that it makes, p its passes
 pub record CallLeaves (g : Given) (n0 k : ℕ) (new : Mesh) (p : ℕ) (o : Outcome) : Type 0 where
@@ -141,7 +141,7 @@ filled-past z len xs i h =
     let e : i ≡ length xs + (i - length xs) = omega arith in
     subst (λ (j : ℕ). getD (filled z len xs) j z ≡ z) (sym e) (getD-append-add xs (replicate (len - length xs) z) (i - length xs) z ∙ replicate-reads z (len - length xs) (i - length xs))
 
-pub done-holds : (g : Given) (m : Mesh) (k : ℕ) → 2 * length (m .nodes) ≤ length (g .nodes) → 3 * length (m .tris) ≤ length (g .rows) → Holds g m (done g m k)
+pub done-holds : (g : Given) (m : Mesh) (k : ℕ) → nodeForm .width * length (m .nodes) ≤ length (g .nodes) → rowForm .width * length (m .tris) ≤ length (g .rows) → Holds g m (done g m k)
 done-holds g m k a b = record {
   mesh-is = done-mesh g m k;
   nodes-long = done-nodes g m k a b;

@@ -1,21 +1,17 @@
--- A mesh in its tables: what is written is read back, what was read is written back; what an accepted and a refused call leave.
--- Assumes nothing.
-use mathlib.Core.Bool.{Bool, true, false}
+-- A mesh in its tables: what is written is read back, what was read is written back. Assumes nothing.
 use mathlib.Core.List.{List}
-use mathlib.Core.Path.{_≡_, refl, ap₂}
-use mathlib.Core.Logic.{_≢_}
-use Prim.Native.Nat.{ℕ, zero, suc, _-_, _*_, _≤_}
+use mathlib.Core.Path.{_≡_, ap₂}
+use Prim.Native.Nat.{ℕ, _-_, _*_, _≤_}
 use native.Mathlib.Omega.{arith}
 use lib.IntN.{pos}
 use lib.ListN.{length, take, length-append, length-replicate, replicate}
-use Rattle.lists.specs.Lists.{cases}
 use Rattle.lists.specs.IterLaw.{length-items}
 use Rattle.lists.specs.TableLaw.{flatten-length, read-back, written-back}
 use Rattle.meaning.specs.declared.Place.{Place}
 use Rattle.meaning.specs.declared.Tri.{Tri}
 use Rattle.meaning.specs.Mesh.{Mesh, mesh}
 use Rattle.meaning.specs.Tables.{Given, Outcome, given, nodeForm, rowForm, nodes-faithful, rows-faithful, placeAt, rowAt, meshOf, flatNodes, flatRows, filled}
-use Rattle.meaning.specs.Calls.{says, sizesFit, untouched, done, leaves, sized}
+use Rattle.meaning.specs.Calls.{done}
 
 -- ---- reading and writing
 
@@ -65,24 +61,3 @@ module _ (g : Given) (m : Mesh) (k : ℕ) where
 
     pub done-rows : length (done g m k .rows) ≡ length (g .rows)
     done-rows = filled-length 0 (length (g .rows)) (flatRows (m .tris)) (omega (arith, flat-rows-length (m .tris)))
-
--- A call on a mesh, in tables: accepted, it leaves the new mesh,
-module _ (g : Given) (n0 k : ℕ) (old new : Mesh) (p : ℕ) where
-  pub accepted : sized g n0 (leaves g (says k old new p)) .answer .number ≡ 0 → (sizesFit g n0 ≡ true) × (k ≡ 0)
-  accepted = go (sizesFit g n0) k
-    where
-      go : (b : Bool) (k : ℕ) → cases b (leaves g (says k old new p)) (untouched g 1) .answer .number ≡ 0 → (b ≡ true) × (k ≡ 0)
-      go false k e = absurd (omega arith)
-      go true zero e = (refl, refl)
-      go true (suc k) e = absurd (omega arith)
-
-  -- and refused, the tables as they were.
-  pub refused : sized g n0 (leaves g (says k old new p)) .answer .number ≢ 0 →
-      (sized g n0 (leaves g (says k old new p)) .nodes ≡ g .nodes) × (sized g n0 (leaves g (says k old new p)) .rows ≡ g .rows)
-  refused = go (sizesFit g n0) k
-    where
-      go : (b : Bool) (k : ℕ) → cases b (leaves g (says k old new p)) (untouched g 1) .answer .number ≢ 0 →
-          (cases b (leaves g (says k old new p)) (untouched g 1) .nodes ≡ g .nodes) × (cases b (leaves g (says k old new p)) (untouched g 1) .rows ≡ g .rows)
-      go false k n = (refl, refl)
-      go true zero n = absurd (n refl)
-      go true (suc k) n = (refl, refl)

@@ -10,7 +10,7 @@ use Rattle.meaning.specs.Mesh.{Mesh}
 use Rattle.meaning.specs.Lawful.{refusal, compatible}
 use Rattle.meaning.specs.Split.{Way, splitEdges, started, refined, halves}
 use Rattle.meaning.specs.Coarsen.{coarsened, restored}
-use Rattle.meaning.specs.Tables.{Given, Outcome, Room, outcome, answer, meshOf, roomOf, flatNodes, flatRows, filled, cleared}
+use Rattle.meaning.specs.Tables.{Given, Outcome, Room, outcome, answer, nodeForm, rowForm, meshOf, roomOf, flatNodes, flatRows, filled, cleared}
 
 -- ---- of a mesh
 
@@ -77,7 +77,7 @@ restores n0 m = says (refusal m) m (restored n0 m .end) (restored n0 m .passes)
 -- not 1: "a table length is not a multiple of its row, a room or count breaks the sizes above, or scratch is short"
 unfoldable pub sizesFit : Given → ℕ → Bool
 sizesFit g n0 =
-    eqb (length (g .nodes) % 2) 0 && eqb (length (g .rows) % 3) 0 &&
+    eqb (length (g .nodes) % nodeForm .width) 0 && eqb (length (g .rows) % rowForm .width) 0 &&
     leb (roomOf g .nodes) 1024 && leb (roomOf g .rows) 2048 &&
     leb (g .n) (roomOf g .nodes) && leb (g .t) (roomOf g .rows) && leb n0 (g .n) &&
     leb (4 * (roomOf g .nodes + roomOf g .rows)) (length (g .scratch))

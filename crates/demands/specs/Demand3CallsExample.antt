@@ -16,8 +16,8 @@ use Rattle.meaning.specs.Coarsen.{taken, without, coarsened, goodNodes, pass, r
 use Rattle.meaning.specs.Tables.{Given, Outcome, given, outcome, answer, placeAt, rowAt, meshOf}
 use Rattle.meaning.specs.Calls.{checkNo, refineNo, coarsenNo, checks, refines, coarsens, restores, sizesFit, checkOut, refineOut, coarsenOut, restoreOut}
 use Rattle.laws.specs.TableMesh.{tablesAfter}
-use Rattle.job.specs.Demand2Calls.{RefineDone, CoarsenDone, demand2-calls}
-use Rattle.job.specs.Demand3Calls.{Held, base-held, scratch-anew, after-refine, after-coarsen, after-refusal, check-made, refine-made, coarsen-made, restore-made, demand3-calls}
+use Rattle.demands.specs.Demand2Calls.{RefineDone, CoarsenDone, demand2-calls}
+use Rattle.demands.specs.Demand3Calls.{Held, base-held, scratch-anew, after-refine, after-coarsen, after-refusal, check-made, refine-made, coarsen-made, restore-made, demand3-calls}
 
 square : List ℕ
 square = 0 ∷ 0 ∷ 8 ∷ 0 ∷ 8 ∷ 8 ∷ 0 ∷ 8 ∷ []

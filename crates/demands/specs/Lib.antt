@@ -1,0 +1,4 @@
+-- What the calls promise, in one statement for each demand: the theorems of the product, and an example that meets their premises.
+pub mod Demand2Calls
+pub mod Demand3Calls
+pub mod Demand3CallsExample

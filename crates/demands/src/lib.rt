@@ -1,0 +1,1 @@
+// Demands 2 and 3 of the calls, in one statement each: see specs/.

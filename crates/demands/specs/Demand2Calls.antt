@@ -15,7 +15,7 @@ use Rattle.meaning.specs.Split.{Way, newest, started, refined}
 use Rattle.meaning.specs.Coarsen.{coarsened, restored}
 use Rattle.meaning.specs.Tables.{Given, Outcome, meshOf, roomOf}
 use Rattle.meaning.specs.Calls.{checkNo, refineNo, coarsenNo, checkOut, refineOut, coarsenOut, restoreOut}
-use Rattle.laws.specs.Lawful.{refusal-lawful, refusal-exact, applies-from-3}
+use Rattle.laws.specs.Lawful.{refusal-exact, applies-from-3}
 use Rattle.laws.specs.Check.{CheckSays, unlawful-base, check-exact}
 use Rattle.laws.specs.Marks.{WellMarked}
 use Rattle.laws.specs.Cut.{CutLaws}
@@ -185,7 +185,7 @@ restore-call g n0 o e =
     made c z =
         let (s, k) = c .sized-and-0 z in
         let le : n0 ≤ length (meshOf g .nodes) = omega (arith, s .n0-fits, nodes-count g) in
-        let (a, b) = fits-tables (length (g .nodes)) (length (g .rows)) (length (restored n0 (meshOf g) .end .nodes)) (length (restored n0 (meshOf g) .end .tris)) (omega (arith, s .n-fits, nodes-count g, restored-fewer n0 (meshOf g))) (omega (arith, s .t-fits, rows-count g, restored-rows n0 (meshOf g) (refusal-lawful (meshOf g) k) le)) in
+        let (a, b) = fits-tables (length (g .nodes)) (length (g .rows)) (length (restored n0 (meshOf g) .end .nodes)) (length (restored n0 (meshOf g) .end .tris)) (omega (arith, s .n-fits, nodes-count g, restored-fewer n0 (meshOf g))) (omega (arith, s .t-fits, rows-count g, restored-rows n0 (meshOf g))) in
         record {
           holds = rw (c .done-is z) (done-holds g (restored n0 (meshOf g) .end) (restored n0 (meshOf g) .passes) a b);
           is-restored = restore-done n0 (meshOf g) le k;

@@ -3,26 +3,23 @@
 use mathlib.Core.Path.{_≡_, refl, _∙_}
 use mathlib.Core.Bool.{Bool, true, false}
 use mathlib.Core.List.{List, [], _∷_, _++_}
-use mathlib.Core.Option.{Option, none, some}
 use Prim.Native.Nat.{ℕ, zero, suc, _+_, _*_, _/_, _≤_}
 use native.Mathlib.Omega.{arith}
 use borrow.Author.Tests.{eqb-true}
 use lib.Dec.{eqb}
 use lib.IntN.{pos}
-use lib.ListN.{length, length-append, length-map, length-replicate}
-use Rattle.lists.specs.Lists.{any, first, cases, joined}
+use lib.ListN.{length, length-replicate}
+use Rattle.lists.specs.Lists.{cases}
 use Rattle.lists.specs.ListsLaw.{and-right}
-use Rattle.meaning.specs.declared.Tri.{Tri}
-use Rattle.meaning.specs.Mesh.{Mesh, sameTri}
+use Rattle.meaning.specs.Mesh.{Mesh}
 use Rattle.meaning.specs.Lawful.{refusal}
 use Rattle.meaning.specs.Split.{newest, refined}
-use Rattle.meaning.specs.Good.{Brothers, pairs}
-use Rattle.meaning.specs.Coarsen.{becomes, fate, renamed, without, taken, coarsened, allMarked, pass, Restored, restored}
+use Rattle.meaning.specs.Coarsen.{coarsened, Restored, restored}
 use Rattle.meaning.specs.Tables.{Given, Outcome, meshOf, roomOf, filled}
 use Rattle.meaning.specs.Calls.{says, checkNo, refineNo, coarsenNo, refines, coarsens, restores, sizesFit, untouched, leaves, sized, checkOut, refineOut, coarsenOut, restoreOut}
-use Rattle.laws.specs.Coarsen.{coarsened-count}
+use Rattle.laws.specs.Coarsen.{coarsened-count, coarsened-rows}
 use Rattle.laws.specs.Refine.{newest-done}
-use Rattle.laws.specs.Restore.{Passes, none-good, one-pass, restored-is, restored-fewer}
+use Rattle.laws.specs.Restore.{restored-fewer, restored-rows}
 use Rattle.laws.specs.TableMesh.{nodes-count, rows-count, filled-length, done-nodes, done-rows}
 use Rattle.tables.specs.PutLaw.{length-setPlace, length-setRow}
 use Rattle.text.specs.Digits.{listed}
@@ -31,37 +28,6 @@ use Rattle.text.specs.LinesAre.{answer-length, all-length}
 use Rattle.protocol.specs.Frames.{Held, held, session, givenBy, Step, step, ff, wellFormed, admits, takes, kindOf, fieldsOf, addNode, addRow, orDropped, marksOf, called, sessionAfter, answering, frame, lineStep}
 use Rattle.frames.specs.Answered.{Whole, WholeHeld}
 use Rattle.frames.specs.AdmitLaw.{node-room, row-room}
-
--- ---- coarsening and restoring add no row
-
-becomes-one : (t : Tri) (o : Option Brothers) (b : Bool) → length (becomes t o b) ≤ 1
-becomes-one t (some x) b = omega arith
-becomes-one t none true = omega arith
-becomes-one t none false = omega arith
-
-fates-fewer : (bs : List Brothers) (ts : List Tri) → length (joined (fate bs) ts) ≤ length ts
-fates-fewer bs [] = omega arith
-fates-fewer bs (t ∷ ts) =
-    omega (
-      arith,
-      fates-fewer bs ts,
-      length-append (fate bs t) (joined (fate bs) ts),
-      becomes-one t (first (λ b. sameTri (b .left) t) bs) (any (λ b. sameTri (b .right) t) bs),
-    )
-
-coarsened-rows : (n0 : ℕ) (m : Mesh) (marks : List ℕ) → length (coarsened n0 m marks .tris) ≤ length (m .tris)
-unfolding coarsened without
-coarsened-rows n0 m marks =
-    let zs = taken n0 m marks in
-    rw (length-map (joined (fate (joined (pairs m) zs)) (m .tris)) (renamed zs)) (fates-fewer (joined (pairs m) zs) (m .tris))
-
-pass-rows : (n0 : ℕ) (m : Mesh) → length (pass n0 m .tris) ≤ length (m .tris)
-unfolding pass
-pass-rows n0 m = coarsened-rows n0 m (allMarked (m .nodes))
-
-passes-rows : {n0 : ℕ} {m : Mesh} {r : Restored} → Passes n0 m r → length (r .end .tris) ≤ length (m .tris)
-passes-rows (none-good e) = omega arith
-passes-rows {n0} {m} (one-pass z zs e p) = omega (arith, passes-rows p, pass-rows n0 m)
 
 -- ---- what a call leaves: lengths as they were, counts within them
 
@@ -135,7 +101,7 @@ module _ (g : Given) (a : 2 * g .n ≤ length (g .nodes)) (b : 3 * g .t ≤ leng
   sound-restore n0 =
       let m = meshOf g in
       let r : Restored = restored n0 m in
-      sound-sized n0 (refusal m) m (r .end) (r .passes) (λ e. counted-less (r .end) (omega (arith, restored-fewer n0 m)) (passes-rows (restored-is n0 m)))
+      sound-sized n0 (refusal m) m (r .end) (r .passes) (λ e. counted-less (r .end) (omega (arith, restored-fewer n0 m)) (restored-rows n0 m))
 
 -- ---- what a line leaves
 

@@ -1,23 +1,24 @@
 -- Demand 2 for coarsen: of any lawful mesh, with any n0 and any marks, exactly the nodes that are marked and good go, and what is left is
 -- lawful, has the same total, and has the base nodes under their numbers. Assumes nothing.
 use mathlib.Core.Bool.{Bool, true, false, not, _&&_}
-use mathlib.Core.List.{List, map, List·Memᴰ}
+use mathlib.Core.List.{List, [], _∷_, map, List·Memᴰ}
 use mathlib.Core.Logic.{_↔_}
+use mathlib.Core.Option.{Option, none, some}
 use mathlib.Core.Path.{_≡_, refl, sym, subst}
 use Prim.Native.Nat.{ℕ, _+_, _≤_, _<_}
 use native.Mathlib.Omega.{arith}
 use lib.Dec.{eqb, ltb}
-use lib.ListN.{length}
+use lib.ListN.{length, length-append, length-map}
 use borrow.Author.Tests.{eqb-true}
-use Rattle.lists.specs.Lists.{any, only, joined, upTo, All}
+use Rattle.lists.specs.Lists.{any, only, first, joined, upTo, All}
 use Rattle.lists.specs.ListsLaw.{and-both, and-left, and-right, All-at, All-of, any-row}
 use Rattle.lists.specs.MembersLaw.{only-in, only-passes, only-keeps, upTo-below, upTo-in, upTo-once}
 use Rattle.lists.specs.Tally.{bit, tally, count-tally, only-le}
 use Rattle.meaning.specs.declared.Tri.{Tri}
-use Rattle.meaning.specs.Mesh.{Mesh, at, total}
+use Rattle.meaning.specs.Mesh.{Mesh, sameTri, at, total}
 use Rattle.meaning.specs.Lawful.{Lawful}
-use Rattle.meaning.specs.Good.{good}
-use Rattle.meaning.specs.Coarsen.{marked, taken, fate, stays, renumber, renamed, without, coarsened}
+use Rattle.meaning.specs.Good.{Brothers, pairs, good}
+use Rattle.meaning.specs.Coarsen.{marked, taken, becomes, fate, stays, renumber, renamed, without, coarsened}
 use Rattle.laws.specs.Stay.{stayed-mono, stayed-all, renumber-lt, renumber-falls, staying-rest}
 use Rattle.laws.specs.Star.{Pair, GoodStar, good-added, good-star}
 use Rattle.laws.specs.CoarsenRows.{Takeable, Fate, brood, broods, fate-is}
@@ -54,6 +55,28 @@ module _ (n0 : ℕ) (m : Mesh) (marks : List ℕ) where
   pub coarsened-count : length (coarsened n0 m marks .nodes) + length (taken n0 m marks) ≡ length (m .nodes)
   unfolding coarsened without
   coarsened-count = staying-rest (taken n0 m marks) taken-once (m .nodes) (All-of (taken n0 m marks) (λ z i. taken-is z .0 i .0))
+
+becomes-one : (t : Tri) (o : Option Brothers) (b : Bool) → length (becomes t o b) ≤ 1
+becomes-one t (some x) b = omega arith
+becomes-one t none true = omega arith
+becomes-one t none false = omega arith
+
+fates-fewer : (bs : List Brothers) (ts : List Tri) → length (joined (fate bs) ts) ≤ length ts
+fates-fewer bs [] = omega arith
+fates-fewer bs (t ∷ ts) =
+    omega (
+      arith,
+      fates-fewer bs ts,
+      length-append (fate bs t) (joined (fate bs) ts),
+      becomes-one t (first (λ b. sameTri (b .left) t) bs) (any (λ b. sameTri (b .right) t) bs),
+    )
+
+-- no row is added, whatever the mesh
+pub coarsened-rows : (n0 : ℕ) (m : Mesh) (marks : List ℕ) → length (coarsened n0 m marks .tris) ≤ length (m .tris)
+unfolding coarsened without
+coarsened-rows n0 m marks =
+    let zs = taken n0 m marks in
+    rw (length-map (joined (fate (joined (pairs m) zs)) (m .tris)) (renamed zs)) (fates-fewer (joined (pairs m) zs) (m .tris))
 
 -- ---- coarsen
 

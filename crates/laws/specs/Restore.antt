@@ -15,7 +15,7 @@ use Rattle.meaning.specs.Mesh.{Mesh}
 use Rattle.meaning.specs.Lawful.{Lawful}
 use Rattle.meaning.specs.Good.{good}
 use Rattle.meaning.specs.Coarsen.{marked, taken, without, coarsened, goodNodes, allMarked, pass, Restored, more, run, restored}
-use Rattle.laws.specs.Coarsen.{Gone, Preserved, coarsened-count, coarsened-gone, coarsened-preserved}
+use Rattle.laws.specs.Coarsen.{Gone, Preserved, coarsened-count, coarsened-rows, coarsened-gone, coarsened-preserved}
 
 -- the good nodes, as a list
 pub goodNodes-is : (n0 : ℕ) (m : Mesh) (z : ℕ) → List·Memᴰ z (goodNodes n0 m) ↔ ((z < length (m .nodes)) × (good n0 m z ≡ true))
@@ -147,11 +147,14 @@ passes-preserved : {n0 : ℕ} {m : Mesh} {r : Restored} → Passes n0 m r → La
 passes-preserved {n0} {m} (none-good e) law le = preserved-self n0 m law le
 passes-preserved {n0} {m} (one-pass z zs e p) law le = let k = pass-preserved n0 m law le in preserved-on k (passes-preserved p (k .lawful) (k .base-there))
 
--- and no pass adds a row
-passes-rows : {n0 : ℕ} {m : Mesh} {r : Restored} → Passes n0 m r → Lawful m → n0 ≤ length (m .nodes) → length (r .end .tris) ≤ length (m .tris)
-passes-rows (none-good e) law le = omega arith
-passes-rows {n0} {m} (one-pass z zs e p) law le =
-    let k = pass-preserved n0 m law le in omega (arith, passes-rows p (k .lawful) (k .base-there), pass-gone n0 m law .row-count)
+-- and adds no row
+pass-rows : (n0 : ℕ) (m : Mesh) → length (pass n0 m .tris) ≤ length (m .tris)
+unfolding pass
+pass-rows n0 m = coarsened-rows n0 m (allMarked (m .nodes))
+
+passes-rows : {n0 : ℕ} {m : Mesh} {r : Restored} → Passes n0 m r → length (r .end .tris) ≤ length (m .tris)
+passes-rows (none-good e) = omega arith
+passes-rows {n0} {m} (one-pass z zs e p) = omega (arith, passes-rows p, pass-rows n0 m)
 
 module _ (n0 : ℕ) (m : Mesh) where
   -- no good node is left
@@ -161,12 +164,12 @@ module _ (n0 : ℕ) (m : Mesh) where
   pub restored-fewer : restored n0 m .passes + length (restored n0 m .end .nodes) ≤ length (m .nodes)
   restored-fewer = passes-fewer (restored-is n0 m)
 
+  pub restored-rows : length (restored n0 m .end .tris) ≤ length (m .tris)
+  restored-rows = passes-rows (restored-is n0 m)
+
   module _ (law : Lawful m) (le : n0 ≤ length (m .nodes)) where
     pub restored-preserved : Preserved n0 m (restored n0 m .end)
     restored-preserved = passes-preserved (restored-is n0 m) law le
-
-    pub restored-rows : length (restored n0 m .end .tris) ≤ length (m .tris)
-    restored-rows = passes-rows (restored-is n0 m) law le
 
     -- no more passes than nodes were added
     pub restored-passes : restored n0 m .passes + n0 ≤ length (m .nodes)

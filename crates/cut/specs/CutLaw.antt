@@ -145,8 +145,8 @@ module _ (n : ℕ) (l₀ s : List ℕ) (t t1 : ℕ) (total : t1 ≡ t + sumTo (a
     unfolding addedAt
     same-added = ap (λ (c : Cut). length (c .added)) same-cut
 
-    place-is : end ≡ t + sumTo (addedAt n l₀ s) k + addedAt n l₀ s k
-    place-is = let a = d .place in let b = sum-more (addedAt n l₀ s) k in omega arith
+    place-found : end ≡ t + sumTo (addedAt n l₀ s) k + addedAt n l₀ s k
+    place-found = let a = d .place in let b = sum-more (addedAt n l₀ s) k in omega arith
 
     place-in : end ≤ t1
     place-in = let a = d .place in let b = sum-le (addedAt n l₀ s) (k + 1) t (d .within) in omega arith
@@ -155,7 +155,7 @@ module _ (n : ℕ) (l₀ s : List ℕ) (t t1 : ℕ) (total : t1 ≡ t + sumTo (a
     turn-ready nc r = ready-fewer s l₀ l nc t k (let a = d .within in omega arith) (d .size) (λ j h. d .whole j (omega arith)) r
 
     turn-below : k + addedAt n l s k < end
-    turn-below = let a = place-is in let b = d .within in let e = same-added in omega arith
+    turn-below = let a = place-found in let b = d .within in let e = same-added in omega arith
 
     turn-room : 3 * t1 ≤ length l₀ → 3 * end ≤ length l
     turn-room h = let a = place-in in let b = d .size in omega arith
@@ -176,15 +176,15 @@ module _ (n : ℕ) (l₀ s : List ℕ) (t t1 : ℕ) (total : t1 ≡ t + sumTo (a
       unfolding l₁
       long = rows-table .long l k (c .kept) ∙ d .size
 
-      count-is : length (c .added) ≡ addedAt n l₀ s k
+      cut-count : length (c .added) ≡ addedAt n l₀ s k
       unfolding c addedAt
-      count-is = refl
+      cut-count = refl
 
       at-is : at ≡ t + sumTo (addedAt n l₀ s) k
-      at-is = let a = place-is in let b = same-added in omega arith
+      at-is = let a = place-found in let b = same-added in omega arith
 
       end-is : at + length (c .added) ≡ end
-      end-is = let a = place-is in let b = at-is in let g = count-is in omega arith
+      end-is = let a = place-found in let b = at-is in let g = cut-count in omega arith
 
       low : (j : ℕ) → j < k → rowAt l′ j ≡ rowAt l₀ j
       unfolding l₁

@@ -187,8 +187,8 @@ module _ (n0 : ℕ) (m : Mesh) (marks : List ℕ) (law : Lawful m) (few : length
     nm = All-at (law .named) j
 
     -- the pair of its newest vertex, where this goes
-    pair-of : {b : Brothers} (z : ℕ) → List·Memᴰ z (taken n0 m marks) → Pair m z b → w .p ≡ z → takeNo n0 m marks (w .p) ≡ pairNo (edge (b .left .r) (b .right .q))
-    pair-of {b} z i p e =
+    its-pair : {b : Brothers} (z : ℕ) → List·Memᴰ z (taken n0 m marks) → Pair m z b → w .p ≡ z → takeNo n0 m marks (w .p) ≡ pairNo (edge (b .left .r) (b .right .q))
+    its-pair {b} z i p e =
         let g : any (eqb (w .p)) (taken n0 m marks) ≡ true = any-at (eqb (w .p)) (eq-eqb (w .p) z e) i in
         take-pair n0 m marks (w .p) (nm .p-below) g ∙ ap (λ (x : ℕ). pairNo (span m x)) e ∙ ap pairNo (sym (p .ends))
 
@@ -202,7 +202,7 @@ module _ (n0 : ℕ) (m : Mesh) (marks : List ℕ) (law : Lawful m) (few : length
         let q : b .left ≡ w = sameTri-eq (b .left) w e in
         let l = All-at (law .named) (p .left-row) in
         let r = All-at (law .named) (p .right-row) in
-        let k = pair-of (h .0) (h .1) p (ap (λ (u : Tri). u .p) (sym q) ∙ p .left-p) in
+        let k = its-pair (h .0) (h .1) p (ap (λ (u : Tri). u .p) (sym q) ∙ p .left-p) in
         let f = fate-pair (b .left .r) (b .right .q) (takeNo n0 m marks (w .p)) w (few-p (b .left .r) (l .r-below)) (few-p (b .right .q) (r .q-below)) (ap (λ (u : Tri). u .r) (sym q)) k in
         let d : father b ≡ tri (w .q) (w .r) (b .right .q) = ap (λ (u : Tri). tri (u .q) (u .r) (b .right .q)) q in
         rw d (made-father w (fateNo (takeNo n0 m marks (w .p)) w) (b .right .q) f (rw (← d) (father-named m (h .0) p law)))
@@ -212,7 +212,7 @@ module _ (n0 : ℕ) (m : Mesh) (marks : List ℕ) (law : Lawful m) (few : length
         let q : b .right ≡ w = sameTri-eq (b .right) w e in
         let l = All-at (law .named) (p .left-row) in
         let r = All-at (law .named) (p .right-row) in
-        let k = pair-of (h .0) (h .1) p (ap (λ (u : Tri). u .p) (sym q) ∙ p .right-p) in
+        let k = its-pair (h .0) (h .1) p (ap (λ (u : Tri). u .p) (sym q) ∙ p .right-p) in
         let wr : w .r ≡ b .right .r = ap (λ (u : Tri). u .r) (sym q) in
         made-none w (fateNo (takeNo n0 m marks (w .p)) w)
         (fate-brother (b .left .r) (b .right .q) (takeNo n0 m marks (w .p)) w (few-p (b .left .r) (l .r-below)) (few-p (b .right .q) (r .q-below))

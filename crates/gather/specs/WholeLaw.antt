@@ -150,17 +150,17 @@ module _ (nodes : List ℤ) (l s : List ℕ) (n0 n t nc : ℕ) (marks : List ℕ
   below : (k : ℕ) → k < n → k < length (meshAt nodes l n t .nodes)
   below k h = rw (count-nodes nodes l n t) h
 
-  gone-node : (z : ℕ) → z < n → goneNode s nc z ≡ any (eqb z) (taken n0 (meshAt nodes l n t) marks)
+  node-goes : (z : ℕ) → z < n → goneNode s nc z ≡ any (eqb z) (taken n0 (meshAt nodes l n t) marks)
   unfolding goneNode
-  gone-node z h = rw (d .pairs z h) (stays-is n0 (meshAt nodes l n t) marks z (below z h))
+  node-goes z h = rw (d .pairs z h) (stays-is n0 (meshAt nodes l n t) marks z (below z h))
 
   nodes-left : remaining (goneNode s nc) (placeAt nodes) 0 n ≡ coarsened n0 (meshAt nodes l n t) marks .nodes
   unfolding coarsened without meshAt
-  nodes-left = sym (staying-remaining (taken n0 (meshAt nodes l n t) marks) (placeAt nodes) (goneNode s nc) n gone-node)
+  nodes-left = sym (staying-remaining (taken n0 (meshAt nodes l n t) marks) (placeAt nodes) (goneNode s nc) n node-goes)
 
-  in-rows : (i : ℕ) → i < t → List·Memᴰ (rowAt l i) (meshAt nodes l n t .tris)
+  row-listed : (i : ℕ) → i < t → List·Memᴰ (rowAt l i) (meshAt nodes l n t .tris)
   unfolding meshAt
-  in-rows i h = items-in (rowAt l) t i h
+  row-listed i h = items-in (rowAt l) t i h
 
   -- a row of nodes gets their new numbers
   renamed-by : (w : Tri) → Named (length (meshAt nodes l n t .nodes)) w → renamed (taken n0 (meshAt nodes l n t) marks) w ≡ renamedBy s w
@@ -179,7 +179,7 @@ module _ (nodes : List ℤ) (l s : List ℕ) (n0 n t nc : ℕ) (marks : List ℕ
       let m = meshAt nodes l n t in
       let w = rowAt l i in
       let k = fateNo (takeNo n0 m marks (w .p)) w in
-      ap (map (renamed (taken n0 m marks))) (fate-note n0 m marks law few w (in-rows i h))
+      ap (map (renamed (taken n0 m marks))) (fate-note n0 m marks law few w (row-listed i h))
       ∙ go (eqb k 1) refl
       ∙ rw (d .fates i h)
     where
@@ -187,7 +187,7 @@ module _ (nodes : List ℤ) (l s : List ℕ) (n0 n t nc : ℕ) (marks : List ℕ
           map (renamed (taken n0 (meshAt nodes l n t) marks)) (cases b [] (fatherBy (rowAt l i) (fateNo (takeNo n0 (meshAt nodes l n t) marks (rowAt l i .p)) (rowAt l i)) ∷ [])) ≡
           cases b [] (renamedBy s (fatherBy (rowAt l i) (fateNo (takeNo n0 (meshAt nodes l n t) marks (rowAt l i .p)) (rowAt l i))) ∷ [])
       go true e = refl
-      go false e = ap (λ x. x ∷ []) (renamed-by (fatherBy (rowAt l i) (fateNo (takeNo n0 (meshAt nodes l n t) marks (rowAt l i .p)) (rowAt l i))) (father-in n0 (meshAt nodes l n t) marks law few (rowAt l i) (in-rows i h) e))
+      go false e = ap (λ x. x ∷ []) (renamed-by (fatherBy (rowAt l i) (fateNo (takeNo n0 (meshAt nodes l n t) marks (rowAt l i .p)) (rowAt l i))) (father-in n0 (meshAt nodes l n t) marks law few (rowAt l i) (row-listed i h) e))
 
   rows-left : remaining (goneRow s nc) (newRow s nc l) 0 t ≡ coarsened n0 (meshAt nodes l n t) marks .tris
   unfolding coarsened without meshAt

@@ -31,7 +31,7 @@ use Rattle.growth.specs.Labels.ForestCoarsened.{Goes, EndsR, goes?, stay
 use Rattle.growth.specs.Labels.Named.{p-below, name-p, same-number}
 use Rattle.growth.specs.Labels.Around.{Of, pair-at}
 use Rattle.growth.specs.Labels.GrownCoarsened.{renum, Removing, Gone, gone, gone-node, Merging, grown-coarsened}
-use Rattle.growth.specs.Rows.{three, rows, all-rows, same-of-edge, arrow-in-one-row, row-named}
+use Rattle.growth.specs.Rows.{three, rows, all-rows, same-of-edge, arrow-in-one-row, corners-named}
 use Rattle.growth.specs.GrownFrom.{GrownFrom}
 use Rattle.growth.specs.Goodness.{Newest, Rows, Told, newest-told, good-newest}
 
@@ -100,10 +100,10 @@ module _ (base m : Mesh) (G : GrownFrom base m) (marks : List ℕ) where
       where
         go : Same a x b c → ⊥
         go (straight u v) =
-            row-named m (G .lawful) (P .left) (P .left-below) .q≢r
+            corners-named m (G .lawful) (P .left) (P .left-below) .q≢r
             (ap (λ (s : Corners ℕ). s .q) (P .left-is) ∙ u ∙ sym (ap (λ (s : Corners ℕ). s .r) (P .left-is)))
         go (crossed u v) =
-            row-named m (G .lawful) (P .right) (P .right-below) .q≢r
+            corners-named m (G .lawful) (P .right) (P .right-below) .q≢r
             (ap (λ (s : Corners ℕ). s .q) (P .right-is) ∙ sym u ∙ sym (ap (λ (s : Corners ℕ). s .r) (P .right-is)))
 
   -- ---- what becomes of a row
@@ -224,15 +224,15 @@ module _ (base m : Mesh) (G : GrownFrom base m) (marks : List ℕ) where
   size-total : (k : ℕ) → k ≤ length (m .tris) → total (sizes g (tri 0 0 0) (tri 0 0 0) (m .tris)) k ≡ total st k
   size-total k l = total-same _ _ k (λ j lj. size-is j (omega arith))
 
-  count-is : length (after .tris) ≡ total st (length (m .tris))
-  count-is =
+  rows-coarser : length (after .tris) ≡ total st (length (m .tris))
+  rows-coarser =
       ap length tris-are ∙ length-map (joined g (m .tris)) (renamed zs) ∙ joined-length g (tri 0 0 0) (tri 0 0 0) (m .tris) ∙ size-total (length (m .tris)) (omega arith)
 
   -- A row afterwards.
-  at-new : (k : ℕ) → k < length (after .tris) → (u : Tri) → g (row-at (owner st (length (m .tris)) k)) ≡ u ∷ [] → rowOf (after .tris) k ≡ renamed zs u
-  at-new k l u e =
+  new-number-at : (k : ℕ) → k < length (after .tris) → (u : Tri) → g (row-at (owner st (length (m .tris)) k)) ≡ u ∷ [] → rowOf (after .tris) k ≡ renamed zs u
+  new-number-at k l u e =
       let o = owner st (length (m .tris)) k in
-      let (lo, _, f) = close-old Going going? (length (m .tris)) k (omega (arith, count-is)) in
+      let (lo, _, f) = close-old Going going? (length (m .tris)) k (omega (arith, rows-coarser)) in
       let now : k ≡ total (sizes g (tri 0 0 0) (tri 0 0 0) (m .tris)) o + 0 = omega (arith, size-total o (omega arith)) in
       ap (λ (ts : List Tri). getD ts k (tri 0 0 0)) tris-are
       ∙ List·getD-map (renamed zs) (joined g (m .tris)) k (tri 0 0 0)
@@ -255,10 +255,10 @@ module _ (base m : Mesh) (G : GrownFrom base m) (marks : List ℕ) where
   unfolding coarsened without Y
   merging = record {
     node-count = staying-length zs 0 (m .nodes) ∙ renumber-is (length (m .nodes));
-    row-count = count-is;
+    row-count = rows-coarser;
     row-kept = λ k l n. let o = owner st (length (m .tris)) k in
-        ap three (at-new k l (row-at o) (kept-fate o (close-old Going going? (length (m .tris)) k (omega (arith, count-is)) .0) n)) ∙ renum-is (row-at o);
-    row-joined = λ k l z a b c d P e. ap three (at-new k l (tri a b c) (ap (λ (j : ℕ). g (row-at j)) (sym e) ∙ left-fate z a b c d P)) ∙ renum-is (tri a b c);
+        ap three (new-number-at k l (row-at o) (kept-fate o (close-old Going going? (length (m .tris)) k (omega (arith, rows-coarser)) .0) n)) ∙ renum-is (row-at o);
+    row-joined = λ k l z a b c d P e. ap three (new-number-at k l (tri a b c) (ap (λ (j : ℕ). g (row-at j)) (sym e) ∙ left-fate z a b c d P)) ∙ renum-is (tri a b c);
     place-kept = λ k l. let (lx, n, e) = close-old D D? (length (m .nodes)) k (omega (arith, staying-length zs 0 (m .nodes), renumber-is (length (m .nodes)))) in
         ap (at after) (sym (renumber-is (owner (keep D D?) (length (m .nodes)) k) ∙ e))
         ∙ coarsened-gone (length (base .nodes)) m marks (G .lawful) .place-kept (owner (keep D D?) (length (m .nodes)) k) lx (off _ n);

@@ -55,13 +55,13 @@ module _ (num : ℕ → ℕ → ℕ) (t : Tri) where
   kept-is is-split is-whole is-split = refl
   kept-is is-split is-split is-split = refl
 
-  added-is : {o u v : Option ℕ} {x y z : Bool} → Agrees (num (t .q) (t .r)) x o → Agrees (num (t .p) (t .q)) y u → Agrees (num (t .r) (t .p)) z v
+  cut-adds : {o u v : Option ℕ} {x y z : Bool} → Agrees (num (t .q) (t .r)) x o → Agrees (num (t .p) (t .q)) y u → Agrees (num (t .r) (t .p)) z v
       → map three (bisected t o u v .added) ≡ more-rows num x y z (three t)
-  added-is is-whole u v = refl
-  added-is is-split is-whole is-whole = refl
-  added-is is-split is-split is-whole = refl
-  added-is is-split is-whole is-split = refl
-  added-is is-split is-split is-split = refl
+  cut-adds is-whole u v = refl
+  cut-adds is-split is-whole is-whole = refl
+  cut-adds is-split is-split is-whole = refl
+  cut-adds is-split is-whole is-split = refl
+  cut-adds is-split is-split is-split = refl
 
 -- An edge of a triangle has its lower end first.
 edge-norm : (t : Tri) (e : Edge) → List·Memᴰ e (edges t) → edge (e .lo) (e .hi) ≡ e
@@ -131,7 +131,7 @@ module _ (m : Mesh) (s : List Edge) where
   cut-kept t = kept-is num t (agrees (t .q) (t .r) (split? (t .q) (t .r))) (agrees (t .p) (t .q) (split? (t .p) (t .q))) (agrees (t .r) (t .p) (split? (t .r) (t .p)))
 
   cut-added : (t : Tri) → map three (cut-at bisected m s t .added) ≡ appends split? num (three t)
-  cut-added t = added-is num t (agrees (t .q) (t .r) (split? (t .q) (t .r))) (agrees (t .p) (t .q) (split? (t .p) (t .q))) (agrees (t .r) (t .p) (split? (t .r) (t .p)))
+  cut-added t = cut-adds num t (agrees (t .q) (t .r) (split? (t .q) (t .r))) (agrees (t .p) (t .q) (split? (t .p) (t .q))) (agrees (t .r) (t .p) (split? (t .r) (t .p)))
 
   added-size : (j : ℕ) → length (cut-at bisected m s (rowOf (m .tris) j) .added) ≡ length (appends split? num (rows m j))
   added-size j = sym (length-map (cut-at bisected m s (rowOf (m .tris) j) .added) three) ∙ ap length (cut-added (rowOf (m .tris) j))
@@ -145,8 +145,8 @@ module _ (m : Mesh) (s : List Edge) where
   sizes-are : (k : ℕ) → rows-ahead bisected m s k ≡ past k
   sizes-are k = total-same _ _ k (λ j l. added-size j)
 
-  count-is : length (after .tris) ≡ length (m .tris) + past (length (m .tris))
-  count-is = split-count bisected m s ∙ ap (length (m .tris) +_) (sizes-are (length (m .tris)))
+  rows-refined : length (after .tris) ≡ length (m .tris) + past (length (m .tris))
+  rows-refined = split-count bisected m s ∙ ap (length (m .tris) +_) (sizes-are (length (m .tris)))
 
   stay-is : (k : ℕ) → k < length (m .tris) → rows after k ≡ stays split? num (rows m k)
   stay-is k l = ap three (row-of-kept bisected m s k l) ∙ cut-kept (rowOf (m .tris) k)
@@ -219,7 +219,7 @@ module _ (base m : Mesh) (G : GrownFrom base m) (start : List Edge) (even : all 
     one-end = λ k. edge-of k .lo;
     other-end = λ k. edge-of k .hi;
     ends = ends-are;
-    count = count-is m s;
+    count = rows-refined m s;
     stay = stay-is m s;
     append = append-is m s;
   }
@@ -234,9 +234,9 @@ module _ (base m : Mesh) (G : GrownFrom base m) (start : List Edge) (even : all 
       rw e (middle-either m (midpoint m (edge a b)) a b (midpoint-middle m (edge a b) x))
 
   -- BISECTION KEEPS THE INVARIANT, from any starting edges.
-  from-split : GrownFrom base (split bisected m start)
+  grown-by-split : GrownFrom base (split bisected m start)
   unfolding split
-  from-split = record {
+  grown-by-split = record {
     lawful = split-lawful bisected-laws m start (G .lawful) even;
     grown = grown-refined (G .grown) closed halving (at-old bisected m s) put;
     base-place = λ k l. at-old bisected m s k (omega (arith, G .grown .enough)) ∙ G .base-place k l;
@@ -247,7 +247,7 @@ from-refined : (base m : Mesh) → GrownFrom base m → (w : Way) → w .cutting
     → all (halves m) (splitEdges m (started w marks (m .tris))) ≡ true → GrownFrom base (refined w m marks)
 unfolding refined
 from-refined base m G w cuts marks even =
-    subst (λ c. GrownFrom base (split c m (started w marks (m .tris)))) (sym cuts) (from-split base m G (started w marks (m .tris)) even)
+    subst (λ c. GrownFrom base (split c m (started w marks (m .tris)))) (sym cuts) (grown-by-split base m G (started w marks (m .tris)) even)
 
 -- So an accepted refine does.
 pub from-refine : (base m : Mesh) → GrownFrom base m → (w : Way) → w .cutting ≡ bisected → (room : Room) (marks : List ℕ) → refineNo w room m marks ≡ 0 → GrownFrom base (refined w m marks)

@@ -1,9 +1,9 @@
 -- The rows of a mesh by number, as corners; what tests say of them; the rows of a lawful, compatibly labelled base. Assumes nothing.
 use mathlib.Core.Bool.{Bool, true, false, _||_}
-use mathlib.Core.List.{List, [], _∷_, map, List·Memᴰ, List·Memᴰ·head, List·Memᴰ·tail}
+use mathlib.Core.List.{List, map, List·Memᴰ, List·Memᴰ·head, List·Memᴰ·tail}
 use mathlib.Core.Logic.{_≢_}
 use mathlib.Core.Path.{_≡_, refl, sym, subst, ap, ap₂, _∙_}
-use Prim.Native.Nat.{ℕ, zero, suc, min, max, _+_, _≤_, _<_}
+use Prim.Native.Nat.{ℕ, min, max, _+_, _≤_, _<_}
 use native.Mathlib.Decide.{decLt}
 use native.Mathlib.Omega.{arith}
 use lib.Dec.{eqb}
@@ -11,7 +11,6 @@ use lib.ListN.{length, getD, length-map, List·getD-map}
 use borrow.Author.Tests.{eqb-true, eqb-false, eq-eqb}
 use Rattle.lists.specs.ListsLaw.{clash, or-left, or-right, All-at, All-getD, any-at, any-row}
 use Rattle.lists.specs.MembersLaw.{mem-at, at-mem, count-some}
-use Rattle.lists.specs.Tally.{tally, tally-at}
 use Rattle.meaning.specs.declared.Tri.{Tri}
 use Rattle.meaning.specs.Mesh.{Mesh, tri, arrow, edge, edges, sameEdge, holdsNode, holdsEdge}
 use Rattle.meaning.specs.Lawful.{Lawful, Named, rowOf}
@@ -122,13 +121,13 @@ module _ (m : Mesh) (law : Lawful m) where
   same-row j k lj lk e =
       arrow-in-one-row j k lj lk (rowOf (m .tris) j .p) (rowOf (m .tris) j .q) (arrow-pq refl refl) (arrow-pq (ap (λ (t : Tri). t .p) e) (ap (λ (t : Tri). t .q) e))
 
-  pub row-named : (j : ℕ) → j < length (m .tris) → Named (length (m .nodes)) (rowOf (m .tris) j)
-  row-named j l = All-getD (law .named) j (tri 0 0 0) l
+  pub corners-named : (j : ℕ) → j < length (m .tris) → Named (length (m .nodes)) (rowOf (m .tris) j)
+  corners-named j l = All-getD (law .named) j (tri 0 0 0) l
 
   nodes-below : (j : ℕ) → j < length (m .tris) → (x : ℕ) → Holds x (rows m j) → x < length (m .nodes)
-  nodes-below j l x (is-p e) = rw e (row-named j l .p-below)
-  nodes-below j l x (is-q e) = rw e (row-named j l .q-below)
-  nodes-below j l x (is-r e) = rw e (row-named j l .r-below)
+  nodes-below j l x (is-p e) = rw e (corners-named j l .p-below)
+  nodes-below j l x (is-q e) = rw e (corners-named j l .q-below)
+  nodes-below j l x (is-r e) = rw e (corners-named j l .r-below)
 
   node-used : (z : ℕ) → z < length (m .nodes) → (j : ℕ) × (j < length (m .tris)) × Holds z (rows m j)
   node-used z l =
@@ -148,7 +147,7 @@ module _ (m : Mesh) (law : Lawful m) where
   base-compatible c = record { distinct = distinct; agrees = agrees }
     where
       distinct : (i : ℕ) → i < length (all-rows m) → Distinct (row (all-rows m) i)
-      distinct i l = let h = row-named i (omega (arith, rows-length m)) in rw (row-is-three m i) (record { p≢q = h .p≢q; q≢r = h .q≢r; r≢p = h .r≢p })
+      distinct i l = let h = corners-named i (omega (arith, rows-length m)) in rw (row-is-three m i) (record { p≢q = h .p≢q; q≢r = h .q≢r; r≢p = h .r≢p })
 
       two : (t u : Tri) → List·Memᴰ t (m .tris) → List·Memᴰ u (m .tris) → Edge (three u) (t .q) (t .r) → Same (t .q) (t .r) (u .q) (u .r)
       two t u i j e = same-of-edge _ _ _ _ (All-at (All-at c i) j (held-edge u (t .q) (t .r) e))

@@ -32,19 +32,19 @@ module _ (c : Cutting) (m : Mesh) (s : List Edge) where
   abbrev pub rows-ahead : ℕ → ℕ
   rows-ahead j = total (sizes adds (tri 0 0 0) (tri 0 0 0) (m .tris)) j
 
-  tris-are : splitAt c m s .tris ≡ map keeps (m .tris) ++ joined adds (m .tris)
+  rows-split-are : splitAt c m s .tris ≡ map keeps (m .tris) ++ joined adds (m .tris)
   unfolding splitAt
-  tris-are = refl
+  rows-split-are = refl
 
   pub split-count : length (splitAt c m s .tris) ≡ length (m .tris) + rows-ahead (length (m .tris))
   split-count =
-      ap length tris-are ∙ length-append (map keeps (m .tris)) (joined adds (m .tris))
+      ap length rows-split-are ∙ length-append (map keeps (m .tris)) (joined adds (m .tris))
       ∙ ap₂ _+_ (length-map (m .tris) keeps) (joined-length adds (tri 0 0 0) (tri 0 0 0) (m .tris))
 
   pub row-of-kept : (k : ℕ) → k < length (m .tris) → rowOf (splitAt c m s .tris) k ≡ cut-at (rowOf (m .tris) k) .kept
   row-of-kept k l =
       let l′ : k < length (map keeps (m .tris)) = rw (length-map (m .tris) keeps) l in
-      ap (λ (ts : List Tri). getD ts k (tri 0 0 0)) tris-are
+      ap (λ (ts : List Tri). getD ts k (tri 0 0 0)) rows-split-are
       ∙ List·getD-append (map keeps (m .tris)) (joined adds (m .tris)) (tri 0 0 0) k l′
       ∙ getD-default (map keeps (m .tris)) k (tri 0 0 0) (keeps (tri 0 0 0)) l′
       ∙ List·getD-map keeps (m .tris) k (tri 0 0 0)
@@ -52,7 +52,7 @@ module _ (c : Cutting) (m : Mesh) (s : List Edge) where
   pub row-of-added : (j i : ℕ) → j < length (m .tris) → i < length (cut-at (rowOf (m .tris) j) .added) →
       rowOf (splitAt c m s .tris) (length (m .tris) + (rows-ahead j + i)) ≡ getD (cut-at (rowOf (m .tris) j) .added) i (tri 0 0 0)
   row-of-added j i lj li =
-      ap₂ (λ (ts : List Tri) (k : ℕ). getD ts (k + (rows-ahead j + i)) (tri 0 0 0)) tris-are (sym (length-map (m .tris) keeps))
+      ap₂ (λ (ts : List Tri) (k : ℕ). getD ts (k + (rows-ahead j + i)) (tri 0 0 0)) rows-split-are (sym (length-map (m .tris) keeps))
       ∙ getD-append-add (map keeps (m .tris)) (joined adds (m .tris)) (rows-ahead j + i) (tri 0 0 0)
       ∙ joined-at adds (tri 0 0 0) (tri 0 0 0) (m .tris) j i lj li
 

@@ -130,9 +130,9 @@ module _ (g : Given) (n0 : ℕ) where
         (omega (arith, holds .rows-long, pass-gone n0 (meshOf g) law .row-count, rows-count g, s .t-fits)) (preserved .base-there) (rw (length-replicate {A = ℕ} (length (g .scratch)) 0) (s .scratch-fits))
 
     -- what restore leaves of these
-    on-from : restoreOut (tablesAfter (done g (pass n0 (meshOf g)) 0)) n0 ≡ done g (restored n0 (pass n0 (meshOf g)) .end) (restored n0 (pass n0 (meshOf g)) .passes)
+    restore-after-pass : restoreOut (tablesAfter (done g (pass n0 (meshOf g)) 0)) n0 ≡ done g (restored n0 (pass n0 (meshOf g)) .end) (restored n0 (pass n0 (meshOf g)) .passes)
     unfolding restoreOut restores
-    on-from =
+    restore-after-pass =
         let h = tablesAfter (done g (pass n0 (meshOf g)) 0) in
         let z : refusal (pass n0 (meshOf g)) ≡ 0 = lawful-refusal (pass n0 (meshOf g)) (preserved .lawful) in
         let c : length (replicate {A = ℕ} (length (g .scratch)) 0) ≡ length (g .scratch) = length-replicate (length (g .scratch)) 0 in
@@ -196,7 +196,7 @@ module _ (a : Answer) (g : Given) (nodes′ : List ℤ) (rows′ scratch′ : Li
           go (passed s l) e inv =
               let b : length (pass n0 (meshOf g) .nodes) ≢ length (meshOf g .nodes) = (λ q. o (ap (λ (o : Outcome). o .answer .n) e ∙ q ∙ nodes-count g)) in
               ap (λ (o : Outcome). after (p + 1) n t (restoreOut (tablesAfter o) n0)) e
-              ∙ ap (after (p + 1) n t) (on-from g n0 s l)
+              ∙ ap (after (p + 1) n t) (restore-after-pass g n0 s l)
               ∙ after-done (p + 1) n t g (restored n0 (pass n0 (meshOf g)) .end) (restored n0 (pass n0 (meshOf g)) .passes)
               ∙ stepped g n0 s l b p
               ∙ sym (after-done p n t g (restored n0 (meshOf g) .end) (restored n0 (meshOf g) .passes)) ∙ inv

@@ -274,8 +274,8 @@ module _ (m : Mesh) (z : ℕ) (law : Lawful m) (t : G1-4 m z ≡ true) where
 -- ---- the facts tell the tests
 
 -- an edge, given as b–c and as y–x, either way round
-either-way : (b c y x : ℕ) → edge y x ≡ edge b c → (y ≡ b → x ≡ c → ⊥) → (y ≡ c) × (x ≡ b)
-either-way b c y x e n =
+other-way-round : (b c y x : ℕ) → edge y x ≡ edge b c → (y ≡ b → x ≡ c → ⊥) → (y ≡ c) × (x ≡ b)
+other-way-round b c y x e n =
     let l : min y x ≡ min b c = ap (λ d. d .lo) e in
     let h : max y x ≡ max b c = ap (λ d. d .hi) e in
     go l h (eqb y b) refl
@@ -290,7 +290,7 @@ closes-yes n [] l h k e o = absurd (omega arith)
 closes-yes n (x ∷ []) l h k e o = let w : n ≡ 2 = omega arith in rw w
 closes-yes n (x ∷ y ∷ []) l h k (cons e (cons f es)) o =
     let v : n ≡ 4 = omega arith in
-    let w = either-way (x .left .r) (x .right .q) (y .left .r) (y .right .q) f both in
+    let w = other-way-round (x .left .r) (x .right .q) (y .left .r) (y .right .q) f both in
     rw v (and-both (eq-eqb (y .left .r) (x .right .q) (w .0)) (eq-eqb (y .right .q) (x .left .r) (w .1)))
   where
     both : y .left .r ≡ x .left .r → y .right .q ≡ x .right .q → ⊥
@@ -324,15 +324,15 @@ module _ (m : Mesh) (z : ℕ) (law : Lawful m) (below : z < length (m .nodes)) w
       omega arith
 
   module _ (s : Star m z) where
-    rows-length : length (rowsOf m z) ≡ 2 * length (pairs m z)
-    rows-length =
+    rows-in-pairs : length (rowsOf m z) ≡ 2 * length (pairs m z)
+    rows-in-pairs =
         let a = s .rows (λ t. 1) in
         let b = tally-length (rowsOf m z) in
         let c = tally-two (pairs m z) in
         omega arith
 
     some-pair-here : 1 ≤ length (pairs m z)
-    some-pair-here = let a = rows-some in let b = rows-length in omega arith
+    some-pair-here = let a = rows-some in let b = rows-in-pairs in omega arith
 
     two-pairs : length (pairs m z) ≤ 2
     unfolding pairs
@@ -352,8 +352,8 @@ module _ (m : Mesh) (z : ℕ) (law : Lawful m) (below : z < length (m .nodes)) w
         and-both
         (and-both
         (and-both
-        (and-both (yes-all (All-imp (λ t e. eq-eqb (t .p) z e) (s .newest))) (two-or-four (length (pairs m z)) (length (rowsOf m z)) some-pair-here two-pairs rows-length))
-        (closes-yes (length (rowsOf m z)) (pairs m z) some-pair-here two-pairs rows-length (All-imp (λ b h. h .ends) (s .pair)) (opposed m z law s)))
+        (and-both (yes-all (All-imp (λ t e. eq-eqb (t .p) z e) (s .newest))) (two-or-four (length (pairs m z)) (length (rowsOf m z)) some-pair-here two-pairs rows-in-pairs))
+        (closes-yes (length (rowsOf m z)) (pairs m z) some-pair-here two-pairs rows-in-pairs (All-imp (λ b h. h .ends) (s .pair)) (opposed m z law s)))
         (middle-yes (at m z) (at m (span m z .lo)) (at m (span m z .hi)) middle-here))
         (ap not (none-any (holdsEdge (span m z)) (s .noEdge)))
 

@@ -105,20 +105,20 @@ lowest-some f t j h e = go (lowest f 0 t) refl
     go (At i) g = ap isFound g
     go Nothing g = clash (sym e ∙ lowest-nothing f t j g h)
 
-from-agree : (f g : ℕ → Bool) (i k : ℕ) → ((j : ℕ) → i ≤ j → j < i + k → f j ≡ g j) → lowestFrom f i k ≡ lowestFrom g i k
+lowest-from-agree : (f g : ℕ → Bool) (i k : ℕ) → ((j : ℕ) → i ≤ j → j < i + k → f j ≡ g j) → lowestFrom f i k ≡ lowestFrom g i k
 unfolding lowestFrom
-from-agree f g i zero h = refl
-from-agree f g i (suc k) h = rw (h i (omega arith) (omega arith), from-agree f g (i + 1) k (λ j a b. h j (omega arith) (omega arith)))
+lowest-from-agree f g i zero h = refl
+lowest-from-agree f g i (suc k) h = rw (h i (omega arith) (omega arith), lowest-from-agree f g (i + 1) k (λ j a b. h j (omega arith) (omega arith)))
 
 -- tests that agree below the end
 pub lowest-agree : (f g : ℕ → Bool) (t : ℕ) → ((j : ℕ) → j < t → f j ≡ g j) → lowest f 0 t ≡ lowest g 0 t
 unfolding lowest
-lowest-agree f g t h = from-agree f g 0 (t - 0) (λ j a b. h j (omega arith))
+lowest-agree f g t h = lowest-from-agree f g 0 (t - 0) (λ j a b. h j (omega arith))
 
 -- the same, of a search from i on
 pub lowest-agree-from : (f g : ℕ → Bool) (i t : ℕ) → ((j : ℕ) → i ≤ j → j < t → f j ≡ g j) → lowest f i t ≡ lowest g i t
 unfolding lowest
-lowest-agree-from f g i t h = from-agree f g i (t - i) (λ j a b. h j a (omega arith))
+lowest-agree-from f g i t h = lowest-from-agree f g i (t - i) (λ j a b. h j a (omega arith))
 
 -- ---- by number and by list
 

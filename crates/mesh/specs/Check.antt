@@ -49,9 +49,9 @@ check-untouched g = ap (untouched g) (sym (number-late g 0 0 [] (unless (compati
     go true = refl
     go false = refl
 
-pub check-call : (nodes : List ℤ) (rows s s₁ s₂ : List ℕ) (n t k len : ℕ) → s₁ ≡ replicate (length s) 0 → k ≡ checkNumber (given nodes rows s₁ n t) →
+pub checked-call : (nodes : List ℤ) (rows s s₁ s₂ : List ℕ) (n t k len : ℕ) → s₁ ≡ replicate (length s) 0 → k ≡ checkNumber (given nodes rows s₁ n t) →
     s₂ ≡ replicate len 0 → len ≡ length s₁ → outcome (answer k n t 0) nodes rows s₂ ≡ checkOut (given nodes rows s n t)
 unfolding checkOut meshOf
-check-call nodes rows s s₁ s₂ n t k len p e =
+checked-call nodes rows s s₁ s₂ n t k len p e =
     call-out s s₁ p (λ x. checkOut (given nodes rows x n t)) (λ x x′ l. sized-same nodes rows x x′ 0 n t l _ _ (rw l)) (answer k n t 0) nodes rows s₂ len
     (rw e (ap (outcome _ nodes rows) (zeroed s s₁ p) ∙ check-untouched (given nodes rows s₁ n t)))

@@ -29,15 +29,15 @@ module _ (nodes : List ℤ) (rows s marks : List ℕ) (n0 n t k : ℕ) (z : s �
   unfolding coarsenNo
   coarsen-number = rw (nodes-count (given nodes rows s n t), orElse-zero (refusal (meshOf (given nodes rows s n t))))
 
-  coarsen-leaves : leavesBy (given nodes rows s n t) k (coarsened n0 (meshOf (given nodes rows s n t)) marks) 0 ≡ coarsenOut (given nodes rows s n t) n0 marks
+  coarsen-out : leavesBy (given nodes rows s n t) k (coarsened n0 (meshOf (given nodes rows s n t)) marks) 0 ≡ coarsenOut (given nodes rows s n t) n0 marks
   unfolding coarsenOut coarsens
-  coarsen-leaves =
+  coarsen-out =
       let g = given nodes rows s n t in
       let m : Mesh = meshOf (given nodes rows s n t) in
       sym (ap (λ (j : ℕ). sized g n0 (leaves g (says j m (coarsened n0 m marks) 0))) coarsen-number ∙ leaves-late g n0 n marks 0 (coarsened n0 m marks) ∙ rw (orElse-zero (early g n0 n marks), ← e))
 
   pub coarsen-refused : (r : Answer) → (k ≡ 0 → ⊥) → r ≡ answer k n t 0 → outcome r nodes rows s ≡ coarsenOut (given nodes rows s n t) n0 marks
-  coarsen-refused r o f = leaves-refused nodes rows s n t _ z k r o f ∙ coarsen-leaves
+  coarsen-refused r o f = leaves-refused nodes rows s n t _ z k r o f ∙ coarsen-out
 
   pub coarsen-worked : k ≡ 0 → (c : Counts) (a : List ℤ) (b : List ℕ) (r : Answer) →
       Gather.tabled c a b ≡ Gather.tabledOf (length nodes) (length rows) (coarsened n0 (meshAt nodes rows n t) marks) → r ≡ answer 0 (c .n) (c .t) 0 →
@@ -46,7 +46,7 @@ module _ (nodes : List ℤ) (rows s marks : List ℕ) (n0 n t k : ℕ) (z : s �
   coarsen-worked y c a b r q f =
       leaves-done nodes rows s n t (coarsened n0 (meshIn nodes rows n t) marks) z r a b (c .n) (c .t)
       (ap (λ (x : Gather.Tabled). x .counts .n) q) (ap (λ (x : Gather.Tabled). x .counts .t) q) (ap (λ (x : Gather.Tabled). x .nodes) q) (ap (λ (x : Gather.Tabled). x .rows) q) f
-      ∙ rw y at coarsen-leaves
+      ∙ rw y at coarsen-out
 
 pub coarsened-call : (nodes a : List ℤ) (rows b s s₁ s₂ marks : List ℕ) (n0 n t len : ℕ) (r : Answer) → s₁ ≡ replicate (length s) 0 →
     outcome r a b s₁ ≡ coarsenOut (given nodes rows s₁ n t) n0 marks → s₂ ≡ replicate len 0 → len ≡ length s₁ →

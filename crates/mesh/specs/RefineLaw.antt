@@ -256,12 +256,12 @@ carry-done nodes a c rows b d s n t n1 t1 p la q lb fc fd = rw (fc, fd, q, la, l
 -- ---- what the call leaves
 
 module _ (nodes : List ℤ) (rows s marks : List ℕ) (n0 n t k : ℕ) (z : s ≡ replicate (length s) 0) (e : k ≡ refineNumber (given nodes rows s n t) n0 marks) where
-  refine-leaves : leavesBy (given nodes rows s n t) k (afterIn nodes rows marks n t) 0 ≡ refineOut newest (given nodes rows s n t) n0 marks
+  refine-out : leavesBy (given nodes rows s n t) k (afterIn nodes rows marks n t) 0 ≡ refineOut newest (given nodes rows s n t) n0 marks
   unfolding refineOut refines refineNo refineNumber lateNumber meshOf
-  refine-leaves = rw (e, length-items (rowAt rows) t) (sym (leaves-late (given nodes rows s n t) n0 t marks (lateNumber nodes rows marks n t) (afterIn nodes rows marks n t)))
+  refine-out = rw (e, length-items (rowAt rows) t) (sym (leaves-late (given nodes rows s n t) n0 t marks (lateNumber nodes rows marks n t) (afterIn nodes rows marks n t)))
 
   pub work-refused : (r : Answer) → (k ≡ 0 → ⊥) → r ≡ answer k n t 0 → outcome r nodes rows s ≡ refineOut newest (given nodes rows s n t) n0 marks
-  work-refused r o f = leaves-refused nodes rows s n t _ z k r o f ∙ refine-leaves
+  work-refused r o f = leaves-refused nodes rows s n t _ z k r o f ∙ refine-out
 
   pub work-done : (r : Answer) (a : List ℤ) (b s′ : List ℕ) (n1 t1 : ℕ) → k ≡ 0 → (k ≡ 0 → Planned nodes rows s′ marks n t n1 t1) →
       bothTables a b ≡ carried nodes rows s′ n t n1 → r ≡ answer 0 n1 t1 0 → outcome r a b s ≡ refineOut newest (given nodes rows s n t) n0 marks
@@ -271,7 +271,7 @@ module _ (nodes : List ℤ) (rows s marks : List ℕ) (n0 n t k : ℕ) (z : s �
       leaves-done nodes rows s n t (afterIn nodes rows marks n t) z r a b n1 t1 (d .nodes-after) (d .rows-after)
       (ap (λ (y : Pair). y .nodes) g ∙ ap (λ v. filled (pos 0) (length nodes) (flatNodes v)) (d .nodes-are))
       (ap (λ (y : Pair). y .rows) g ∙ ap (λ v. filled 0 (length rows) (flatRows v)) (d .rows-are)) h
-      ∙ rw q at refine-leaves
+      ∙ rw q at refine-out
 
 pub refined-call : (nodes a : List ℤ) (rows b s s₁ s₂ marks : List ℕ) (n0 n t len : ℕ) (r : Answer) → s₁ ≡ replicate (length s) 0 →
     outcome r a b s₁ ≡ refineOut newest (given nodes rows s₁ n t) n0 marks → s₂ ≡ replicate len 0 → len ≡ length s₁ →

@@ -12,6 +12,7 @@ use Rattle.lists.specs.Lists.{cases, consIf}
 use Rattle.lists.specs.Search.{items, iter}
 use Rattle.lists.specs.IterLaw.{length-items, getD-items}
 use Rattle.lists.specs.ItemsLaw.{items-snoc, items-agree, iter-carries}
+use Rattle.lists.specs.PartsLaw.{consIf-append}
 use Rattle.meaning.specs.declared.Place.{Place}
 use Rattle.meaning.specs.declared.Tri.{Tri}
 use Rattle.meaning.specs.Mesh.{Mesh, Edge, at, edge, base, origin}
@@ -40,9 +41,9 @@ middle-comm a b = rw (+ℤ-comm (a .x) (b .x), +ℤ-comm (a .y) (b .y))
 -- m is a mesh whose first n places are the table's
 module _ (nodes : List ℤ) (n : ℕ) (m : Mesh) (same : (k : ℕ) → k < n → at m k ≡ placeAt nodes k) where
   -- a function of two places, either way round, at the ends of an edge
-  either-way : {B : Type 0} (f : Place → Place → B) → ((a b : Place) → f a b ≡ f b a) → (x y : ℕ) → x < n → y < n →
+  place-either-way : {B : Type 0} (f : Place → Place → B) → ((a b : Place) → f a b ≡ f b a) → (x y : ℕ) → x < n → y < n →
       f (at m (min x y)) (at m (max x y)) ≡ f (placeAt nodes x) (placeAt nodes y)
-  either-way f comm x y a b = go (ltb y x) refl
+  place-either-way f comm x y a b = go (ltb y x) refl
     where
       go : (t : Bool) → ltb y x ≡ t → f (at m (min x y)) (at m (max x y)) ≡ f (placeAt nodes x) (placeAt nodes y)
       go true e =
@@ -58,11 +59,11 @@ module _ (nodes : List ℤ) (n : ℕ) (m : Mesh) (same : (k : ℕ) → k < n →
 
   pub halves-is : (x y : ℕ) → x < n → y < n → halves m (edge x y) ≡ evenBetween (placeAt nodes x) (placeAt nodes y)
   unfolding evenBetween
-  halves-is = either-way evenBetween even-comm
+  halves-is = place-either-way evenBetween even-comm
 
   midpoint-is : (x y : ℕ) → x < n → y < n → midpoint m (edge x y) ≡ middleOf (placeAt nodes x) (placeAt nodes y)
   unfolding middleOf
-  midpoint-is = either-way middleOf middle-comm
+  midpoint-is = place-either-way middleOf middle-comm
 
   -- ---- nodes is the table at first; now it holds the midpoints of es after the old nodes
 
@@ -119,10 +120,6 @@ module _ (nodes : List ℤ) (n : ℕ) (m : Mesh) (same : (k : ℕ) → k < n →
   length-one (suc zero) e h = refl
   length-one (suc (suc f)) e h = absurd (omega arith)
 
-  consIf-append : (t : Bool) (e : Edge) (es : List Edge) → consIf t e es ≡ consIf t e [] ++ es
-  consIf-append true e es = refl
-  consIf-append false e es = refl
-
   -- a row: its note goes on from the edges met before
   holds-row : (es : List Edge) (now : List ℤ) (w : Tri) (c : Note) → Corners n w → c .fm ≤ 1 → c .fu ≤ 1 → c .before ≡ length es → 2 * after n c ≤ length nodes →
       Holds es now → Holds (es ++ metOf w c) (placeThree n w c now)
@@ -139,7 +136,7 @@ module _ (nodes : List ℤ) (n : ℕ) (m : Mesh) (same : (k : ℕ) → k < n →
       let d₂ = holds-edge (es ++ A) _ (c .fu) (ownU n c) (w .p) (w .q) (o .p-in) (o .q-in) (omega arith) (omega arith) d₁ in
       let d₃ = holds-edge ((es ++ A) ++ B) _ (c .fv) (ownV n c) (w .r) (w .p) (o .r-in) (o .p-in) (omega arith) (omega arith) d₂ in
       let f : metOf w c ≡ A ++ (B ++ C) =
-      consIf-append (eqb (c .fm) 1) (base w) _ ∙ ap (λ l. A ++ l) (consIf-append (eqb (c .fu) 1) (edge (w .p) (w .q)) C) in
+      consIf-append (eqb (c .fm) 1) (base w) [] _ ∙ ap (λ l. A ++ l) (consIf-append (eqb (c .fu) 1) (edge (w .p) (w .q)) [] C) in
       let g : es ++ metOf w c ≡ ((es ++ A) ++ B) ++ C = rw f (simp append-assoc) in
       rw g d₃
 

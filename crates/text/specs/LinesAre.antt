@@ -38,17 +38,17 @@ pub row-length : (w : Tri) → length (rowLine w) ≡ 15
 unfolding rowLine hex
 row-length w = refl
 
-joined-length : {A : Type 0} (f : A → List ℕ) (k : ℕ) → ((a : A) → length (f a) ≡ k) → (l : List A) → length (joined f l) ≡ k * length l
-joined-length f k h [] = omega arith
-joined-length f k h (a ∷ l) = length-append (f a) (joined f l) ∙ rw (h a, joined-length f k h l) (omega (arith, mul-suc k (length l)))
+lines-length : {A : Type 0} (f : A → List ℕ) (k : ℕ) → ((a : A) → length (f a) ≡ k) → (l : List A) → length (joined f l) ≡ k * length l
+lines-length f k h [] = omega arith
+lines-length f k h (a ∷ l) = length-append (f a) (joined f l) ∙ rw (h a, lines-length f k h l) (omega (arith, mul-suc k (length l)))
 
 pub all-length : (ns : List ℤ) (rs : List ℕ) (n t : ℕ) → length (allLines ns rs n t) ≡ 19 * n + 15 * t
 unfolding allLines
 all-length ns rs n t =
     length-append (joined nodeLine (items (placeAt ns) 0 n)) (joined rowLine (items (rowAt rs) 0 t)) ∙
     rw (
-      joined-length nodeLine 19 node-length (items (placeAt ns) 0 n),
-      joined-length rowLine 15 row-length (items (rowAt rs) 0 t),
+      lines-length nodeLine 19 node-length (items (placeAt ns) 0 n),
+      lines-length rowLine 15 row-length (items (rowAt rs) 0 t),
       length-items (placeAt ns) n,
       length-items (rowAt rs) t,
     )

@@ -224,8 +224,8 @@ module _ {B : List (Corners ℕ)} (C : Compatible B) {t : ℕ} {lab : ℕ → La
     old-above (suc k) l = omega (arith, old-above k (omega arith), D .increasing k (suc k) (omega arith) l)
 
     -- Every stream meets one new row.
-    covers-after : Covers B t′ lab′
-    covers-after = record { known = known; meets = meets; once = once }
+    covers-coarsened : Covers B t′ lab′
+    covers-coarsened = record { known = known; meets = meets; once = once }
       where
         known : (k : ℕ) → k < t′ → lab′ k .from < length B
         known k l = rw (D .label k l) (go (fate (D .old k)))
@@ -303,8 +303,8 @@ module _ {B : List (Corners ℕ)} (C : Compatible B) {t : ℕ} {lab : ℕ → La
             omega (arith, birth-le-gen (static B C i (rw e at (F .covers .known o lo)) w) h)
 
     -- Nothing hangs afterwards.
-    no-hang-after : (k : ℕ) → k < t′ → (x y : Name) → Edge (corners-of B (lab′ k)) x y → ¬ Present B t′ lab′ (mid x y)
-    no-hang-after k l x y E P = go (fate o)
+    no-hang-coarsened : (k : ℕ) → k < t′ → (x y : Name) → Edge (corners-of B (lab′ k)) x y → ¬ Present B t′ lab′ (mid x y)
+    no-hang-coarsened k l x y E P = go (fate o)
       where
         o : ℕ
         o = D .old k
@@ -376,8 +376,8 @@ module _ {B : List (Corners ℕ)} (C : Compatible B) {t : ℕ} {lab : ℕ → La
     -- COARSENING KEEPS A FOREST.
     pub forest-coarsened : Forest B t′ lab′
     forest-coarsened = record {
-      covers = covers-after;
-      no-hang = no-hang-after;
+      covers = covers-coarsened;
+      no-hang = no-hang-coarsened;
       enough = enough-after (decLe (length B) t′);
       first-from = λ j l. let (lj, e) = first-old (suc j) j (omega arith) l in from-kept j lj ∙ ap (λ (m : ℕ). lab m .from) e ∙ F .first-from j l;
       first-left = λ j l. let (lj, e) = first-old (suc j) j (omega arith) l in allL-anchor (lab′ j .path) .1 (anchor-kept j lj ∙ ap (λ (m : ℕ). anchor (lab m .path)) e ∙ allL-anchor (lab j .path) .0 (F .first-left j l));

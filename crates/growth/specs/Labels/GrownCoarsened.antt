@@ -146,8 +146,8 @@ module _ {B : List (Corners ℕ)} {n₀ n t : ℕ} {rows : ℕ → Corners ℕ} 
             joined d (subst Gone here (record { node = rows o .p; node-below = top; is-name = refl; removed = d }))
             (pair-at G (rows o .p) top (Y .added _ d) (Y .newest _ d) o lo (is-p refl))
 
-    forest-after : Forest B t′ lab-after
-    forest-after = forest-coarsened (G .compatible) (G .forest) gone rows-stay
+    coarser-forest : Forest B t′ lab-after
+    coarser-forest = forest-coarsened (G .compatible) (G .forest) gone rows-stay
 
     -- No node of a new row was removed.
     source-stays : (k : ℕ) → k < t′ → (S : Source k) → (x : ℕ) → Holds x (S .was) → ¬ D x
@@ -156,21 +156,21 @@ module _ {B : List (Corners ℕ)} {n₀ n t : ℕ} {rows : ℕ → Corners ℕ} 
         (record { node = x; node-below = S .was-below x h; is-name = refl; removed = d })
         (record { index = k; below = l; holds = rw (S .was-named) at (holds-named (G .name) h) })
 
-    name-after : ℕ → Name
-    name-after k = G .name (old-node k)
+    name-coarsened : ℕ → Name
+    name-coarsened k = G .name (old-node k)
 
     -- New rows have the names that their labels say.
-    names-after : (k : ℕ) → k < t′ → named name-after (rows′ k) ≡ corners-of B (lab-after k)
-    unfolding name-after
-    names-after k l =
+    names-coarsened : (k : ℕ) → k < t′ → named name-coarsened (rows′ k) ≡ corners-of B (lab-after k)
+    unfolding name-coarsened
+    names-coarsened k l =
         let S = source k l in
         let same : (x : ℕ) → Holds x (S .was) → G .name (old-node (new x)) ≡ G .name x = λ x h. ap (G .name) (node-new x (S .was-below x h) (source-stays k l S x h) .1) in
-        ap (named name-after) (S .now)
+        ap (named name-coarsened) (S .now)
         ∙ (λ i. record { p = same _ (is-p refl) i; q = same _ (is-q refl) i; r = same _ (is-r refl) i })
         ∙ S .was-named
 
-    nodes-after : (k : ℕ) → k < t′ → (x : ℕ) → Holds x (rows′ k) → x < n′
-    nodes-after k l x h = go (source k l)
+    nodes-coarsened : (k : ℕ) → k < t′ → (x : ℕ) → Holds x (rows′ k) → x < n′
+    nodes-coarsened k l x h = go (source k l)
       where
         go : Source k → x < n′
         go S = elim (rw (S .now) at h) [ is-p e ↦ rw e (low _ (is-p refl)) | is-q e ↦ rw e (low _ (is-q refl)) | is-r e ↦ rw e (low _ (is-r refl)) ]
@@ -178,16 +178,16 @@ module _ {B : List (Corners ℕ)} {n₀ n t : ℕ} {rows : ℕ → Corners ℕ} 
             low : (y : ℕ) → Holds y (S .was) → new y < n′
             low y m = node-new y (S .was-below y m) (source-stays k l S y m) .0
 
-    differ-after : (x y : ℕ) → x < n′ → y < n′ → name-after x ≡ name-after y → x ≡ y
-    unfolding name-after
-    differ-after x y lx ly e = sym (node-old x lx .2) ∙ ap new (N .differ _ _ (node-old x lx .0) (node-old y ly .0) e) ∙ node-old y ly .2
+    differ-coarsened : (x y : ℕ) → x < n′ → y < n′ → name-coarsened x ≡ name-coarsened y → x ≡ y
+    unfolding name-coarsened
+    differ-coarsened x y lx ly e = sym (node-old x lx .2) ∙ ap new (N .differ _ _ (node-old x lx .0) (node-old y ly .0) e) ∙ node-old y ly .2
 
-    by-names-after : Named B t′ lab-after n′ name-after rows′
-    by-names-after = record { names = names-after; nodes = nodes-after; differ = differ-after }
+    by-names-after : Named B t′ lab-after n′ name-coarsened rows′
+    by-names-after = record { names = names-coarsened; nodes = nodes-coarsened; differ = differ-coarsened }
 
     -- A node that stays is in a row afterwards.
     used-after : (k : ℕ) → k < n′ → (j : ℕ) × (j < t′) × Holds k (rows′ j)
-    unfolding name-after
+    unfolding name-coarsened
     used-after k l =
         let (lx, stays, _) = node-old k l in
         let (j, lj, h) = G .used (old-node k) lx in
@@ -202,12 +202,12 @@ module _ {B : List (Corners ℕ)} {n₀ n t : ℕ} {rows : ℕ → Corners ℕ} 
 
     -- COARSENING KEEPS A GROWN MESH.
     pub grown-coarsened : Grown B n₀ n′ t′ rows′ place′
-    unfolding name-after
+    unfolding name-coarsened
     grown-coarsened = record {
       compatible = G .compatible;
-      name = name-after;
+      name = name-coarsened;
       lab = lab-after;
-      forest = forest-after;
+      forest = coarser-forest;
       by-names = by-names-after;
       enough = omega (arith, M .node-count, base-kept n₀ (omega arith), total-mono (keep D (Y .decided)) n₀ n (G .enough));
       base-name = λ k l. ap (G .name) (base-stays k l) ∙ G .base-name k l;

@@ -1,5 +1,5 @@
 use Rattle.mesh.specs.Judge.{zeroed}
-use Rattle.mesh.specs.Check.{check-call}
+use Rattle.mesh.specs.Check.{checked-call}
 use borrow.Author.Needs.{needs}
 use Rattle.mesh.proofs.check.Statement.{statement}
 use Rattle.mesh.proofs.check.Tie as tie
@@ -12,7 +12,7 @@ returns c =
     let end = c .before .before in
     let judge = end .before .before .before .before in
     let clear = judge .before .before .before .before .before .before in
-    check-call _ _ _ _ _ _ _ _ _ (clear .clear .ensures) (judge .check-number .ensures) (end .clear2 .ensures) (end .before .before .before .scratch2 .given)
+    checked-call _ _ _ _ _ _ _ _ _ (clear .clear .ensures) (judge .check-number .ensures) (end .clear2 .ensures) (end .before .before .before .scratch2 .given)
 
 pub check-spec : {M : Type 1} → statement M
 check-spec =

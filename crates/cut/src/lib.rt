@@ -14,7 +14,7 @@ use meaning::Tri;
 use notes::Note;
 
 // The rows that one triangle yields, and their number.
-pub struct Children {
+struct Children {
     pub rows: [u32; 12],
     pub count: usize,
 }

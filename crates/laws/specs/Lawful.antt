@@ -289,7 +289,7 @@ refusal-lowest m = record { applies = whole .applies; no-lower = λ j a. whole .
         )
 
 -- one number is the lowest
-lowest-one : {m : Mesh} (j k : ℕ) → Lowest m j → Lowest m k → j ≡ k
+pub lowest-one : {m : Mesh} (j k : ℕ) → Lowest m j → Lowest m k → j ≡ k
 lowest-one zero zero a b = refl
 lowest-one zero (suc k) a b = absurd (omega (arith, a .no-lower (suc k) (b .applies (omega arith))))
 lowest-one (suc j) zero a b = absurd (omega (arith, b .no-lower (suc j) (a .applies (omega arith))))

@@ -13,9 +13,9 @@ use Rattle.tables.specs.Sized.{Sized, indexAt}
 use Rattle.tables.specs.Ready.{Ready}
 
 -- what is known of scratch after the judge: no note is left, and after number 0 the index holds the first t rows
-pub record Judged (f : Fault) (s : List ℕ) (nc : ℕ) (tri : List ℕ) (t : ℕ) : Type 0 where
-  pub notes : take (indexAt nc (length tri)) s ≡ replicate (indexAt nc (length tri)) 0
-  pub ready : f .number ≡ 0 → Ready s nc tri t
+pub record Judged (f : Fault) (s : List ℕ) (nc : ℕ) (rows : List ℕ) (t : ℕ) : Type 0 where
+  pub notes : take (indexAt nc (length rows)) s ≡ replicate (indexAt nc (length rows)) 0
+  pub ready : f .number ≡ 0 → Ready s nc rows t
 
 -- ---- a is what a search gave, f what it is by its contract
 
@@ -41,28 +41,28 @@ take-zeros (suc k) (suc m) h = ap (λ (l : List ℕ). 0 ∷ l) (take-zeros k m (
 zero-notes : (s : List ℕ) (nc tl : ℕ) → Sized nc tl (length s) → s ≡ replicate (length s) 0 → take (indexAt nc tl) s ≡ replicate (indexAt nc tl) 0
 zero-notes s nc tl z e = ap (take (indexAt nc tl)) e ∙ take-zeros (indexAt nc tl) (length s) (omega (arith, z))
 
-module _ (s tri : List ℕ) (nc t : ℕ) (z : Sized nc (length tri) (length s)) (e : s ≡ replicate (length s) 0) where
+module _ (s rows : List ℕ) (nc t : ℕ) (z : Sized nc (length rows) (length s)) (e : s ≡ replicate (length s) 0) where
   -- nothing was written
-  pub judged-early : (f : Fault) → 0 < f .number → Judged f s nc tri t
-  judged-early f h = record { notes = zero-notes s nc (length tri) z e; ready = λ q. absurd (omega arith) }
+  pub judged-early : (f : Fault) → 0 < f .number → Judged f s nc rows t
+  judged-early f h = record { notes = zero-notes s nc (length rows) z e; ready = λ q. absurd (omega arith) }
 
   -- rows joined the index
-  pub judged-late : (f : Fault) (s′ : List ℕ) → take (indexAt nc (length tri)) s′ ≡ take (indexAt nc (length tri)) s → 0 < f .number → Judged f s′ nc tri t
-  judged-late f s′ g h = record { notes = g ∙ zero-notes s nc (length tri) z e; ready = λ q. absurd (omega arith) }
+  pub judged-late : (f : Fault) (s′ : List ℕ) → take (indexAt nc (length rows)) s′ ≡ take (indexAt nc (length rows)) s → 0 < f .number → Judged f s′ nc rows t
+  judged-late f s′ g h = record { notes = g ∙ zero-notes s nc (length rows) z e; ready = λ q. absurd (omega arith) }
 
   -- and marks came and went
-  pub judged-last : (f : Fault) (s′ s″ : List ℕ) → take (indexAt nc (length tri)) s′ ≡ take (indexAt nc (length tri)) s → s″ ≡ s′ → 0 < f .number → Judged f s″ nc tri t
+  pub judged-last : (f : Fault) (s′ s″ : List ℕ) → take (indexAt nc (length rows)) s′ ≡ take (indexAt nc (length rows)) s → s″ ≡ s′ → 0 < f .number → Judged f s″ nc rows t
   judged-last f s′ s″ g q h = judged-late f s″ (rw q g) h
 
   -- no number applies
-  pub judged-right : (f : Fault) (s′ s″ : List ℕ) (c : Found) → take (indexAt nc (length tri)) s′ ≡ take (indexAt nc (length tri)) s →
-      (c ≡ Nothing → Ready s′ nc tri t) → c ≡ Nothing → s″ ≡ s′ → Judged f s″ nc tri t
-  judged-right f s′ s″ c g r h q = record { notes = rw q (g ∙ zero-notes s nc (length tri) z e); ready = λ k. rw q (r h) }
+  pub judged-right : (f : Fault) (s′ s″ : List ℕ) (c : Found) → take (indexAt nc (length rows)) s′ ≡ take (indexAt nc (length rows)) s →
+      (c ≡ Nothing → Ready s′ nc rows t) → c ≡ Nothing → s″ ≡ s′ → Judged f s″ nc rows t
+  judged-right f s′ s″ c g r h q = record { notes = rw q (g ∙ zero-notes s nc (length rows) z e); ready = λ k. rw q (r h) }
 
   -- the marks have room
-  pub front-zero : (s′ : List ℕ) (n : ℕ) → take (indexAt nc (length tri)) s′ ≡ take (indexAt nc (length tri)) s → n ≤ nc → take n s′ ≡ replicate n 0
+  pub front-zero : (s′ : List ℕ) (n : ℕ) → take (indexAt nc (length rows)) s′ ≡ take (indexAt nc (length rows)) s → n ≤ nc → take n s′ ≡ replicate n 0
   front-zero s′ n g b =
-      let h : n ≤ indexAt nc (length tri) = omega arith in
-      sym (take-take n (indexAt nc (length tri)) s′ h)
-      ∙ ap (take n) (g ∙ zero-notes s nc (length tri) z e)
-      ∙ take-zeros n (indexAt nc (length tri)) h
+      let h : n ≤ indexAt nc (length rows) = omega arith in
+      sym (take-take n (indexAt nc (length rows)) s′ h)
+      ∙ ap (take n) (g ∙ zero-notes s nc (length rows) z e)
+      ∙ take-zeros n (indexAt nc (length rows)) h

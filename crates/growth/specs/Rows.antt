@@ -11,12 +11,12 @@ use lib.ListN.{length, getD, length-map, List·getD-map}
 use borrow.Author.Tests.{eqb-true, eqb-false, eq-eqb}
 use Rattle.lists.specs.ListsLaw.{clash, or-left, or-right, All-at, All-getD, any-at, any-row}
 use Rattle.lists.specs.MembersLaw.{mem-at, at-mem, count-some}
-use Rattle.lists.specs.Tally.{tally, tally-at}
 use Rattle.meaning.specs.declared.Tri.{Tri}
 use Rattle.meaning.specs.Mesh.{Mesh, tri, arrow, edge, edges, sameEdge, holdsNode, holdsEdge}
 use Rattle.meaning.specs.Lawful.{Lawful, Named, rowOf}
 use Rattle.meaning.specs.Lawful as Meaning
 use Rattle.laws.specs.Edges.{edge-comm, sameEdge-eq, sameEdge-refl, hits, hit-self, count-arrows}
+use Rattle.laws.specs.Pairs.{two-places}
 use Rattle.growth.specs.Labels.Names.{Same, straight, crossed}
 use Rattle.growth.specs.Labels.Corners.{Corners, row, Holds, is-p, is-q, is-r, Edge, edge-qr, edge-pq, edge-rp, Arrow, arrow-qr, arrow-pq, arrow-rp, Distinct}
 use Rattle.growth.specs.Labels.Levels.{Compatible}
@@ -89,12 +89,6 @@ held-edge : (t : Tri) (a b : ℕ) → Edge (three t) a b → holdsEdge (edge a b
 held-edge t a b h = any-at (sameEdge (edge a b)) (sameEdge-refl (edge a b)) (edge-mem t a b h)
 
 -- ---- arrows
-
-two-places : {A : Type 0} (f : A → ℕ) (l : List A) (d : A) (j k : ℕ) → j < k → k < length l → f (getD l j d) + f (getD l k d) ≤ tally f l
-two-places f [] d j k h l = absurd (omega arith)
-two-places f (x ∷ xs) d j zero h l = absurd (omega arith)
-two-places f (x ∷ xs) d zero (suc k) h l = omega (arith, tally-at f (at-mem xs k d (omega arith)))
-two-places f (x ∷ xs) d (suc j) (suc k) h l = omega (arith, two-places f xs d j k (omega arith) (omega arith))
 
 arrow-hits : (t : Tri) (a b : ℕ) → Arrow (three t) a b → 1 ≤ hits (arrow a b) t
 arrow-hits t a b (arrow-pq e f) = rw (e, f) (omega (arith, hit-self (t .p) (t .q)))

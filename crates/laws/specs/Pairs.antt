@@ -85,7 +85,7 @@ but-length {u} {ts} i h =
     omega arith
 
 -- two members of a sum
-two-places : {A : Type 0} (f : A → ℕ) (l : List A) (d : A) (j k : ℕ) → j < k → k < length l → f (getD l j d) + f (getD l k d) ≤ tally f l
+pub two-places : {A : Type 0} (f : A → ℕ) (l : List A) (d : A) (j k : ℕ) → j < k → k < length l → f (getD l j d) + f (getD l k d) ≤ tally f l
 two-places f [] d j k h l = absurd (omega arith)
 two-places f (x ∷ xs) d j zero h l = absurd (omega arith)
 two-places f (x ∷ xs) d zero (suc k) h l = omega (arith, tally-at f (at-mem xs k d (omega arith)))

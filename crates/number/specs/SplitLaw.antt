@@ -86,7 +86,7 @@ module _ (ns : List Place) (l : List ℕ) (t : ℕ) (law : Lawful (mesh ns (item
   scan-is-split = refl
 
   notes-say : (i : ℕ) → i < t → noteAt (numberedNotes .table) i ≡ noteIn l member i
-  notes-say i h = reached .done i h
+  notes-say i h = reached .below-noted i h
 
   -- an edge of a row is to be split exactly if it is among the split edges
   among : (i : ℕ) → i < t → {a b : ℕ} → Side (rowAt l i) a b → member (edge a b) ≡ memEdge (edge a b) splitSet

@@ -110,18 +110,14 @@ module _ (l : List ℕ) (t b : ℕ) (u : t ≤ b) where
 -- ---- so the index stays
 
 module _ (l s m : List ℕ) (nc t : ℕ) (fits : 3 * t ≤ length l) (r : Ready s nc l t) where
-  rows-below-index : t ≤ indexAt nc (length l)
-  rows-below-index = omega arith
+  still-ready : (m′ : List ℕ) → m ≡ m′ → (t ≤ indexAt nc (length l) → SameFrom (indexAt nc (length l)) s m′) → Ready m nc l t
+  still-ready m′ e same = let k = same (omega arith) in ready-kept s m l nc t (ap length e ∙ k .0) (ap (drop (indexAt nc (length l))) e ∙ k .1) r
 
   pub ready-note : (j : ℕ) → j < t → m ≡ set s j 1 → Ready m nc l t
-  ready-note j h e = let k = put-kept l t (indexAt nc (length l)) rows-below-index j s h in ready-kept s m l nc t (ap length e ∙ k .0) (ap (drop (indexAt nc (length l))) e ∙ k .1) r
+  ready-note j h e = still-ready _ e (λ u. put-kept l t (indexAt nc (length l)) u j s h)
 
   pub ready-drawn : (marks : List ℕ) (i : ℕ) → i < t → m ≡ drawMarked l t marks i s → Ready m nc l t
-  ready-drawn marks i h e =
-      let k = marked-kept l t (indexAt nc (length l)) rows-below-index marks i s h in
-      ready-kept s m l nc t (ap length e ∙ k .0) (ap (drop (indexAt nc (length l))) e ∙ k .1) r
+  ready-drawn marks i h e = still-ready _ e (λ u. marked-kept l t (indexAt nc (length l)) u marks i s h)
 
   pub ready-closed : (marks : List ℕ) → m ≡ iter (drawMarked l t marks) 0 t s → Ready m nc l t
-  ready-closed marks e =
-      let k = close-kept l t (indexAt nc (length l)) rows-below-index marks s in
-      ready-kept s m l nc t (ap length e ∙ k .0) (ap (drop (indexAt nc (length l))) e ∙ k .1) r
+  ready-closed marks e = still-ready _ e (λ u. close-kept l t (indexAt nc (length l)) u marks s)

@@ -3,28 +3,26 @@
 use mathlib.Core.Path.{_≡_, refl, sym, ap, _∙_, subst}
 use mathlib.Core.Logic.{_⊎_, inl, inr}
 use mathlib.Core.Bool.{true}
-use mathlib.Core.List.{List, _∷_, _++_, List·Memᴰ, List·Memᴰ·head, List·Memᴰ·tail}
-use Prim.Native.Nat.{ℕ, _+_, _≤_, _<_, min, max}
+use mathlib.Core.List.{List, List·Memᴰ, List·Memᴰ·head, List·Memᴰ·tail}
+use Prim.Native.Nat.{ℕ, _<_, min, max}
 use native.Mathlib.Omega.{arith}
-use native.Mathlib.Decide.{ℕ-discrete, decLt}
+use native.Mathlib.Decide.{ℕ-discrete}
 use borrow.Author.Tests.{eqb-true, eq-eqb}
 use lib.Dec.{eqb}
 use lib.ListN.{length}
 use Rattle.lists.specs.declared.Found.{Found}
 use Rattle.lists.specs.declared.Found.the-variants.{At, Nothing}
-use Rattle.lists.specs.Lists.{any, count, joined}
-use Rattle.lists.specs.ListsLaw.{clash, and-both, and-left, and-right, any-at, any-row, All-at, count-append}
-use Rattle.lists.specs.MembersLaw.{any-count, joined-in}
+use Rattle.lists.specs.ListsLaw.{clash, and-both, and-left, and-right, any-at, any-row, All-at}
 use Rattle.lists.specs.Search.{lowest, items}
 use Rattle.lists.specs.SearchLaw.{lowest-below, lowest-true, lowest-nothing}
-use Rattle.lists.specs.ByNumberLaw.{items-in, items-around}
-use Rattle.lists.specs.ItemsLaw.{joined-append}
+use Rattle.lists.specs.ByNumberLaw.{items-in}
 use Rattle.meaning.specs.declared.Tri.{Tri}
 use Rattle.meaning.specs.declared.Place.{Place}
 use Rattle.meaning.specs.Mesh.{Edge, Arrow, edge, edges, base, arrow, arrows, sameArrow, holdsArrow, mesh}
 use Rattle.meaning.specs.Lawful.{Lawful, Named}
 use Rattle.meaning.specs.Tables.{rowAt}
 use Rattle.laws.specs.Edges.{edge-comm}
+use Rattle.laws.specs.Pairs.{arrows-once, holder-item}
 use Rattle.tables.specs.Arrow.{arrowAt}
 use Rattle.close.specs.Drawn.{acrossRow}
 
@@ -125,35 +123,10 @@ module _ (l : List ℕ) (t : ℕ) (once : OnceAt l t) where
 
 -- ---- a lawful mesh, by number
 
-once-at : (l : List ℕ) (t : ℕ) → ((e : Arrow) → count (sameArrow e) (joined arrows (items (rowAt l) 0 t)) ≤ 1) → OnceAt l t
-unfolding arrowAt
-once-at l t few i j x y h k p q = go (decLt i j) (decLt j i)
-  where
-    twice : (a b : ℕ) → a < b → b < t → holdsArrow (arrow x y) (rowAt l a) ≡ true → holdsArrow (arrow x y) (rowAt l b) ≡ true → ⊥
-    twice a b c d u v =
-        let e : Arrow = arrow x y in
-        let r = any-row (sameArrow e) (arrows (rowAt l a)) u in
-        let s : any (sameArrow e) (joined arrows (items (rowAt l) 0 b)) ≡ true =
-        any-at (sameArrow e) (r .2) (joined-in arrows (items-in (rowAt l) b a c) (r .1)) in
-        let m : count (sameArrow e) (joined arrows (items (rowAt l) 0 t)) ≡
-        count (sameArrow e) (joined arrows (items (rowAt l) 0 b)) + (count (sameArrow e) (arrows (rowAt l b)) + count (sameArrow e) (joined arrows (items (rowAt l) (b + 1) t))) =
-        ap (λ (ts : List Tri). count (sameArrow e) (joined arrows ts)) (items-around (rowAt l) t b d)
-        ∙ ap (count (sameArrow e)) (joined-append arrows (items (rowAt l) 0 b) (rowAt l b ∷ items (rowAt l) (b + 1) t))
-        ∙ count-append (sameArrow e) (joined arrows (items (rowAt l) 0 b)) (arrows (rowAt l b) ++ joined arrows (items (rowAt l) (b + 1) t))
-        ∙ ap (λ (n : ℕ). count (sameArrow e) (joined arrows (items (rowAt l) 0 b)) + n) (count-append (sameArrow e) (arrows (rowAt l b)) (joined arrows (items (rowAt l) (b + 1) t))) in
-        let f = any-count (sameArrow e) (joined arrows (items (rowAt l) 0 b)) s in
-        let g = any-count (sameArrow e) (arrows (rowAt l b)) v in
-        let o = few e in
-        omega arith
-
-    go : Dec (i < j) → Dec (j < i) → i ≡ j
-    go (yes a) b = absurd (twice i j a k p q)
-    go (no a) (yes b) = absurd (twice j i b h q p)
-    go (no a) (no b) = omega arith
-
 module _ (ns : List Place) (l : List ℕ) (t : ℕ) (law : Lawful (mesh ns (items (rowAt l) 0 t))) where
   pub lawful-once : OnceAt l t
-  lawful-once = once-at l t (law .noTwice)
+  unfolding arrowAt
+  lawful-once i j x y = holder-item (arrow x y) (rowAt l) t (arrows-once (mesh ns (items (rowAt l) 0 t)) law) i j
 
   pub lawful-named : (i : ℕ) → i < t → Named (length ns) (rowAt l i)
   lawful-named i h = All-at (law .named) (items-in (rowAt l) t i h)

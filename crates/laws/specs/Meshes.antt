@@ -10,10 +10,10 @@ use Rattle.lists.specs.ListsLaw.{All-at}
 use Rattle.lists.specs.Search.{items}
 use Rattle.lists.specs.IterLaw.{length-items, getD-items}
 use Rattle.lists.specs.ByNumberLaw.{items-in}
-use Rattle.meaning.specs.Mesh.{Mesh, Arrow, mesh, at, origin, tri, holdsArrow}
+use Rattle.meaning.specs.Mesh.{Mesh, Arrow, mesh, at, origin, holdsArrow}
 use Rattle.meaning.specs.Lawful.{Named, Lawful}
 use Rattle.meaning.specs.Tables.{placeAt, rowAt, given, meshOf}
-use Rattle.laws.specs.Pairs.{RowsOnce, arrows-once, row-once, holder-place}
+use Rattle.laws.specs.Pairs.{RowsOnce, arrows-once, row-once, holder-item}
 
 -- the first n nodes and t rows
 unfoldable pub meshAt : List ℤ → List ℕ → ℕ → ℕ → Mesh
@@ -51,10 +51,7 @@ module _ (nodes : List ℤ) (rows : List ℕ) (n t : ℕ) where
     -- a directed edge is in one row
     pub holder-at : (e : Arrow) (i j : ℕ) → i < t → j < t → holdsArrow e (rowAt rows i) ≡ true → holdsArrow e (rowAt rows j) ≡ true → i ≡ j
     unfolding meshAt
-    holder-at e i j h k p q =
-        let l : length (items (rowAt rows) 0 t) ≡ t = length-items (rowAt rows) t in
-        holder-place e (items (rowAt rows) 0 t) (arrows-once (meshAt nodes rows n t) law) i j (omega arith) (omega arith)
-        (rw (getD-items (rowAt rows) t i (tri 0 0 0) h) p) (rw (getD-items (rowAt rows) t j (tri 0 0 0) k) q)
+    holder-at e = holder-item e (rowAt rows) t (arrows-once (meshAt nodes rows n t) law)
 
     pub fair : 3 * t ≤ length rows → length rows ≤ 262_144 → Fair rows n t
     unfolding meshAt

@@ -13,6 +13,8 @@ use borrow.Author.Tests.{eq-eqb}
 use Rattle.lists.specs.Lists.{only, All, nil, cons}
 use Rattle.lists.specs.ListsLaw.{clash, and-both, or-left, or-right, All-at, All-of, FirstIs, no-row, row, first-is}
 use Rattle.lists.specs.MembersLaw.{at-mem, only-in, only-keeps}
+use Rattle.lists.specs.Search.{items}
+use Rattle.lists.specs.IterLaw.{length-items, getD-items}
 use Rattle.lists.specs.Tally.{bit, tally, tally-at, tally-le, tally-length, tally-only, tally-parts, only-le, bits-some, pick-one}
 use Rattle.meaning.specs.declared.Tri.{Tri}
 use Rattle.meaning.specs.Mesh.{Mesh, Arrow, tri, arrow, sameArrow, sameTri, holdsArrow}
@@ -123,6 +125,12 @@ holder-place e ts o i j h k p q = go (decLt i j) (decLt j i)
     go (yes l) b = absurd (twice i j l k p q)
     go (no a) (yes l) = absurd (twice j i l h q p)
     go (no a) (no b) = omega arith
+
+pub holder-item : (e : Arrow) (rowBy : ℕ → Tri) (t : ℕ) → ArrowsOnce (items rowBy 0 t) → (i j : ℕ) → i < t → j < t →
+    holdsArrow e (rowBy i) ≡ true → holdsArrow e (rowBy j) ≡ true → i ≡ j
+holder-item e rowBy t o i j h k p q =
+    let l : length (items rowBy 0 t) ≡ t = length-items rowBy t in
+    holder-place e (items rowBy 0 t) o i j (omega arith) (omega arith) (rw (getD-items rowBy t i (tri 0 0 0) h) p) (rw (getD-items rowBy t j (tri 0 0 0) k) q)
 
 -- where z is its newest vertex, it is (z, c, a)
 pub third-holds : (u : Tri) (a z : ℕ) → u .r ≡ a → u .p ≡ z → holdsArrow (arrow a z) u ≡ true

@@ -12,9 +12,9 @@ use meaning::Tri;
 use notes::Note;
 
 // Of an edge of a row: 1 where it is split, and 1 where it is split and no lower row holds it.
-pub struct Met {
-    pub on: u32,
-    pub first: u32,
+struct Met {
+    on: u32,
+    first: u32,
 }
 
 fn split_bit(scratch: &[u32], j: usize) -> u32

@@ -8,9 +8,9 @@ ghost use Rattle.plane.specs.Plane.{Short, Spans, flatTri};
 use meaning::Place;
 
 // From one place to another.
-pub struct Span {
-    pub x: i64,
-    pub y: i64,
+struct Span {
+    x: i64,
+    y: i64,
 }
 
 fn from_to(a: Place, b: Place) -> Span

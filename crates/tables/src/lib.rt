@@ -80,7 +80,7 @@ pub fn clear_rows_from(rows: &mut [u32], t: usize)
 }
 
 // All of the node table is zero after.
-pub fn clear_nodes(nodes: &mut [i32])
+fn clear_nodes(nodes: &mut [i32])
     ensures { λ _. ⌜ now (nodes .exit) ≡ replicate (length (now (nodes .entry))) (pos 0) ⌝ }
 {
     let mut i = 0;

@@ -1,6 +1,4 @@
-pub mod Sizes
-pub mod Marks
-pub mod Judge
+pub mod Leaving
 pub mod Check
 pub mod Refine
 pub mod RefineLaw

@@ -19,7 +19,7 @@ use Rattle.notes.specs.Met.{after}
 use Rattle.nodes.specs.Nodes.{Standing, oddAt, placeRow}
 use Rattle.cut.specs.Cutting.{cutAt, addedAt, cutAll, splits}
 use Rattle.mesh.specs.declared.refining.Plan.{Plan}
-use Rattle.mesh.specs.Judge.{meshIn, early}
+use Rattle.judging.specs.Judge.{meshIn, early}
 
 -- the split edges of the mesh in the tables
 abbrev pub splitIn : List ℤ → List ℕ → List ℕ → ℕ → ℕ → List Edge

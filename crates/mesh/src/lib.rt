@@ -7,8 +7,6 @@ ghost use Rattle.meaning.specs.Calls.{checkOut, refineOut, coarsenOut};
 ghost use Rattle.mesh.specs.Check.{checkNumber};
 use meaning::Answer;
 
-mod marks; // marks.rt: 2
-mod judging; // judging.rt: 1 to 7, for every call
 mod refining; // refining.rt: the steps of refine
 mod coarsening; // coarsening.rt: the steps of coarsen
 

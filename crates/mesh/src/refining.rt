@@ -4,7 +4,7 @@ ghost use lib.ListN.{length, replicate};
 ghost use Rattle.meaning.specs.Split.{newest};
 ghost use Rattle.meaning.specs.Tables.{given, outcome};
 ghost use Rattle.meaning.specs.Calls.{refineOut};
-ghost use Rattle.mesh.specs.Judge.{Admitted};
+ghost use Rattle.judging.specs.Judge.{Admitted};
 ghost use Rattle.mesh.specs.Refine.{weighed, Weighty, lateNumber, refineNumber, Planned, Carry, bothTables, carried};
 use meaning::Answer;
 
@@ -67,7 +67,7 @@ fn judge(
     ensures number { λ r. ⌜ r .number ≡ refineNumber (given (now (nodes .entry)) (now (rows .entry)) (now (scratch .entry)) n t) n0 (now (marks .entry)) ⌝ }
     ensures plan { λ r. ⌜ (r .number ≡ 0 → Planned (now (nodes .entry)) (now (rows .entry)) (now (scratch .exit)) (now (marks .entry)) n t (r .n) (r .t)) ⌝ }
 {
-    let k = super::judging::judge(nodes, rows, scratch, marks, t, n0, n, t);
+    let k = judging::judge(nodes, rows, scratch, marks, t, n0, n, t);
     if k != 0 {
         return Plan { number: k, n, t };
     }
@@ -110,8 +110,8 @@ pub fn work(
 {
     let p = judge(nodes, rows, scratch, marks, n0, n, t);
     if p.number != 0 {
-        return super::judging::said(p.number, n, t);
+        return judging::said(p.number, n, t);
     }
     carry_out(nodes, rows, scratch, n, t, p.n, p.t);
-    super::judging::said(0, p.n, p.t)
+    judging::said(0, p.n, p.t)
 }

@@ -1,7 +1,7 @@
-use Rattle.mesh.specs.Marks.{marks-fit-is}
+use Rattle.judging.specs.Marks.{marks-fit-is}
 use borrow.Author.Needs.{needs}
-use Rattle.mesh.proofs.marks.marks_fit.Statement.{statement}
-use Rattle.mesh.proofs.marks.marks_fit.Tie as tie
+use Rattle.judging.proofs.marks.marks_fit.Statement.{statement}
+use Rattle.judging.proofs.marks.marks_fit.Tie as tie
 
 returns : tie.Need-returns
 returns c = search (needs, marks-fit-is)

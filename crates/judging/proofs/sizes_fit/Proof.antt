@@ -1,7 +1,7 @@
-use Rattle.mesh.specs.Sizes.{fitting, fitting-made}
+use Rattle.judging.specs.Sizes.{fitting, fitting-made}
 use borrow.Author.Needs.{needs}
-use Rattle.mesh.proofs.judging.sizes_fit.Statement.{statement}
-use Rattle.mesh.proofs.judging.sizes_fit.Tie as tie
+use Rattle.judging.proofs.sizes_fit.Statement.{statement}
+use Rattle.judging.proofs.sizes_fit.Tie as tie
 
 returns : tie.Need-returns
 unfolding fitting

@@ -1,8 +1,8 @@
 use native.Mathlib.Omega.{arith}
-use Rattle.mesh.specs.Judge.{early-one, early-two, early-fault, fits-sizes, fits-nodes, fits-rows, admitted}
+use Rattle.judging.specs.Judge.{early-one, early-two, early-fault, fits-sizes, fits-nodes, fits-rows, admitted}
 use borrow.Author.Needs.{needs}
-use Rattle.mesh.proofs.judging.judge.Statement.{statement}
-use Rattle.mesh.proofs.judging.judge.Tie as tie
+use Rattle.judging.proofs.judge.Statement.{statement}
+use Rattle.judging.proofs.judge.Tie as tie
 
 returns : tie.Need-returns
 returns c = (search (needs, early-one), λ e. absurd (omega arith))

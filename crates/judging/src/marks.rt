@@ -4,7 +4,7 @@ ghost use Prim.Native.Nat.{_<_};
 ghost use lib.ListN.{length};
 ghost use Rattle.lists.specs.Search.{lowest};
 ghost use Rattle.meaning.specs.Calls.{marksFit};
-ghost use Rattle.mesh.specs.Marks.{markHigh};
+ghost use Rattle.judging.specs.Marks.{markHigh};
 use lists::Found;
 
 fn high_mark(marks: &[u8], i: usize) -> bool

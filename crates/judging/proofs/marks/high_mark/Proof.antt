@@ -1,7 +1,7 @@
-use Rattle.mesh.specs.Marks.{markHigh}
+use Rattle.judging.specs.Marks.{markHigh}
 use borrow.Author.Needs.{needs}
-use Rattle.mesh.proofs.marks.high_mark.Statement.{statement}
-use Rattle.mesh.proofs.marks.high_mark.Tie as tie
+use Rattle.judging.proofs.marks.high_mark.Statement.{statement}
+use Rattle.judging.proofs.marks.high_mark.Tie as tie
 
 returns : tie.Need-returns
 unfolding markHigh

@@ -2,9 +2,11 @@
 ghost use mathlib.Core.Path.{_≡_};
 ghost use lib.ListN.{length, replicate};
 ghost use Rattle.meaning.specs.Tables.{given, answer};
-ghost use Rattle.mesh.specs.Sizes.{fitting};
-ghost use Rattle.mesh.specs.Judge.{early, Admitted};
+ghost use Rattle.judging.specs.Sizes.{fitting};
+ghost use Rattle.judging.specs.Judge.{early, Admitted};
 use meaning::Answer;
+
+mod marks; // marks.rt: 2
 
 // Not 1, for tables and scratch of these lengths.
 fn sizes_fit(nl: usize, tl: usize, sl: usize, n0: usize, n: usize, t: usize) -> bool
@@ -38,7 +40,7 @@ pub fn judge(
     if !sizes_fit(nodes.len(), rows.len(), scratch.len(), n0, n, t) {
         return 1;
     }
-    if !super::marks::marks_fit(marks, k) {
+    if !marks::marks_fit(marks, k) {
         return 2;
     }
     let f = lawful::lowest_fault(nodes, rows, scratch, n, t);

@@ -1,12 +1,12 @@
-use Rattle.mesh.specs.Marks.{markHigh}
+use Rattle.judging.specs.Marks.{markHigh}
 use Rattle.lists.specs.SearchLaw.{searching}
 use Rattle.lists.specs.Search.{lowest}
 use lib.ListN.{length}
 use Prim.Native.Nat.{_≤_, _-_}
 use mathlib.Core.Path.{_≡_}
 use borrow.Author.Needs.{needs}
-use Rattle.mesh.proofs.marks.first_high.Statement.{statement}
-use Rattle.mesh.proofs.marks.first_high.Tie as tie
+use Rattle.judging.proofs.marks.first_high.Statement.{statement}
+use Rattle.judging.proofs.marks.first_high.Tie as tie
 
 abbrev Inv-loop : tie.InvT-loop
 Inv-loop marks i₀ i = (i ≤ length marks) × (lowest (markHigh marks) i (length marks) ≡ lowest (markHigh marks) 0 (length marks))

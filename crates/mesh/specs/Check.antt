@@ -15,7 +15,7 @@ use Rattle.laws.specs.Lawful.{lawful-refusal}
 use Rattle.lawful.specs.Tests.{clashAt}
 use Rattle.lawful.specs.ClashLaw.{clash-is}
 use Rattle.judging.specs.Judge.{early, Admitted}
-use Rattle.mesh.specs.Leaving.{first-of, number-late, sized-same, zeroed, call-out}
+use Rattle.judging.specs.Leaving.{first-of, number-late, sized-same, zeroed, call-out}
 
 -- as a call that wants no marks and is given none
 unfoldable pub checkNumber : Given → ℕ

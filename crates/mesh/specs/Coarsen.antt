@@ -15,7 +15,7 @@ use Rattle.laws.specs.Meshes.{meshAt}
 use Rattle.gather.specs.Whole as Gather
 use Rattle.gather.specs.declared.Counts.{Counts}
 use Rattle.judging.specs.Judge.{meshIn, early}
-use Rattle.mesh.specs.Leaving.{leaves-late, leaves-refused, leaves-done, leaves-same, call-out}
+use Rattle.judging.specs.Leaving.{leaves-late, leaves-refused, leaves-done, leaves-same, call-out}
 
 pub law-at : (nodes : List ℤ) (rows : List ℕ) (n t : ℕ) → Lawful (meshIn nodes rows n t) → Lawful (meshAt nodes rows n t)
 unfolding meshAt

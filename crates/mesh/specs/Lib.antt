@@ -1,5 +1,2 @@
-pub mod Leaving
 pub mod Check
-pub mod Refine
-pub mod RefineLaw
 pub mod Coarsen

@@ -7,7 +7,6 @@ ghost use Rattle.meaning.specs.Calls.{checkOut, refineOut, coarsenOut};
 ghost use Rattle.mesh.specs.Check.{checkNumber};
 use meaning::Answer;
 
-mod refining; // refining.rt: the steps of refine
 mod coarsening; // coarsening.rt: the steps of coarsen
 
 // The lowest number that applies, or 0; no marks are given, and none are wanted. Scratch is all zero before.

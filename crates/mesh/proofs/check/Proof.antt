@@ -1,4 +1,4 @@
-use Rattle.mesh.specs.Leaving.{zeroed}
+use Rattle.judging.specs.Leaving.{zeroed}
 use Rattle.mesh.specs.Check.{checked-call}
 use borrow.Author.Needs.{needs}
 use Rattle.mesh.proofs.check.Statement.{statement}

@@ -1,5 +1,5 @@
 use Rattle.mesh.specs.Coarsen.{coarsened-call}
-use Rattle.mesh.specs.Leaving.{zeroed}
+use Rattle.judging.specs.Leaving.{zeroed}
 use borrow.Author.Needs.{needs}
 use Rattle.mesh.proofs.coarsen.Statement.{statement}
 use Rattle.mesh.proofs.coarsen.Tie as tie

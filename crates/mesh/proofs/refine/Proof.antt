@@ -1,5 +1,5 @@
-use Rattle.mesh.specs.RefineLaw.{refined-call}
-use Rattle.mesh.specs.Leaving.{zeroed}
+use Rattle.refining.specs.RefineLaw.{refined-call}
+use Rattle.judging.specs.Leaving.{zeroed}
 use borrow.Author.Needs.{needs}
 use Rattle.mesh.proofs.refine.Statement.{statement}
 use Rattle.mesh.proofs.refine.Tie as tie

@@ -1,7 +1,7 @@
-use Rattle.mesh.specs.RefineLaw.{work-refused, work-done}
+use Rattle.refining.specs.RefineLaw.{work-refused, work-done}
 use borrow.Author.Needs.{needs}
-use Rattle.mesh.proofs.refining.work.Statement.{statement}
-use Rattle.mesh.proofs.refining.work.Tie as tie
+use Rattle.refining.proofs.work.Statement.{statement}
+use Rattle.refining.proofs.work.Tie as tie
 
 returns : tie.Need-returns
 returns c =

@@ -1,7 +1,7 @@
-use Rattle.mesh.specs.RefineLaw.{judge-early, judge-late}
+use Rattle.refining.specs.RefineLaw.{judge-early, judge-late}
 use borrow.Author.Needs.{needs}
-use Rattle.mesh.proofs.refining.judge.Statement.{statement}
-use Rattle.mesh.proofs.refining.judge.Tie as tie
+use Rattle.refining.proofs.judge.Statement.{statement}
+use Rattle.refining.proofs.judge.Tie as tie
 
 returns : tie.Need-returns
 returns c = (judge-early _ _ _ _ _ _ _ _ (c .before .before .before .judge .ensures .0) (c .if1 .taken), λ e. absurd (c .if1 .taken e))

@@ -1,7 +1,7 @@
-use Rattle.mesh.specs.RefineLaw.{weigh-odd, weigh-short, weigh-done}
+use Rattle.refining.specs.RefineLaw.{weigh-odd, weigh-short, weigh-done}
 use borrow.Author.Needs.{needs}
-use Rattle.mesh.proofs.refining.weigh.Statement.{statement}
-use Rattle.mesh.proofs.refining.weigh.Tie as tie
+use Rattle.refining.proofs.weigh.Statement.{statement}
+use Rattle.refining.proofs.weigh.Tie as tie
 
 returns : tie.Need-returns
 returns c = weigh-odd _ _ _ _ _ _ _ _ (c .before .before .find-odd .ensures) (c .before .is-found .ensures) (c .if1 .taken)

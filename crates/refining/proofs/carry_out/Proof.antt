@@ -1,8 +1,8 @@
-use Rattle.mesh.specs.RefineLaw.{carry-standing, carry-room, carry-ready}
-use Rattle.mesh.specs.RefineLaw.{carry-done}
+use Rattle.refining.specs.RefineLaw.{carry-standing, carry-room, carry-ready}
+use Rattle.refining.specs.RefineLaw.{carry-done}
 use borrow.Author.Needs.{needs}
-use Rattle.mesh.proofs.refining.carry_out.Statement.{statement}
-use Rattle.mesh.proofs.refining.carry_out.Tie as tie
+use Rattle.refining.proofs.carry_out.Statement.{statement}
+use Rattle.refining.proofs.carry_out.Tie as tie
 
 place-nodes-requires : tie.Need-place-nodes-requires
 place-nodes-requires c κs = (search needs, (search needs, (search needs, (search (needs, carry-standing), search (needs, carry-room)))))

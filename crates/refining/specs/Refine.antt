@@ -18,7 +18,7 @@ use Rattle.notes.specs.Notes.{noteAt}
 use Rattle.notes.specs.Met.{after}
 use Rattle.nodes.specs.Nodes.{Standing, oddAt, placeRow}
 use Rattle.cut.specs.Cutting.{cutAt, addedAt, cutAll, splits}
-use Rattle.mesh.specs.declared.refining.Plan.{Plan}
+use Rattle.refining.specs.declared.Plan.{Plan}
 use Rattle.judging.specs.Judge.{meshIn, early}
 
 -- the split edges of the mesh in the tables

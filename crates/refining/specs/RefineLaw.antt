@@ -38,10 +38,10 @@ use Rattle.number.specs.NumberStep.{ready-numbered}
 use Rattle.number.specs.SplitLaw.{SplitNotes, split-notes, split-length}
 use Rattle.cut.specs.Cutting.{cutAt, cutAll, splits}
 use Rattle.cut.specs.MeshLaw.{cut-mesh, count-rows, count-mesh}
-use Rattle.mesh.specs.declared.refining.Plan.{Plan}
+use Rattle.refining.specs.declared.Plan.{Plan}
 use Rattle.judging.specs.Judge.{meshIn, early, Admitted}
-use Rattle.mesh.specs.Leaving.{first-of, leaves-late, leaves-refused, leaves-done, leaves-same, call-out}
-use Rattle.mesh.specs.Refine.{splitIn, afterIn, fitsIn, planOf, weighed, Weighty, lateNumber, refineNumber, Carry, Pair, bothTables, carried, Planned}
+use Rattle.judging.specs.Leaving.{first-of, leaves-late, leaves-refused, leaves-done, leaves-same, call-out}
+use Rattle.refining.specs.Refine.{splitIn, afterIn, fitsIn, planOf, weighed, Weighty, lateNumber, refineNumber, Carry, Pair, bothTables, carried, Planned}
 
 -- ---- 8 and 9, by the notes: each test of `weigh` as the code has it
 

@@ -5,14 +5,14 @@ ghost use Rattle.meaning.specs.Split.{newest};
 ghost use Rattle.meaning.specs.Tables.{given, outcome};
 ghost use Rattle.meaning.specs.Calls.{refineOut};
 ghost use Rattle.judging.specs.Judge.{Admitted};
-ghost use Rattle.mesh.specs.Refine.{weighed, Weighty, lateNumber, refineNumber, Planned, Carry, bothTables, carried};
+ghost use Rattle.refining.specs.Refine.{weighed, Weighty, lateNumber, refineNumber, Planned, Carry, bothTables, carried};
 use meaning::Answer;
 
 // What refine is to do: 0, and the counts of nodes and rows after; or the number of the refusal.
-pub struct Plan {
-    pub number: u32,
-    pub n: usize,
-    pub t: usize,
+struct Plan {
+    number: u32,
+    n: usize,
+    t: usize,
 }
 
 // ---- 8 and 9, for a mesh whose notes are made: k new nodes

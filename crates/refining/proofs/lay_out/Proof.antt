@@ -1,8 +1,8 @@
-use Rattle.mesh.specs.RefineLaw.{closed-ready, closed-fit}
-use Rattle.mesh.specs.RefineLaw.{notes-fit, marks-long, weighty, late-number, late-plan}
+use Rattle.refining.specs.RefineLaw.{closed-ready, closed-fit}
+use Rattle.refining.specs.RefineLaw.{notes-fit, marks-long, weighty, late-number, late-plan}
 use borrow.Author.Needs.{needs}
-use Rattle.mesh.proofs.refining.lay_out.Statement.{statement}
-use Rattle.mesh.proofs.refining.lay_out.Tie as tie
+use Rattle.refining.proofs.lay_out.Statement.{statement}
+use Rattle.refining.proofs.lay_out.Tie as tie
 
 close-requires : tie.Need-close-requires
 close-requires c κs = (search needs, (search (needs, notes-fit), (search (needs, marks-long), search needs)))

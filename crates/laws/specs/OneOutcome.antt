@@ -6,7 +6,7 @@ use Prim.Native.Nat.{ℕ}
 use lib.IntN.{ℤ}
 use Rattle.meaning.specs.declared.Answer.{Answer}
 use Rattle.meaning.specs.Tables.{Given, Outcome, outcome, answer}
-use Rattle.meaning.specs.Split.{newest}
+use Rattle.meaning.specs.Split.{Way}
 use Rattle.meaning.specs.Calls.{checkOut, refineOut, coarsenOut, restoreOut}
 
 -- two runs of a call that was given the same, and that meets its contract in both
@@ -22,9 +22,10 @@ pub check-one : (g : Given) {a b : Answer} {ns ns′ : List ℤ} {rs rs′ s s�
     outcome a ns rs s ≡ checkOut g → outcome b ns′ rs′ s′ ≡ checkOut g → (a ≡ b) × (ns ≡ ns′) × (rs ≡ rs′) × (s ≡ s′)
 check-one g = one-outcome
 
-pub refine-one : (g : Given) (n0 : ℕ) (marks : List ℕ) {a b : Answer} {ns ns′ : List ℤ} {rs rs′ s s′ : List ℕ} →
-    outcome a ns rs s ≡ refineOut newest g n0 marks → outcome b ns′ rs′ s′ ≡ refineOut newest g n0 marks → (a ≡ b) × (ns ≡ ns′) × (rs ≡ rs′) × (s ≡ s′)
-refine-one g n0 marks = one-outcome
+-- by whatever way
+pub refine-one : (w : Way) (g : Given) (n0 : ℕ) (marks : List ℕ) {a b : Answer} {ns ns′ : List ℤ} {rs rs′ s s′ : List ℕ} →
+    outcome a ns rs s ≡ refineOut w g n0 marks → outcome b ns′ rs′ s′ ≡ refineOut w g n0 marks → (a ≡ b) × (ns ≡ ns′) × (rs ≡ rs′) × (s ≡ s′)
+refine-one w g n0 marks = one-outcome
 
 pub coarsen-one : (g : Given) (n0 : ℕ) (marks : List ℕ) {a b : Answer} {ns ns′ : List ℤ} {rs rs′ s s′ : List ℕ} →
     outcome a ns rs s ≡ coarsenOut g n0 marks → outcome b ns′ rs′ s′ ≡ coarsenOut g n0 marks → (a ≡ b) × (ns ≡ ns′) × (rs ≡ rs′) × (s ≡ s′)
@@ -48,10 +49,10 @@ pub exported-check-one : (g : Given) {r r′ : ℕ} {ns ns′ : List ℤ} {rs rs
     (r ≡ r′) × (ns ≡ ns′) × (rs ≡ rs′) × (s ≡ s′)
 exported-check-one g p q = let (r, n, t, k, ns, rs, s) = one-seen p q in (r, ns, rs, s)
 
-pub exported-refine-one : (g : Given) (n0 : ℕ) (marks : List ℕ) {r r′ n n′ t t′ : ℕ} {ns ns′ : List ℤ} {rs rs′ s s′ : List ℕ} →
-    outcome (answer r n t 0) ns rs s ≡ refineOut newest g n0 marks → outcome (answer r′ n′ t′ 0) ns′ rs′ s′ ≡ refineOut newest g n0 marks →
+pub exported-refine-one : (w : Way) (g : Given) (n0 : ℕ) (marks : List ℕ) {r r′ n n′ t t′ : ℕ} {ns ns′ : List ℤ} {rs rs′ s s′ : List ℕ} →
+    outcome (answer r n t 0) ns rs s ≡ refineOut w g n0 marks → outcome (answer r′ n′ t′ 0) ns′ rs′ s′ ≡ refineOut w g n0 marks →
     (r ≡ r′) × (n ≡ n′) × (t ≡ t′) × (ns ≡ ns′) × (rs ≡ rs′) × (s ≡ s′)
-exported-refine-one g n0 marks p q = let (r, n, t, k, ns, rs, s) = one-seen p q in (r, n, t, ns, rs, s)
+exported-refine-one w g n0 marks p q = let (r, n, t, k, ns, rs, s) = one-seen p q in (r, n, t, ns, rs, s)
 
 pub exported-coarsen-one : (g : Given) (n0 : ℕ) (marks : List ℕ) {r r′ n n′ t t′ : ℕ} {ns ns′ : List ℤ} {rs rs′ s s′ : List ℕ} →
     outcome (answer r n t 0) ns rs s ≡ coarsenOut g n0 marks → outcome (answer r′ n′ t′ 0) ns′ rs′ s′ ≡ coarsenOut g n0 marks →

@@ -12,13 +12,15 @@ use lib.IntN.{natAbs, _+ℤ_}
 use lib.ListN.{length, getD}
 use borrow.Author.Tests.{eqb-true, eqb-false, leb-true, leb-false, le-leb}
 use Rattle.lists.specs.Lists.{all, count, joined, All, nil, cons}
-use Rattle.lists.specs.ListsLaw.{clash, and-both, and-left, and-right, All-imp, All-at, All-getD, all-yes, yes-all}
+use Rattle.lists.specs.ListsLaw.{clash, and-both, and-left, and-right, All-imp, All-at, All-of, All-getD, all-yes, yes-all}
 use Rattle.lists.specs.Tally.{tally}
+use Rattle.meaning.specs.declared.Manner.{Manner}
+use Rattle.meaning.specs.declared.Manner.the-variants.{Newest, AllThree}
 use Rattle.meaning.specs.declared.Tri.{Tri}
 use Rattle.meaning.specs.Mesh.{Mesh, Edge, edges, base, at, total}
 use Rattle.meaning.specs.Lawful.{Lawful, Applies, out-of-range, misnames, occurs-twice, not-above, in-none, Lowest, refusal, rowOf}
 use Rattle.meaning.specs.Good.{Middle}
-use Rattle.meaning.specs.Split.{Closed, memEdge, Way, newest, even, halves, midpoint, cutOf, splitEdges, splitAt, started, split, refined}
+use Rattle.meaning.specs.Split.{Closed, memEdge, Way, startsOf, wayOf, newest, allThree, even, halves, midpoint, cutOf, splitEdges, splitAt, started, split, refined}
 use Rattle.meaning.specs.Tables.{Room}
 use Rattle.meaning.specs.Calls.{unless, orElse, marksFit, fits, refineNo}
 use Rattle.laws.specs.Exact.{refuted, orElse-first}
@@ -50,8 +52,17 @@ refine-splits w own m marks = record {
   apart = splitEdges-apart m (started w marks (m .tris));
 }
 
-pub newest-splits : (m : Mesh) (marks : List ℕ) → Least (m .tris) (started newest marks (m .tris)) (toSplit newest m marks)
-newest-splits = refine-splits newest (λ t. cons (List·Memᴰ·head refl) nil)
+-- in each manner these are edges of the marked triangle, its refinement edge among them
+pub starts-own : (k : Manner) (t : Tri) → All (λ e. List·Memᴰ e (edges t)) (startsOf k t)
+starts-own Newest t = cons (List·Memᴰ·head refl) nil
+starts-own AllThree t = All-of (edges t) (λ e i. i)
+
+pub starts-base : (k : Manner) (t : Tri) → List·Memᴰ (base t) (startsOf k t)
+starts-base Newest t = List·Memᴰ·head refl
+starts-base AllThree t = List·Memᴰ·head refl
+
+pub manner-splits : (k : Manner) (m : Mesh) (marks : List ℕ) → Least (m .tris) (started (wayOf k) marks (m .tris)) (toSplit (wayOf k) m marks)
+manner-splits k = refine-splits (wayOf k) (starts-own k)
 
 -- THE START SET: the starting edges of every marked row, and no other edge
 pub started-exactly : (w : Way) (marks : List ℕ) (ts : List Tri) (e : Edge) →
@@ -65,6 +76,11 @@ newest-started marks ts e = (
   λ j. (let r = started-exactly newest marks ts e .0 j in (r .0, r .1, r .2, List·Memᴰ·eq-of-singleton (r .3))),
   λ r. started-exactly newest marks ts e .1 (r .0, r .1, r .2, List·Memᴰ·head (r .3)),
 )
+
+-- W1: "all three edges of a marked triangle"
+pub all-three-started : (marks : List ℕ) (ts : List Tri) (e : Edge) →
+    List·Memᴰ e (started allThree marks ts) ↔ ((i : ℕ) × (i < length ts) × (getD marks i 0 ≡ 1) × List·Memᴰ e (edges (rowOf ts i)))
+all-three-started = started-exactly allThree
 
 -- ---- 8: "an edge to be split has an odd sum of x or of y"
 
@@ -300,6 +316,6 @@ refine-done w laws room m marks e = go (refine-exact w room m marks 0 .0 e)
           rows-are = refl;
         }
 
--- 01's way
-pub newest-done : (room : Room) (m : Mesh) (marks : List ℕ) → refineNo newest room m marks ≡ 0 → Refined newest room m marks (refined newest m marks)
-newest-done = refine-done newest bisected-laws
+-- in each manner
+pub manner-done : (k : Manner) (room : Room) (m : Mesh) (marks : List ℕ) → refineNo (wayOf k) room m marks ≡ 0 → Refined (wayOf k) room m marks (refined (wayOf k) m marks)
+manner-done k = refine-done (wayOf k) bisected-laws

@@ -3,13 +3,14 @@ use mathlib.Core.List.{List}
 use Prim.Native.Nat.{ℕ}
 use lib.IntN.{ℤ, pos}
 use Rattle.meaning.specs.Mesh.{Place, Mesh, place, total}
-use Rattle.meaning.specs.Split.{newest}
+use Rattle.meaning.specs.Split.{newest, allThree}
 use Rattle.meaning.specs.Tables.{Room}
 use Rattle.meaning.specs.Calls.{Reply, checks, refines, coarsens, restores}
 
 pub data Call : Type 0 where
   check : Call
   refine : List ℕ → Call
+  quarter : List ℕ → Call
   coarsen : List ℕ → Call
   restore : Call
 
@@ -30,6 +31,7 @@ pub record Case : Type 0 where
 abbrev pub call : Room → ℕ → Mesh → Call → Reply
 call r n0 m check = checks m
 call r n0 m (refine marks) = refines newest r m marks
+call r n0 m (quarter marks) = refines allThree r m marks
 call r n0 m (coarsen marks) = coarsens n0 m marks
 call r n0 m restore = restores n0 m
 

@@ -11,6 +11,8 @@ use lib.ListN.{length}
 use Rattle.lists.specs.declared.Found.{Found}
 use Rattle.lists.specs.declared.Found.the-variants.{At, Nothing}
 use Rattle.lists.specs.Lists.{any, only, once, first, whereFirst, joined, All}
+use Rattle.meaning.specs.declared.Manner.{Manner}
+use Rattle.meaning.specs.declared.Manner.the-variants.{Newest, AllThree}
 use Rattle.meaning.specs.Mesh.{Place, Tri, Mesh, Edge, place, tri, edge, edges, base, sameEdge, at, mesh}
 
 -- ---- the split edges
@@ -121,9 +123,23 @@ pub record Way : Type 0 where
   pub starts : Tri → List Edge
   pub cutting : Cutting
 
--- "the refinement edge of every marked triangle", and bisection
+-- the edges of a marked triangle that start the split set, in each manner.
+-- 01: "the refinement edge of every marked triangle"; W1: "all three edges of a marked triangle start the split set"
+abbrev pub startsOf : Manner → Tri → List Edge
+startsOf Newest t = base t ∷ []
+startsOf AllThree t = edges t
+
+-- both cut by bisection. W1: "closure, numbering and row order stay"
+abbrev pub wayOf : Manner → Way
+wayOf k = record { starts = startsOf k; cutting = bisected }
+
+-- 01's way
 abbrev pub newest : Way
-newest = record { starts = λ t. base t ∷ []; cutting = bisected }
+newest = wayOf Newest
+
+-- W1's way: "a marked triangle cut in four at once"
+abbrev pub allThree : Way
+allThree = wayOf AllThree
 
 abbrev pub ifMarked : Bool → List Edge → List Edge → List Edge
 ifMarked true e s = e ++ s

@@ -27,6 +27,12 @@ pub struct Mids {
     pub v: u32,
 }
 
+// How to refine: by 01 the refinement edge of a marked triangle starts the split set, by W1 all three of its edges do.
+pub enum Manner {
+    Newest,
+    AllThree,
+}
+
 // What stands in the way of a mesh: the number of a refusal, with the lowest node or row at fault. 0 at 0: nothing does.
 pub struct Fault {
     pub number: u32,

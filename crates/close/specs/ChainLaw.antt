@@ -1,7 +1,7 @@
 -- What the notes mean after chains were drawn from any rows: they are up at these rows, and at the row across the refinement edge of
 -- each row where they are up, and nowhere else. Assumes nothing.
-use mathlib.Core.Path.{_≡_, refl, sym, _∙_, subst}
-use mathlib.Core.Logic.{_⊎_, inl, inr}
+use mathlib.Core.Path.{_≡_, refl, sym, ap, _∙_, subst}
+use mathlib.Core.Logic.{_⊎_, inl, inr, ⊎-elim, ⊎-map}
 use mathlib.Core.List.{List}
 use Prim.Native.Nat.{ℕ, zero, suc, _+_, _≤_, _<_}
 use native.Mathlib.Omega.{arith}
@@ -13,9 +13,10 @@ use lib.Seq.{getD-set-same, getD-set-other}
 use Rattle.lists.specs.declared.Found.{Found}
 use Rattle.lists.specs.declared.Found.the-variants.{At, Nothing}
 use Rattle.lists.specs.Lists.{cases}
-use Rattle.lists.specs.Search.{iter}
-use Rattle.lists.specs.ByNumberLaw.{iter-reach}
-use Rattle.close.specs.Drawn.{onFound, acrossRow, zeros, drawn, draws, drawMarked}
+use Rattle.lists.specs.Search.{lowest}
+use Rattle.lists.specs.SearchLaw.{lowest-below}
+use Rattle.tables.specs.Arrow.{arrowAt}
+use Rattle.close.specs.Drawn.{onFound, acrossRow, zeros, drawn, draws, drawAcross}
 use Rattle.close.specs.DrawLaw.{zeros-set, across-below}
 
 -- the note of row j is up
@@ -178,7 +179,7 @@ module _ (l : List ℕ) (t : ℕ) where
     pub long : t ≤ length s
 
   -- from none
-  raised-none : (starts : ℕ → Type 0) (s : List ℕ) → t ≤ length s → ((x : ℕ) → x < t → getD s x 0 ≡ 0) → ((x : ℕ) → starts x → ⊥) → Raised starts s
+  pub raised-none : (starts : ℕ → Type 0) (s : List ℕ) → t ≤ length s → ((x : ℕ) → x < t → getD s x 0 ≡ 0) → ((x : ℕ) → starts x → ⊥) → Raised starts s
   raised-none starts s b z n = record {
     closed = λ x y h a u. absurd (u (z x h));
     begun = λ x h w. absurd (n x w);
@@ -187,15 +188,24 @@ module _ (l : List ℕ) (t : ℕ) where
     long = b;
   }
 
+  -- from more rows, whose notes are up already
+  pub raised-as : (starts wider : ℕ → Type 0) (s : List ℕ) → ((x : ℕ) → x < t → starts x → wider x) → ((x : ℕ) → x < t → wider x → Up s x) → Raised starts s → Raised wider s
+  raised-as starts wider s f g r = record {
+    closed = r .closed;
+    begun = g;
+    least = λ P p q. r .least P p (λ x u w. q x u (f x u w));
+    bits = r .bits;
+    long = r .long;
+  }
+
   -- from one row more
-  raised-more : (starts wider : ℕ → Type 0) (j : ℕ) (s : List ℕ) → j < t → ((x : ℕ) → x < t → starts x → wider x) → wider j →
-      ((x : ℕ) → x < t → wider x → (x ≡ j) ⊎ starts x) → Raised starts s → Raised wider (draws l t j s)
-  raised-more starts wider j s h f m g r =
+  pub raised-more : (starts : ℕ → Type 0) (j : ℕ) (s : List ℕ) → j < t → Raised starts s → Raised (λ x. (x ≡ j) ⊎ starts x) (draws l t j s)
+  raised-more starts j s h r =
       let c = draws-chain j s h (r .long) (r .closed) in
       record {
         closed = c .closed;
-        begun = λ x u w. begins c x u (g x u w);
-        least = λ P p q. draws-only P p j s h (q j h m) (r .least P p (λ x u w. q x u (f x u w)));
+        begun = λ x u w. begins c x u w;
+        least = λ P p q. draws-only P p j s h (q j h (inl refl)) (r .least P p (λ x u w. q x u (inr w)));
         bits = λ x u. c .bits x (r .bits x u);
         long = (let e = c .long in let k = r .long in omega arith);
       }
@@ -204,45 +214,16 @@ module _ (l : List ℕ) (t : ℕ) where
       begins c x u (inl e) = subst (Up (draws l t j s)) (sym e) (c .starts)
       begins c x u (inr w) = c .keeps x (r .begun x u w)
 
-  -- the same rows, said otherwise
-  raised-same : (starts other : ℕ → Type 0) (s : List ℕ) → ((x : ℕ) → x < t → starts x → other x) → ((x : ℕ) → x < t → other x → starts x) → Raised starts s → Raised other s
-  raised-same starts other s f g r = record {
-    closed = r .closed;
-    begun = λ x u w. r .begun x u (g x u w);
-    least = λ P p q. r .least P p (λ x u w. q x u (f x u w));
-    bits = r .bits;
-    long = r .long;
-  }
-
-  -- ---- all marked rows
-
-  module _ (marks : List ℕ) where
-    abbrev Marked : ℕ → ℕ → Type 0
-    Marked i x = (x < i) × (getD marks x 0 ≡ 1)
-
-    marked-step : (i : ℕ) (s : List ℕ) → i < t → Raised (Marked i) s → Raised (Marked (i + 1)) (drawMarked l t marks i s)
-    unfolding drawMarked
-    marked-step i s h r = go (ℕ-discrete (getD marks i 0) 1)
-      where
-        up : (x : ℕ) → x < t → Marked i x → Marked (i + 1) x
-        up x u m = let k = m .0 in (omega arith, m .1)
-
-        down : (x : ℕ) → Marked (i + 1) x → Dec (x ≡ i) → (x ≡ i) ⊎ Marked i x
-        down x m (yes e) = inl e
-        down x m (no o) = inr (let k = m .0 in omega arith, m .1)
-
-        go : Dec (getD marks i 0 ≡ 1) → Raised (Marked (i + 1)) (cases (eqb (getD marks i 0) 1) (draws l t i s) s)
-        go (yes e) =
-            rw (eq-eqb (getD marks i 0) 1 e)
-            (raised-more (Marked i) (Marked (i + 1)) i s h up (omega arith, e) (λ x u m. down x m (ℕ-discrete x i)) r)
-        go (no o) = rw (ne-eqb (getD marks i 0) 1 o) (raised-same (Marked i) (Marked (i + 1)) s up (λ x u m. not-i x m (down x m (ℕ-discrete x i))) r)
-          where
-            not-i : (x : ℕ) → Marked (i + 1) x → (x ≡ i) ⊎ Marked i x → Marked i x
-            not-i x m (inl e) = absurd (o (subst (λ (n : ℕ). getD marks n 0 ≡ 1) e (m .1)))
-            not-i x m (inr w) = w
-
-    -- where the first t notes are 0 at first
-    pub marked-raised : (s : List ℕ) → t ≤ length s → ((x : ℕ) → x < t → getD s x 0 ≡ 0) → Raised (λ x. getD marks x 0 ≡ 1) (iter (drawMarked l t marks) 0 t s)
-    marked-raised s b z =
-        raised-same (Marked t) (λ x. getD marks x 0 ≡ 1) (iter (drawMarked l t marks) 0 t s) (λ x h m. m .1) (λ x h m. (h, m))
-        (iter-reach (drawMarked l t marks) (λ i r. Raised (Marked i) r) t s marked-step (raised-none (Marked 0) s b z (λ x m. let k = m .0 in omega arith)))
+  -- from the row across an edge, if there is one
+  pub raised-across : (starts : ℕ → Type 0) (x y : ℕ) (s : List ℕ) → Raised starts s → Raised (λ z. (lowest (arrowAt l y x) 0 t ≡ At z) ⊎ starts z) (drawAcross l t x y s)
+  unfolding drawAcross
+  raised-across starts x y s r = go (lowest (arrowAt l y x) 0 t) refl
+    where
+      go : (w : Found) → lowest (arrowAt l y x) 0 t ≡ w → Raised (λ z. (w ≡ At z) ⊎ starts z) (onFound w (λ j. draws l t j s) s)
+      go (At j) e =
+          let R = raised-more starts j s (lowest-below (arrowAt l y x) t j e) r in
+          raised-as (λ z. (z ≡ j) ⊎ starts z) (λ z. (At j ≡ At z) ⊎ starts z) (draws l t j s) (λ z h. ⊎-map (λ q. ap At (sym q)) (λ q. q))
+          (λ z h w. R .begun z h (⊎-map (λ (q : At j ≡ At z). let d : z ≡ j = cc in d) (λ q. q) w)) R
+      go Nothing e =
+          raised-as starts (λ z. (Nothing ≡ At z) ⊎ starts z) s (λ z h q. inr q)
+          (λ z h w. ⊎-elim (λ (q : Nothing ≡ At z). let d : _≡_ {A = ℕ} 0 1 = cc in absurd (omega arith)) (λ q. r .begun z h q) w) r

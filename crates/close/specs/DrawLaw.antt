@@ -11,14 +11,17 @@ use lib.Seq.{drop-set-lt}
 use Rattle.lists.specs.declared.Found.{Found}
 use Rattle.lists.specs.declared.Found.the-variants.{At, Nothing}
 use Rattle.lists.specs.Lists.{cases}
-use Rattle.lists.specs.Search.{iter}
+use Rattle.lists.specs.Search.{lowest, iter}
 use Rattle.lists.specs.SearchLaw.{lowest-below}
 use Rattle.lists.specs.IterLaw.{iter-keeps}
+use Rattle.meaning.specs.declared.Tri.{Tri}
+use Rattle.meaning.specs.declared.Manner.{Manner}
+use Rattle.meaning.specs.declared.Manner.the-variants.{Newest, AllThree}
 use Rattle.meaning.specs.Tables.{rowAt}
 use Rattle.tables.specs.Arrow.{arrowAt}
 use Rattle.tables.specs.Sized.{indexAt}
 use Rattle.tables.specs.Ready.{Ready, ready-kept}
-use Rattle.close.specs.Drawn.{onFound, acrossRow, zeros, drawn, draws, drawMarked}
+use Rattle.close.specs.Drawn.{onFound, acrossRow, zeros, drawn, draws, drawAcross, drawSides, drawFrom, whenMarked, drawMarked, startNote, noteStart, closed}
 
 -- a note that is put
 pub zeros-set : (s : List ℕ) (j : ℕ) → j < length s → getD s j 0 ≡ 0 → zeros s ≡ suc (zeros (set s j 1))
@@ -58,23 +61,67 @@ pub across-below : (l : List ℕ) (t i k : ℕ) (w : Found) → w ≡ acrossRow 
 unfolding acrossRow
 across-below l t i k w e a = lowest-below (arrowAt l (rowAt l i .r) (rowAt l i .q)) t k (sym e ∙ a)
 
--- a marked row draws
-pub marked-yes : (l : List ℕ) (t : ℕ) (marks : List ℕ) (i : ℕ) (s m : List ℕ) → getD marks i 0 ≡ 1 → m ≡ draws l t i s → m ≡ drawMarked l t marks i s
-unfolding drawMarked
-marked-yes l t marks i s m e f = rw (eq-eqb (getD marks i 0) 1 e) f
+-- the parts of the code, in the form of their needs
+module _ (marks : List ℕ) (i : ℕ) (a s m : List ℕ) where
+  pub marked-yes : getD marks i 0 ≡ 1 → m ≡ a → m ≡ whenMarked marks i a s
+  unfolding whenMarked
+  marked-yes e f = rw (eq-eqb (getD marks i 0) 1 e) f
 
-pub marked-no : (l : List ℕ) (t : ℕ) (marks : List ℕ) (i : ℕ) (s : List ℕ) → (getD marks i 0 ≡ 1 → ⊥) → s ≡ drawMarked l t marks i s
-unfolding drawMarked
-marked-no l t marks i s e = rw (ne-eqb (getD marks i 0) 1 e)
+  pub marked-no : (getD marks i 0 ≡ 1 → ⊥) → m ≡ s → m ≡ whenMarked marks i a s
+  unfolding whenMarked
+  marked-no e f = rw (ne-eqb (getD marks i 0) 1 e) f
+
+pub start-yes : (k : Manner) (marks : List ℕ) (i v : ℕ) (s m : List ℕ) → getD marks i 0 ≡ 1 → v ≡ startNote k → m ≡ set s i v → m ≡ noteStart k marks i s
+start-yes k marks i v s m e f g = marked-yes marks i (set s i (startNote k)) s m e (rw (← f) g)
+
+module _ (l : List ℕ) (t x y : ℕ) (s m : List ℕ) (w : Found) (e : w ≡ lowest (arrowAt l y x) 0 t) where
+  pub across-found : (j : ℕ) → w ≡ At j → m ≡ draws l t j s → m ≡ drawAcross l t x y s
+  unfolding drawAcross
+  across-found j a f = rw (← e, a) f
+
+  pub across-none : w ≡ Nothing → m ≡ s → m ≡ drawAcross l t x y s
+  unfolding drawAcross
+  across-none a f = rw (← e, a) f
+
+  pub found-below : (j : ℕ) → w ≡ At j → j < t
+  found-below j a = lowest-below (arrowAt l y x) t j (sym e ∙ a)
+
+module _ (k : Manner) (l : List ℕ) (t i : ℕ) (s a : List ℕ) (f : a ≡ draws l t i s) where
+  pub from-newest : k ≡ Newest → a ≡ drawFrom k l t i s
+  unfolding drawFrom
+  from-newest e = rw e f
+
+  pub from-all : (w : Tri) (b : List ℕ) → k ≡ AllThree → w ≡ rowAt l i → b ≡ drawSides l t w a → b ≡ drawFrom k l t i s
+  unfolding drawFrom
+  from-all w b e g p = rw (e, ← f, ← g) p
+
+pub sides-drawn : (l : List ℕ) (t : ℕ) (w : Tri) (s a b : List ℕ) → a ≡ drawAcross l t (w .p) (w .q) s → b ≡ drawAcross l t (w .r) (w .p) a → b ≡ drawSides l t w s
+unfolding drawSides
+sides-drawn l t w s a b e f = rw (← e) f
+
+pub note-newest : (k : Manner) → k ≡ Newest → 1 ≡ startNote k
+unfolding startNote
+note-newest k e = rw e
+
+pub note-all : (k : Manner) → k ≡ AllThree → 7 ≡ startNote k
+unfolding startNote
+note-all k e = rw e
+
+pub closed-is : (k : Manner) (l : List ℕ) (t : ℕ) (marks s a b : List ℕ) → a ≡ iter (drawMarked k l t marks) 0 t s → b ≡ iter (noteStart k marks) 0 t a → b ≡ closed k l t marks s
+unfolding closed
+closed-is k l t marks s a b e f = rw (← e) f
 
 -- ---- only the first t notes change
 
 abbrev pub SameFrom : ℕ → List ℕ → List ℕ → Type 0
 SameFrom b s m = (length m ≡ length s) × (drop b m ≡ drop b s)
 
+same-more : (b : ℕ) (s r m : List ℕ) → SameFrom b s r → SameFrom b r m → SameFrom b s m
+same-more b s r m p q = (q .0 ∙ p .0, q .1 ∙ p .1)
+
 module _ (l : List ℕ) (t b : ℕ) (u : t ≤ b) where
-  put-kept : (j : ℕ) (s : List ℕ) → j < t → SameFrom b s (set s j 1)
-  put-kept j s h = (length-set s j 1, drop-set-lt b s j 1 (omega arith))
+  put-kept : (j v : ℕ) (s : List ℕ) → j < t → SameFrom b s (set s j v)
+  put-kept j v s h = (length-set s j v, drop-set-lt b s j v (omega arith))
 
   drawn-kept : (k j : ℕ) (s : List ℕ) → j < t → SameFrom b s (drawn k l t j s)
   unfolding drawn
@@ -83,29 +130,54 @@ module _ (l : List ℕ) (t b : ℕ) (u : t ≤ b) where
     where
       found : (w : Found) → acrossRow l t j ≡ w → ((i : ℕ) → i < t → SameFrom b (set s j 1) (drawn k l t i (set s j 1))) →
           SameFrom b s (onFound w (λ i. drawn k l t i (set s j 1)) (set s j 1))
-      found (At i) q below =
-          let r = below i (across-below l t j i (At i) (sym q) refl) in
-          let p = put-kept j s h in
-          (r .0 ∙ p .0, r .1 ∙ p .1)
-      found Nothing q below = put-kept j s h
+      found (At i) q below = same-more b s (set s j 1) (drawn k l t i (set s j 1)) (put-kept j 1 s h) (below i (across-below l t j i (At i) (sym q) refl))
+      found Nothing q below = put-kept j 1 s h
 
       go : (y : Bool) → ((i : ℕ) → i < t → SameFrom b (set s j 1) (drawn k l t i (set s j 1))) →
           SameFrom b s (cases y (onFound (acrossRow l t j) (λ i. drawn k l t i (set s j 1)) (set s j 1)) s)
       go true below = found (acrossRow l t j) refl below
       go false below = (refl, refl)
 
-  marked-kept : (marks : List ℕ) (i : ℕ) (s : List ℕ) → i < t → SameFrom b s (drawMarked l t marks i s)
-  unfolding drawMarked draws
-  marked-kept marks i s h = go (eqb (getD marks i 0) 1)
+  draws-kept : (i : ℕ) (s : List ℕ) → i < t → SameFrom b s (draws l t i s)
+  unfolding draws
+  draws-kept i s h = drawn-kept (zeros s) i s h
+
+  across-kept : (x y : ℕ) (s : List ℕ) → SameFrom b s (drawAcross l t x y s)
+  unfolding drawAcross
+  across-kept x y s = go (lowest (arrowAt l y x) 0 t) refl
     where
-      go : (y : Bool) → SameFrom b s (cases y (drawn (zeros s) l t i s) s)
-      go true = drawn-kept (zeros s) i s h
+      go : (w : Found) → lowest (arrowAt l y x) 0 t ≡ w → SameFrom b s (onFound w (λ j. draws l t j s) s)
+      go (At j) e = draws-kept j s (lowest-below (arrowAt l y x) t j e)
+      go Nothing e = (refl, refl)
+
+  sides-kept : (w : Tri) (s : List ℕ) → SameFrom b s (drawSides l t w s)
+  unfolding drawSides
+  sides-kept w s = same-more b s (drawAcross l t (w .p) (w .q) s) _ (across-kept _ _ _) (across-kept _ _ _)
+
+  from-kept : (k : Manner) (i : ℕ) (s : List ℕ) → i < t → SameFrom b s (drawFrom k l t i s)
+  unfolding drawFrom
+  from-kept Newest i s h = draws-kept i s h
+  from-kept AllThree i s h = same-more b s (draws l t i s) _ (draws-kept i s h) (sides-kept (rowAt l i) (draws l t i s))
+
+  marked-kept : (marks : List ℕ) (i : ℕ) (s a : List ℕ) → SameFrom b s a → SameFrom b s (whenMarked marks i a s)
+  unfolding whenMarked
+  marked-kept marks i s a p = go (eqb (getD marks i 0) 1)
+    where
+      go : (y : Bool) → SameFrom b s (cases y a s)
+      go true = p
       go false = (refl, refl)
 
-  pub close-kept : (marks s : List ℕ) → SameFrom b s (iter (drawMarked l t marks) 0 t s)
-  close-kept marks s =
-      iter-keeps (drawMarked l t marks) (SameFrom b s) t s
-      (λ j r h p. let k = marked-kept marks j r h in (k .0 ∙ p .0, k .1 ∙ p .1)) (refl, refl)
+  loop-kept : (marks : List ℕ) (f : ℕ → List ℕ → List ℕ) → ((i : ℕ) (s : List ℕ) → i < t → SameFrom b s (f i s)) → (s : List ℕ) →
+      SameFrom b s (iter (λ i s. whenMarked marks i (f i s) s) 0 t s)
+  loop-kept marks f p s =
+      iter-keeps (λ i s. whenMarked marks i (f i s) s) (SameFrom b s) t s (λ j r h q. same-more b s r _ q (marked-kept marks j r (f j r) (p j r h))) (refl, refl)
+
+  pub drawn-all-kept : (k : Manner) (marks s : List ℕ) → SameFrom b s (iter (drawMarked k l t marks) 0 t s)
+  drawn-all-kept k marks s = loop-kept marks (drawFrom k l t) (λ i s. from-kept k i s) s
+
+  pub closed-kept : (k : Manner) (marks s : List ℕ) → SameFrom b s (closed k l t marks s)
+  unfolding closed
+  closed-kept k marks s = same-more b s (iter (drawMarked k l t marks) 0 t s) _ (drawn-all-kept k marks s) (loop-kept marks (λ i s. set s i (startNote k)) (λ i s. put-kept i (startNote k) s) _)
 
 -- ---- so the index stays
 
@@ -114,10 +186,16 @@ module _ (l s m : List ℕ) (nc t : ℕ) (fits : 3 * t ≤ length l) (r : Ready 
   still-ready m′ e same = let k = same (omega arith) in ready-kept s m l nc t (ap length e ∙ k .0) (ap (drop (indexAt nc (length l))) e ∙ k .1) r
 
   pub ready-note : (j : ℕ) → j < t → m ≡ set s j 1 → Ready m nc l t
-  ready-note j h e = still-ready _ e (λ u. put-kept l t (indexAt nc (length l)) u j s h)
+  ready-note j h e = still-ready _ e (λ u. put-kept l t (indexAt nc (length l)) u j 1 s h)
 
-  pub ready-drawn : (marks : List ℕ) (i : ℕ) → i < t → m ≡ drawMarked l t marks i s → Ready m nc l t
-  ready-drawn marks i h e = still-ready _ e (λ u. marked-kept l t (indexAt nc (length l)) u marks i s h)
+  pub ready-draws : (i : ℕ) → i < t → m ≡ draws l t i s → Ready m nc l t
+  ready-draws i h e = still-ready _ e (λ u. draws-kept l t (indexAt nc (length l)) u i s h)
 
-  pub ready-closed : (marks : List ℕ) → m ≡ iter (drawMarked l t marks) 0 t s → Ready m nc l t
-  ready-closed marks e = still-ready _ e (λ u. close-kept l t (indexAt nc (length l)) u marks s)
+  pub ready-across : (x y : ℕ) → m ≡ drawAcross l t x y s → Ready m nc l t
+  ready-across x y e = still-ready _ e (λ u. across-kept l t (indexAt nc (length l)) u x y s)
+
+  pub ready-marked : (k : Manner) (marks : List ℕ) (i : ℕ) → i < t → m ≡ drawMarked k l t marks i s → Ready m nc l t
+  ready-marked k marks i h e = still-ready _ e (λ u. marked-kept l t (indexAt nc (length l)) u marks i s (drawFrom k l t i s) (from-kept l t (indexAt nc (length l)) u k i s h))
+
+  pub ready-closed : (k : Manner) (marks : List ℕ) → m ≡ closed k l t marks s → Ready m nc l t
+  ready-closed k marks e = still-ready _ e (λ u. closed-kept l t (indexAt nc (length l)) u k marks s)

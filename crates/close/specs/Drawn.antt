@@ -1,12 +1,15 @@
--- The rows that are split, as notes of 1: a starting row, the row across its refinement edge, the row across that one's, and so on.
--- Assumes nothing.
+-- The rows that are split, as notes of 1: a row with a starting edge, the row across its refinement edge, the row across that one's, and
+-- so on. Then which edges start. Assumes nothing.
 use mathlib.Core.List.{List, [], _∷_}
 use Prim.Native.Nat.{ℕ, zero, suc}
 use lib.Dec.{eqb}
 use lib.ListN.{getD, set}
 use Rattle.lists.specs.declared.Found.{Found}
 use Rattle.lists.specs.Lists.{cases}
-use Rattle.lists.specs.Search.{lowest}
+use Rattle.lists.specs.Search.{lowest, iter}
+use Rattle.meaning.specs.declared.Tri.{Tri}
+use Rattle.meaning.specs.declared.Manner.{Manner}
+use Rattle.meaning.specs.declared.Manner.the-variants.{Newest, AllThree}
 use Rattle.meaning.specs.Tables.{rowAt}
 use Rattle.tables.specs.Arrow.{arrowAt}
 pub use Rattle.lists.specs.Lists.{onFound}
@@ -34,5 +37,35 @@ drawn (suc k) l t j s =
 unfoldable pub draws : List ℕ → ℕ → ℕ → List ℕ → List ℕ
 draws l t j s = drawn (zeros s) l t j s
 
-unfoldable pub drawMarked : List ℕ → ℕ → List ℕ → ℕ → List ℕ → List ℕ
-drawMarked l t marks i s = cases (eqb (getD marks i 0) 1) (draws l t i s) s
+-- the row across the edge x→y, with what it draws along
+unfoldable pub drawAcross : List ℕ → ℕ → ℕ → ℕ → List ℕ → List ℕ
+drawAcross l t x y s = onFound (lowest (arrowAt l y x) 0 t) (λ j. draws l t j s) s
+
+-- the rows across the sides p–q and r–p of w
+unfoldable pub drawSides : List ℕ → ℕ → Tri → List ℕ → List ℕ
+drawSides l t w s = drawAcross l t (w .r) (w .p) (drawAcross l t (w .p) (w .q) s)
+
+-- row i, and where its sides start the split set too, the rows across them
+unfoldable pub drawFrom : Manner → List ℕ → ℕ → ℕ → List ℕ → List ℕ
+drawFrom Newest l t i s = draws l t i s
+drawFrom AllThree l t i s = drawSides l t (rowAt l i) (draws l t i s)
+
+-- what becomes of the notes s at row i: a where it is marked
+unfoldable pub whenMarked : List ℕ → ℕ → List ℕ → List ℕ → List ℕ
+whenMarked marks i a s = cases (eqb (getD marks i 0) 1) a s
+
+abbrev pub drawMarked : Manner → List ℕ → ℕ → List ℕ → ℕ → List ℕ → List ℕ
+drawMarked k l t marks i s = whenMarked marks i (drawFrom k l t i s) s
+
+-- ---- which edges of a marked row start the split set, as bits of its note: q–r, p–q, r–p
+
+unfoldable pub startNote : Manner → ℕ
+startNote Newest = 1
+startNote AllThree = 7
+
+abbrev pub noteStart : Manner → List ℕ → ℕ → List ℕ → List ℕ
+noteStart k marks i s = whenMarked marks i (set s i (startNote k)) s
+
+-- all notes: bit 0 where a row is split; then bits 1 and 2 where its sides start
+unfoldable pub closed : Manner → List ℕ → ℕ → List ℕ → List ℕ → List ℕ
+closed k l t marks s = iter (noteStart k marks) 0 t (iter (drawMarked k l t marks) 0 t s)

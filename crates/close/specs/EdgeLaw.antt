@@ -102,24 +102,32 @@ module _ (l : List ℕ) (t : ℕ) (once : OnceAt l t) where
   unfolding arrowAt
   found-side i x y e = (lowest-below (arrowAt l x y) t i e, holds-side (rowAt l i) x y (lowest-true (arrowAt l x y) t i e))
 
-  -- a row with the refinement edge of row j is row j, or the one across
-  pub adjacent : (i j : ℕ) (e : Edge) → i < t → j < t → List·Memᴰ e (edges (rowAt l i)) → base (rowAt l j) ≡ e → (i ≡ j) ⊎ (acrossRow l t j ≡ At i)
-  unfolding acrossRow
-  adjacent i j e h k m q = go (edge-side (rowAt l i) e m)
+  -- a row with an edge of row j is row j, or the one across that edge
+  pub beside : (i j x y : ℕ) (e : Edge) → i < t → j < t → List·Memᴰ e (edges (rowAt l i)) → Side (rowAt l j) x y → e ≡ edge x y →
+      (i ≡ j) ⊎ (lowest (arrowAt l y x) 0 t ≡ At i)
+  beside i j x y e h k m side q = go (edge-side (rowAt l i) e m)
     where
-      go : (a : ℕ) × (b : ℕ) × Side (rowAt l i) a b × (e ≡ edge a b) → (i ≡ j) ⊎ (lowest (arrowAt l (rowAt l j .r) (rowAt l j .q)) 0 t ≡ At i)
-      go (a, b, s, f) = ends (edge-ends (rowAt l j .q) (rowAt l j .r) a b (q ∙ f))
+      go : (a : ℕ) × (b : ℕ) × Side (rowAt l i) a b × (e ≡ edge a b) → (i ≡ j) ⊎ (lowest (arrowAt l y x) 0 t ≡ At i)
+      go (a, b, s, f) = ends (edge-ends x y a b (sym q ∙ f))
         where
-          ends : ((rowAt l j .q ≡ a) × (rowAt l j .r ≡ b)) ⊎ ((rowAt l j .q ≡ b) × (rowAt l j .r ≡ a)) → (i ≡ j) ⊎ (lowest (arrowAt l (rowAt l j .r) (rowAt l j .q)) 0 t ≡ At i)
-          ends (inl (c, d)) = inl (once i j a b h k (side-at l i s) (rw (← c, ← d) (side-at l j side-m)))
+          ends : ((x ≡ a) × (y ≡ b)) ⊎ ((x ≡ b) × (y ≡ a)) → (i ≡ j) ⊎ (lowest (arrowAt l y x) 0 t ≡ At i)
+          ends (inl (c, d)) = inl (once i j a b h k (side-at l i s) (rw (← c, ← d) (side-at l j side)))
           ends (inr (c, d)) = inr (rw (c, d) (found-is i a b h s))
 
-  -- the row across row j has row j's refinement edge
+  -- across its refinement edge
+  pub adjacent : (i j : ℕ) (e : Edge) → i < t → j < t → List·Memᴰ e (edges (rowAt l i)) → base (rowAt l j) ≡ e → (i ≡ j) ⊎ (acrossRow l t j ≡ At i)
+  unfolding acrossRow
+  adjacent i j e h k m q = beside i j (rowAt l j .q) (rowAt l j .r) e h k m side-m (sym q)
+
+  -- the row across an edge has that edge
+  pub found-has : (i x y : ℕ) → lowest (arrowAt l y x) 0 t ≡ At i → (i < t) × List·Memᴰ (edge x y) (edges (rowAt l i))
+  found-has i x y e =
+      let r = found-side i y x e in
+      (r .0, subst (λ (d : Edge). List·Memᴰ d (edges (rowAt l i))) (edge-comm y x) (side-edge (rowAt l i) (r .1)))
+
   pub across-has : (i j : ℕ) → acrossRow l t j ≡ At i → (i < t) × List·Memᴰ (base (rowAt l j)) (edges (rowAt l i))
   unfolding acrossRow
-  across-has i j e =
-      let r = found-side i (rowAt l j .r) (rowAt l j .q) e in
-      (r .0, subst (λ (x : Edge). List·Memᴰ x (edges (rowAt l i))) (edge-comm (rowAt l j .r) (rowAt l j .q)) (side-edge (rowAt l i) (r .1)))
+  across-has i j e = found-has i (rowAt l j .q) (rowAt l j .r) e
 
 -- ---- a lawful mesh, by number
 

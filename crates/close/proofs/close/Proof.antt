@@ -1,33 +1,10 @@
-use Rattle.close.specs.DrawLaw.{ready-drawn}
-use Rattle.close.specs.Drawn.{drawMarked}
-use Rattle.tables.specs.Ready.{Ready}
-use Rattle.lists.specs.IterLaw.{looping}
-use Rattle.lists.specs.Search.{iter}
-use lib.ListN.{length}
-use Prim.Native.Nat.{_≤_, _-_}
-use mathlib.Core.Path.{_≡_}
+use Rattle.close.specs.DrawLaw.{closed-is}
 use borrow.Author.Needs.{needs}
 use Rattle.close.proofs.close.Statement.{statement}
 use Rattle.close.proofs.close.Tie as tie
 
-abbrev Inv-loop : tie.InvT-loop
-Inv-loop rows s₀ nc t marks i₀ s i = (i ≤ t) × (length s ≡ length s₀) × Ready s nc rows t × (iter (drawMarked rows t marks) i t s ≡ iter (drawMarked rows t marks) 0 t s₀)
-
-abbrev μ-loop : tie.MeasureT-loop
-μ-loop rows s₀ nc t marks i₀ s i = t - i
-
-draw-marked-requires : tie.Need-draw-marked-requires Inv-loop μ-loop
-draw-marked-requires c κs = (search needs, (search needs, (search needs, (search needs, search needs))))
-
-loop-again : tie.Need-loop-again Inv-loop μ-loop
-loop-again c = search (needs, looping, ready-drawn)
-
-returns : tie.Need-returns Inv-loop μ-loop
-returns c = search (needs, looping)
+returns : tie.Need-returns
+returns c = search (needs, closed-is)
 
 pub close-spec : {M : Type 1} → statement M
-close-spec =
-    tie.close
-    (tie.spec
-    Inv-loop μ-loop (λ c. search needs) draw-marked-requires (λ c. search needs) (λ c. search needs)
-    loop-again (λ c. search needs) returns)
+close-spec = tie.close (tie.spec (λ c κs. search needs) (λ c κs. search needs) (λ c. search needs) returns)

@@ -61,9 +61,17 @@ ownU n c = n + c .before + c .fm
 abbrev pub ownV : ℕ → Note → ℕ
 ownV n c = n + c .before + c .fm + c .fu
 
+-- of three numbers, for q–r, p–q and r–p of row w, the one for its arrow x→y
+unfoldable pub onArrow : Tri → ℕ → ℕ → ℕ → ℕ → ℕ → ℕ
+onArrow w x y a b c = cases (eqb (w .q) x && eqb (w .r) y) a (cases (eqb (w .p) x && eqb (w .q) y) b c)
+
 -- that of row w with note c on its arrow x→y
-unfoldable pub ownOn : ℕ → Tri → Note → ℕ → ℕ → ℕ
-ownOn n w c x y = cases (eqb (w .q) x && eqb (w .r) y) (ownM n c) (cases (eqb (w .p) x && eqb (w .q) y) (ownU n c) (ownV n c))
+abbrev pub ownOn : ℕ → Tri → Note → ℕ → ℕ → ℕ
+ownOn n w c x y = onArrow w x y (ownM n c) (ownU n c) (ownV n c)
+
+-- 1 where the note c of row w says that its arrow x→y is split
+abbrev pub splitOn : Tri → Note → ℕ → ℕ → ℕ
+splitOn w c x y = onArrow w x y (c .m) (c .u) (c .v)
 
 -- the one on x–y that the lower row across numbered
 unfoldable pub across : ℕ → List ℕ → List ℕ → ℕ → ℕ → ℕ → ℕ

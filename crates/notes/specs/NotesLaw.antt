@@ -15,7 +15,7 @@ use Rattle.meaning.specs.declared.Tri.{Tri}
 use Rattle.meaning.specs.Tables.{rowAt}
 use Rattle.tables.specs.Arrow.{arrowAt}
 use Rattle.tables.specs.Ready.{Ready, ready-sized, ready-rows}
-use Rattle.notes.specs.Notes.{Note, note, packed, unpacked, Bits, Tight, noteAt, ownM, ownU, ownV, ownOn, across, midFor, mids, midsAt}
+use Rattle.notes.specs.Notes.{Note, note, packed, unpacked, Bits, Tight, noteAt, ownM, ownU, ownV, onArrow, ownOn, across, midFor, mids, midsAt}
 
 note-path : (x : Note) (a b c d e f k : ℕ) → a ≡ x .m → b ≡ x .u → c ≡ x .v → d ≡ x .fm → e ≡ x .fu → f ≡ x .fv → k ≡ x .before → note a b c d e f k ≡ x
 note-path x a b c d e f k p q r s t u v = rw (p, q, r, s, t, u, v)
@@ -31,20 +31,23 @@ pub note-read : (s : List ℕ) (i v : ℕ) (r : Note) → v ≡ getD s i 0 → r
 unfolding noteAt
 note-read s i v r e f = f ∙ ap unpacked e
 
-module _ (n : ℕ) (w : Tri) (c : Note) (x y r : ℕ) where
-  pub on-m : eqb (w .q) x && eqb (w .r) y ≡ true → r ≡ ownM n c → r ≡ ownOn n w c x y
-  unfolding ownOn
-  on-m a e = rw a e
+module _ (w : Tri) (x y a b c : ℕ) where
+  pub on-m : eqb (w .q) x && eqb (w .r) y ≡ true → a ≡ onArrow w x y a b c
+  unfolding onArrow
+  on-m e = rw e
 
-  pub on-u : eqb (w .q) x && eqb (w .r) y ≡ false → eqb (w .p) x && eqb (w .q) y ≡ true → r ≡ ownU n c → r ≡ ownOn n w c x y
-  unfolding ownOn
-  on-u a b e = rw (a, b) e
+  pub on-u : eqb (w .q) x && eqb (w .r) y ≡ false → eqb (w .p) x && eqb (w .q) y ≡ true → b ≡ onArrow w x y a b c
+  unfolding onArrow
+  on-u e f = rw (e, f)
 
-  pub on-v : eqb (w .q) x && eqb (w .r) y ≡ false → eqb (w .p) x && eqb (w .q) y ≡ false → r ≡ ownV n c → r ≡ ownOn n w c x y
-  unfolding ownOn
-  on-v a b e = rw (a, b) e
+  pub on-v : eqb (w .q) x && eqb (w .r) y ≡ false → eqb (w .p) x && eqb (w .q) y ≡ false → c ≡ onArrow w x y a b c
+  unfolding onArrow
+  on-v e f = rw (e, f)
 
-pub ruleset owned = (on-m, on-u, on-v)
+pub ruleset picked = (on-m, on-u, on-v)
+
+pub own-on-is : (n : ℕ) (w : Tri) (c : Note) (x y a b d r : ℕ) → a ≡ ownM n c → b ≡ ownU n c → d ≡ ownV n c → r ≡ onArrow w x y a b d → r ≡ ownOn n w c x y
+own-on-is n w c x y a b d r e f g h = rw (← g, ← f, ← e) h
 
 -- a row that was found among the rows in the index is in the table, and its note in scratch
 module _ (s l : List ℕ) (nc t j : ℕ) (f : Found) (x y : ℕ) (a : Ready s nc l t) (e : f ≡ lowest (arrowAt l x y) 0 t) (g : f ≡ At j) where

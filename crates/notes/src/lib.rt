@@ -4,7 +4,7 @@ ghost use mathlib.Core.Path.{_≡_};
 ghost use Prim.Native.Nat.{_+_, _*_, _≤_, _<_};
 ghost use lib.ListN.{length};
 ghost use Rattle.tables.specs.Ready.{Ready};
-ghost use Rattle.notes.specs.Notes.{Tight, Short, packed, unpacked, noteAt, ownM, ownU, ownV, ownOn, across, midFor, midsAt};
+ghost use Rattle.notes.specs.Notes.{Tight, Short, packed, unpacked, noteAt, ownM, ownU, ownV, onArrow, ownOn, splitOn, across, midFor, midsAt};
 use lists::Found;
 use meaning::Mids;
 use meaning::Tri;
@@ -78,19 +78,33 @@ pub fn own_v(n: u32, c: Note) -> u32
     n + c.before + c.fm + c.fu
 }
 
+// Of three numbers, for q-r, p-q and r-p of row w, the one for its arrow x→y.
+fn on_arrow(w: Tri, x: u32, y: u32, a: u32, b: u32, c: u32) -> u32
+    ensures { λ r. ⌜ r ≡ onArrow w x y a b c ⌝ }
+{
+    if (w.q == x) & (w.r == y) {
+        return a;
+    }
+    if (w.p == x) & (w.q == y) {
+        return b;
+    }
+    c
+}
+
 // The node that row w with note c numbered on its own arrow x→y.
 fn own_on(n: u32, w: Tri, c: Note, x: u32, y: u32) -> u32
     requires { ⌜ n ≤ 65_536 ⌝ }
     requires { ⌜ Short c ⌝ }
     ensures { λ r. ⌜ r ≡ ownOn n w c x y ⌝ }
 {
-    if (w.q == x) & (w.r == y) {
-        return own_m(n, c);
-    }
-    if (w.p == x) & (w.q == y) {
-        return own_u(n, c);
-    }
-    own_v(n, c)
+    on_arrow(w, x, y, own_m(n, c), own_u(n, c), own_v(n, c))
+}
+
+// 1 where the note c of row w says that its arrow x→y is split.
+pub fn split_on(w: Tri, c: Note, x: u32, y: u32) -> u32
+    ensures { λ r. ⌜ r ≡ splitOn w c x y ⌝ }
+{
+    on_arrow(w, x, y, c.m, c.u, c.v)
 }
 
 // ---- the numbers of all new nodes of a row

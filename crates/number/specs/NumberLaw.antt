@@ -1,7 +1,7 @@
 -- What the notes say: which edges of a row are in a set, which of these the scan of document 01 meets first in this row, and how many
 -- it has met before. So each row can tell the numbers of its edges: the places in the order of the scan. Assumes nothing.
 use mathlib.Core.Path.{_≡_, refl, sym, ap, _∙_, subst}
-use mathlib.Core.Logic.{_⊎_, inl, inr}
+use mathlib.Core.Logic.{_⊎_, inl, inr, ⊎-elim, ⊎-map}
 use mathlib.Core.Bool.{Bool, true, false, not, _&&_}
 use mathlib.Core.List.{List, [], _∷_, _++_, append-assoc, append-nil, List·Memᴰ}
 use Prim.Native.Nat.{ℕ, zero, suc, _+_, _*_, _%_, _≤_, _<_}
@@ -31,13 +31,14 @@ use Rattle.laws.specs.Midpoints.{edges-differ}
 use Rattle.laws.specs.Edges.{edge-comm, sameEdge-eq, sameEdge-refl}
 use Rattle.tables.specs.Arrow.{arrowAt}
 use Rattle.notes.specs.declared.Note.{Note}
-use Rattle.notes.specs.Notes.{note, packed, unpacked, Tight, noteAt, ownM, ownU, ownV, ownOn, across, midFor, midsAt, num, numbersOf}
+use Rattle.notes.specs.Notes.{note, packed, unpacked, Tight, noteAt, ownM, ownU, ownV, onArrow, ownOn, splitOn, across, midFor, midsAt, num, numbersOf}
 use Rattle.notes.specs.Notes as Noted
 use Rattle.notes.specs.Met as Met
 use Rattle.notes.specs.NotesLaw.{unpacked-packed, mids-path}
 use Rattle.close.specs.Drawn.{onFound}
 use Rattle.close.specs.EdgeLaw.{OnceAt, Side, side-m, side-u, side-v, side-at, side-edge, edge-side, edge-ends, found-is, found-side}
-use Rattle.number.specs.Numbered.{Met, met, baseSplit, metBy, metBase, metAcross, noteBy, noteOf, Numbers, numbers, numberRow}
+use Rattle.number.specs.Numbered.{Met, met, either, metBy, metOn, noteBy, noteOf, Numbers, numbers, numberRow}
+use Rattle.number.specs.NumberStep.{split-le, either-one, either-none}
 use Rattle.number.specs.OnceLaw.{edge-sym, Apart, none, apart, newTo, any-once-edge, once-more, once-place}
 
 -- ---- a scan of the rows of a table, for the edges of a set
@@ -114,16 +115,35 @@ row-around side-m L = refl
 row-around side-u L = refl
 row-around side-v L = refl
 
+-- of three numbers, for q–r, p–q and r–p, the one for a side
+abbrev pub sidePick : {w : Tri} {x y : ℕ} → Side w x y → ℕ → ℕ → ℕ → ℕ
+sidePick side-m a b c = a
+sidePick side-u a b c = b
+sidePick side-v a b c = c
+
 abbrev ownAt : {w : Tri} {x y : ℕ} → Side w x y → ℕ → Note → ℕ
-ownAt side-m n c = ownM n c
-ownAt side-u n c = ownU n c
-ownAt side-v n c = ownV n c
+ownAt s n c = sidePick s (ownM n c) (ownU n c) (ownV n c)
+
+-- where the corners differ, that for its arrow
+pub on-side : {n : ℕ} (w : Tri) → Named n w → {x y : ℕ} (s : Side w x y) (a b c : ℕ) → onArrow w x y a b c ≡ sidePick s a b c
+unfolding onArrow
+on-side w d side-m a b c = rw (eq-eqb (w .q) (w .q) refl, eq-eqb (w .r) (w .r) refl)
+on-side w d side-u a b c = rw (ne-eqb (w .q) (w .p) (λ e. d .p≢q (sym e)), eq-eqb (w .p) (w .p) refl, eq-eqb (w .q) (w .q) refl)
+on-side w d side-v a b c = rw (ne-eqb (w .q) (w .r) (d .q≢r), ne-eqb (w .p) (w .r) (λ e. d .r≢p (sym e)))
+
+-- what notes tell at first of a set of edges: bit 0 says that a row's refinement edge is in it; an edge with its bit is in it; and every
+-- edge of it has its bit in one of its rows
+pub record Tells (l : List ℕ) (t : ℕ) (mem : Edge → Bool) (s : List ℕ) : Type 0 where
+  pub base-told : (j : ℕ) → j < t → noteAt s j .m ≡ bit (mem (base (rowAt l j)))
+  pub sound : (j : ℕ) → j < t → {x y : ℕ} → Side (rowAt l j) x y → splitOn (rowAt l j) (noteAt s j) x y ≡ 1 → mem (edge x y) ≡ true
+  pub told : (e : Edge) → mem e ≡ true →
+      (j : ℕ) × (j < t) × (x : ℕ) × (y : ℕ) × Side (rowAt l j) x y × (e ≡ edge x y) × (splitOn (rowAt l j) (noteAt s j) x y ≡ 1)
 
 -- where the rows lie in a table, no directed edge occurs twice, the corners of a row differ; a set of edges that with an edge of a row
--- holds its refinement edge, and holds nothing but refinement edges
+-- holds its refinement edge, and notes G that tell of it
 module _ (l : List ℕ) (t n : ℕ) (only-one : OnceAt l t) (named : (i : ℕ) → i < t → Named n (rowAt l i)) (mem : Edge → Bool)
     (pull : (i : ℕ) (e : Edge) → i < t → List·Memᴰ e (edges (rowAt l i)) → mem e ≡ true → mem (base (rowAt l i)) ≡ true)
-    (held : (e : Edge) → mem e ≡ true → (j : ℕ) × (j < t) × (base (rowAt l j) ≡ e)) where
+    (G : List ℕ) (tells : Tells l t mem G) where
   abbrev metBelow : ℕ → List Edge
   metBelow i = metIn l mem i
 
@@ -187,89 +207,122 @@ module _ (l : List ℕ) (t n : ℕ) (only-one : OnceAt l t) (named : (i : ℕ) �
           let m = met-new i x y h s (lowest-past (arrowAt l y x) t i j e c) in
           rw (le-ltb j i c, m, and-true b)
 
-  base-is : (i : ℕ) → i < t → mem (base (rowAt l i)) ≡ true →
-      metBase l t i (rowAt l i .q) (rowAt l i .r) ≡ met (bit (mem (base (rowAt l i)))) (bit (news i (base (rowAt l i))))
-  unfolding metBase
-  base-is i h m = go (lowest (arrowAt l (rowAt l i .r) (rowAt l i .q)) 0 t) refl
-    where
-      go : (w : Found) → lowest (arrowAt l (rowAt l i .r) (rowAt l i .q)) 0 t ≡ w →
-          onFound w (λ j. metBy 1 j i) (met 1 1) ≡ met (bit (mem (base (rowAt l i)))) (bit (news i (base (rowAt l i))))
-      go (At j) e = ap (λ (b : Bool). metBy (bit b) j i) (sym m) ∙ by-is i j (rowAt l i .q) (rowAt l i .r) h side-m e
-      go Nothing e =
-          let f = met-new i (rowAt l i .q) (rowAt l i .r) h side-m (lowest-none-below (arrowAt l (rowAt l i .r) (rowAt l i .q)) t i e (omega arith)) in
-          rw (m, f)
+  -- the notes s of the rows below i say what they are to say, the others what they said at first
+  pub record Halfway (i : ℕ) (s : List ℕ) : Type 0 where
+    pub below-noted : (j : ℕ) → j < i → noteAt s j ≡ noteFor j
+    pub still-first : (j : ℕ) → i ≤ j → j < t → noteAt s j ≡ noteAt G j
 
-  -- an edge that is not the refinement edge of row i: by the row across
-  module _ (s : List ℕ) (bits : (j : ℕ) → j < t → noteAt s j .m ≡ bit (mem (base (rowAt l j)))) (i x y : ℕ) (h : i < t) (side : Side (rowAt l i) x y)
-      (other : rowAt l i .q ≡ x → rowAt l i .r ≡ y → ⊥) where
-    held-across : mem (edge x y) ≡ true → (j : ℕ) × (lowest (arrowAt l y x) 0 t ≡ At j) × (rowAt l j .q ≡ y) × (rowAt l j .r ≡ x)
-    held-across m = by (held (edge x y) m)
+  -- a note that says what it is to say has a bit for each edge of the set
+  said-is : (j : ℕ) → j < t → {x y : ℕ} (s : Side (rowAt l j) x y) → splitOn (rowAt l j) (noteFor j) x y ≡ bit (mem (edge x y))
+  said-is j h s = on-side (rowAt l j) (named j h) s _ _ _ ∙ go s
+    where
+      go : {x y : ℕ} (s : Side (rowAt l j) x y) → sidePick s (noteFor j .m) (noteFor j .u) (noteFor j .v) ≡ bit (mem (edge x y))
+      go side-m = refl
+      go side-u = refl
+      go side-v = refl
+
+  no-bit : (k : ℕ) → k ≤ 1 → (k ≡ 1 → ⊥) → k ≡ 0
+  no-bit k a b = omega arith
+
+  one-true : (b : Bool) → bit b ≡ 1 → b ≡ true
+  one-true true e = refl
+  one-true false e = absurd (omega arith)
+
+  module _ (s : List ℕ) (i : ℕ) (h : i < t) (H : Halfway i s) where
+    -- a bit of any note: its edge is in the set
+    bit-sound : (j : ℕ) → j < t → {x y : ℕ} → Side (rowAt l j) x y → splitOn (rowAt l j) (noteAt s j) x y ≡ 1 → mem (edge x y) ≡ true
+    bit-sound j g {x} {y} side e = go (decLt j i)
       where
-        by : (j : ℕ) × (j < t) × (base (rowAt l j) ≡ edge x y) → (j : ℕ) × (lowest (arrowAt l y x) 0 t ≡ At j) × (rowAt l j .q ≡ y) × (rowAt l j .r ≡ x)
-        by (j, k, e) = ends (edge-ends (rowAt l j .q) (rowAt l j .r) x y e)
+        go : Dec (j < i) → mem (edge x y) ≡ true
+        go (yes a) = one-true (mem (edge x y)) (sym (said-is j g side) ∙ ap (λ (c : Note). splitOn (rowAt l j) c x y) (sym (H .below-noted j a)) ∙ e)
+        go (no a) = tells .sound j g side (ap (λ (c : Note). splitOn (rowAt l j) c x y) (sym (H .still-first j (omega arith) g)) ∙ e)
+
+    -- a bit that was there at first is still there
+    bit-stays : (j : ℕ) → j < t → {x y : ℕ} → Side (rowAt l j) x y → splitOn (rowAt l j) (noteAt G j) x y ≡ 1 → splitOn (rowAt l j) (noteAt s j) x y ≡ 1
+    bit-stays j g {x} {y} side e = go (decLt j i)
+      where
+        go : Dec (j < i) → splitOn (rowAt l j) (noteAt s j) x y ≡ 1
+        go (yes a) = ap (λ (c : Note). splitOn (rowAt l j) c x y) (H .below-noted j a) ∙ said-is j g side ∙ ap bit (tells .sound j g side e)
+        go (no a) = ap (λ (c : Note). splitOn (rowAt l j) c x y) (H .still-first j (omega arith) g) ∙ e
+
+    -- an edge of row i and of the set has its bit in row i, or in the row across
+    two-rows : {x y : ℕ} → Side (rowAt l i) x y → mem (edge x y) ≡ true →
+        (splitOn (rowAt l i) (noteAt s i) x y ≡ 1) ⊎ ((j : ℕ) × (lowest (arrowAt l y x) 0 t ≡ At j) × (splitOn (rowAt l j) (noteAt s j) y x ≡ 1))
+    two-rows {x} {y} side m = by (tells .told (edge x y) m)
+      where
+        by : (j : ℕ) × (j < t) × (a : ℕ) × (b : ℕ) × Side (rowAt l j) a b × (edge x y ≡ edge a b) × (splitOn (rowAt l j) (noteAt G j) a b ≡ 1) →
+            (splitOn (rowAt l i) (noteAt s i) x y ≡ 1) ⊎ ((j : ℕ) × (lowest (arrowAt l y x) 0 t ≡ At j) × (splitOn (rowAt l j) (noteAt s j) y x ≡ 1))
+        by (j, g, a, b, o, e, one) = ends (edge-ends x y a b e)
           where
-            ends : ((rowAt l j .q ≡ x) × (rowAt l j .r ≡ y)) ⊎ ((rowAt l j .q ≡ y) × (rowAt l j .r ≡ x)) →
-                (j : ℕ) × (lowest (arrowAt l y x) 0 t ≡ At j) × (rowAt l j .q ≡ y) × (rowAt l j .r ≡ x)
+            up : splitOn (rowAt l j) (noteAt s j) a b ≡ 1
+            up = bit-stays j g o one
+
+            ends : ((x ≡ a) × (y ≡ b)) ⊎ ((x ≡ b) × (y ≡ a)) →
+                (splitOn (rowAt l i) (noteAt s i) x y ≡ 1) ⊎ ((j : ℕ) × (lowest (arrowAt l y x) 0 t ≡ At j) × (splitOn (rowAt l j) (noteAt s j) y x ≡ 1))
             ends (inl (c, d)) =
-                let q : i ≡ j = only-one i j x y h k (side-at l i side) (rw (← c, ← d) (side-at l j side-m)) in
-                absurd (other (ap (λ (k : ℕ). rowAt l k .q) q ∙ c) (ap (λ (k : ℕ). rowAt l k .r) q ∙ d))
-            ends (inr (c, d)) = (j, rw (← c, ← d) (found-is l t only-one j (rowAt l j .q) (rowAt l j .r) k side-m), c, d)
+                let q : i ≡ j = only-one i j x y h g (side-at l i side) (rw (c, d) (side-at l j o)) in
+                inl (rw (q, c, d) up)
+            ends (inr (c, d)) = inr (j, rw (c, d) (found-is l t only-one j a b g o), rw (c, d) up)
 
-    base-split-is : (j : ℕ) → lowest (arrowAt l y x) 0 t ≡ At j → baseSplit (rowAt l j) (noteAt s j .m) y x ≡ bit (mem (edge x y))
-    unfolding baseSplit
-    base-split-is j e =
-        let b = bits j (lowest-below (arrowAt l y x) t j e) in
-        rw (b, bit-is-one (mem (base (rowAt l j))))
-        (cases-bit (mem (base (rowAt l j)) && eqb (rowAt l j .q) y && eqb (rowAt l j .r) x)
-        ∙ ap bit (both-ways (mem (base (rowAt l j)) && eqb (rowAt l j .q) y && eqb (rowAt l j .r) x) (mem (edge x y)) there back))
+    -- so what the two rows of an edge say is whether it is in the set
+    either-is : {x y : ℕ} → Side (rowAt l i) x y → (j : ℕ) → lowest (arrowAt l y x) 0 t ≡ At j →
+        either (splitOn (rowAt l i) (noteAt s i) x y) (splitOn (rowAt l j) (noteAt s j) y x) ≡ bit (mem (edge x y))
+    either-is {x} {y} side j e = go (mem (edge x y)) refl
       where
-        there : mem (base (rowAt l j)) && eqb (rowAt l j .q) y && eqb (rowAt l j .r) x ≡ true → mem (edge x y) ≡ true
-        there a =
-            let a1 = and-left (mem (base (rowAt l j)) && eqb (rowAt l j .q) y) (eqb (rowAt l j .r) x) a in
-            let cr = eqb-true (rowAt l j .r) x (and-right (mem (base (rowAt l j)) && eqb (rowAt l j .q) y) (eqb (rowAt l j .r) x) a) in
-            let cq = eqb-true (rowAt l j .q) y (and-right (mem (base (rowAt l j))) (eqb (rowAt l j .q) y) a1) in
-            let m = and-left (mem (base (rowAt l j))) (eqb (rowAt l j .q) y) a1 in
-            let d : edge (rowAt l j .q) (rowAt l j .r) ≡ edge x y = rw (cq, cr) (edge-comm y x) in
-            subst (λ (k : Edge). mem k ≡ true) d m
+        f : (j < t) × Side (rowAt l j) y x
+        f = found-side l t only-one j y x e
 
-        back : mem (edge x y) ≡ true → mem (base (rowAt l j)) && eqb (rowAt l j .q) y && eqb (rowAt l j .r) x ≡ true
-        back m =
-            let r = held-across m in
-            let f : At (r .0) ≡ At j = sym (r .1) ∙ e in
-            let q : r .0 ≡ j = cc in
-            let cq : rowAt l j .q ≡ y = ap (λ (k : ℕ). rowAt l k .q) (sym q) ∙ r .2 in
-            let cr : rowAt l j .r ≡ x = ap (λ (k : ℕ). rowAt l k .r) (sym q) ∙ r .3 in
-            let d : edge x y ≡ edge (rowAt l j .q) (rowAt l j .r) = rw (cq, cr) (edge-comm x y) in
-            and-both (and-both (subst (λ (k : Edge). mem k ≡ true) d m) (eq-eqb (rowAt l j .q) y cq)) (eq-eqb (rowAt l j .r) x cr)
+        go : (b : Bool) → mem (edge x y) ≡ b → either (splitOn (rowAt l i) (noteAt s i) x y) (splitOn (rowAt l j) (noteAt s j) y x) ≡ bit b
+        go true m = either-one _ _ (⊎-map (λ a. a) (λ (k, q, a). same k (sym q ∙ e) a) (two-rows side m))
+          where
+            same : (k : ℕ) → At k ≡ At j → splitOn (rowAt l k) (noteAt s k) y x ≡ 1 → splitOn (rowAt l j) (noteAt s j) y x ≡ 1
+            same k g a = let z : k ≡ j = cc in subst (λ (n : ℕ). splitOn (rowAt l n) (noteAt s n) y x ≡ 1) z a
+        go false m =
+            either-none _ _
+            (no-bit _ (split-le (rowAt l i) s i x y) (λ a. clash (sym (bit-sound i h side a) ∙ m)))
+            (no-bit _ (split-le (rowAt l j) s j y x) (λ a. clash (sym (bit-sound j (f .0) (f .1) a) ∙ ap mem (edge-comm y x) ∙ m)))
 
-    across-is : metAcross l t s i x y ≡ met (bit (mem (edge x y))) (bit (news i (edge x y)))
-    unfolding metAcross
-    across-is = go (lowest (arrowAt l y x) 0 t) refl
+    -- and where there is no row across, row i says it alone
+    alone-is : {x y : ℕ} → Side (rowAt l i) x y → lowest (arrowAt l y x) 0 t ≡ Nothing → splitOn (rowAt l i) (noteAt s i) x y ≡ bit (mem (edge x y))
+    alone-is {x} {y} side e = go (mem (edge x y)) refl
       where
+        go : (b : Bool) → mem (edge x y) ≡ b → splitOn (rowAt l i) (noteAt s i) x y ≡ bit b
+        go true m = ⊎-elim (λ a. a) (λ (k, q, a). (let c : At k ≡ Nothing = sym q ∙ e in let z : _≡_ {A = ℕ} 0 1 = cc in absurd (omega arith))) (two-rows side m)
+        go false m = no-bit _ (split-le (rowAt l i) s i x y) (λ a. clash (sym (bit-sound i h side a) ∙ m))
+
+    met-is : {x y : ℕ} (side : Side (rowAt l i) x y) →
+        metOn l t s i (sidePick side (noteAt s i .m) (noteAt s i .u) (noteAt s i .v)) x y ≡ met (bit (mem (edge x y))) (bit (news i (edge x y)))
+    unfolding metOn
+    met-is {x} {y} side = ap (λ (k : ℕ). metOn l t s i k x y) (sym (on-side (rowAt l i) (named i h) side _ _ _)) ∙ go (lowest (arrowAt l y x) 0 t) refl
+      where
+        own : ℕ
+        own = splitOn (rowAt l i) (noteAt s i) x y
+
         go : (w : Found) → lowest (arrowAt l y x) 0 t ≡ w →
-            onFound w (λ j. metBy (baseSplit (rowAt l j) (noteAt s j .m) y x) j i) (met 0 0) ≡ met (bit (mem (edge x y))) (bit (news i (edge x y)))
-        go (At j) e = ap (λ (b : ℕ). metBy b j i) (base-split-is j e) ∙ by-is i j x y h side e
+            onFound w (λ j. metBy (either (splitOn (rowAt l i) (noteAt s i) x y) (splitOn (rowAt l j) (noteAt s j) y x)) j i)
+            (met (splitOn (rowAt l i) (noteAt s i) x y) (splitOn (rowAt l i) (noteAt s i) x y)) ≡ met (bit (mem (edge x y))) (bit (news i (edge x y)))
+        go (At j) e = ap (λ (b : ℕ). metBy b j i) (either-is side j e) ∙ by-is i j x y h side e
         go Nothing e =
-            let f = not-so (mem (edge x y)) (λ m. let r = held-across m in let c : At (r .0) ≡ Nothing = sym (r .1) ∙ e in let z : _≡_ {A = ℕ} 0 1 = cc in omega arith) in
-            rw f
+            let f = met-new i x y h side (lowest-none-below (arrowAt l y x) t i e (omega arith)) in
+            rw (alone-is side e, f, and-true (mem (edge x y)))
 
-  -- ---- the note of row i
+    -- ---- the note of row i
 
-  of-is : (s : List ℕ) → ((j : ℕ) → j < t → noteAt s j .m ≡ bit (mem (base (rowAt l j)))) → (i : ℕ) → i < t → noteOf l t s i (length (once sameEdge (metBelow i))) ≡ noteFor i
-  unfolding noteOf
-  of-is s bits i h = go (mem (base (rowAt l i))) refl
-    where
-      go : (b : Bool) → mem (base (rowAt l i)) ≡ b →
-          cases (eqb (noteAt s i .m) 0) (note 0 0 0 0 0 0 (length (once sameEdge (metBelow i))))
-          (noteBy (metBase l t i (rowAt l i .q) (rowAt l i .r)) (metAcross l t s i (rowAt l i .p) (rowAt l i .q)) (metAcross l t s i (rowAt l i .r) (rowAt l i .p))
-          (length (once sameEdge (metBelow i)))) ≡ noteFor i
-      go true m =
-          let c = across-is s bits i (rowAt l i .p) (rowAt l i .q) h side-u (λ x y. named i h .p≢q (sym x)) in
-          let d = across-is s bits i (rowAt l i .r) (rowAt l i .p) h side-v (λ x y. named i h .q≢r x) in
-          rw (bits i h, m) (rw (base-is i h m, c, d, m))
-      go false m =
-          let n : (e : Edge) → List·Memᴰ e (edges (rowAt l i)) → mem e ≡ false = λ e k. not-so (mem e) (λ q. clash (sym (pull i e h k q) ∙ m)) in
-          rw (bits i h, m, n (edge (rowAt l i .p) (rowAt l i .q)) (side-edge (rowAt l i) side-u), n (edge (rowAt l i .r) (rowAt l i .p)) (side-edge (rowAt l i) side-v))
+    of-is : noteOf l t s i (length (once sameEdge (metBelow i))) ≡ noteFor i
+    unfolding noteOf
+    of-is = go (mem (base (rowAt l i))) refl
+      where
+        first : noteAt s i .m ≡ bit (mem (base (rowAt l i)))
+        first = ap (λ (c : Note). c .m) (H .still-first i (omega arith) h) ∙ tells .base-told i h
+
+        go : (b : Bool) → mem (base (rowAt l i)) ≡ b →
+            cases (eqb (noteAt s i .m) 0) (note 0 0 0 0 0 0 (length (once sameEdge (metBelow i))))
+            (noteBy (metOn l t s i (noteAt s i .m) (rowAt l i .q) (rowAt l i .r)) (metOn l t s i (noteAt s i .u) (rowAt l i .p) (rowAt l i .q))
+            (metOn l t s i (noteAt s i .v) (rowAt l i .r) (rowAt l i .p)) (length (once sameEdge (metBelow i)))) ≡ noteFor i
+        go true m = rw (met-is side-m, met-is side-u, met-is side-v, first, m)
+        go false m =
+            let n : (e : Edge) → List·Memᴰ e (edges (rowAt l i)) → mem e ≡ false = λ e k. not-so (mem e) (λ q. clash (sym (pull i e h k q) ∙ m)) in
+            rw (first, m, n (edge (rowAt l i .p) (rowAt l i .q)) (side-edge (rowAt l i) side-u), n (edge (rowAt l i .r) (rowAt l i .p)) (side-edge (rowAt l i) side-v))
 
   -- ---- one row more: its edges differ, so the scan adds those that it meets for the first time, in order
 
@@ -365,15 +418,8 @@ module _ (l : List ℕ) (t n : ℕ) (only-one : OnceAt l t) (named : (i : ℕ) �
       ap length (once-more mem (metBelow i) (p .0)) ∙ length-append (once sameEdge (metBelow i)) (only (news i) B) in
       own-count i s ∙ sym (num-new (metBelow i ++ only mem (earlier s)) _ e around (news-in i e a) fresh ∙ ap (λ (k : ℕ). n + k) counted)
 
-  own-is : (i : ℕ) → i < t → {x y : ℕ} → Side (rowAt l i) x y → news i (edge x y) ≡ true → ownOn n (rowAt l i) (noteFor i) x y ≡ num n scanned (edge x y)
-  unfolding ownOn
-  own-is i h side-m a = rw (eq-eqb (rowAt l i .q) (rowAt l i .q) refl, eq-eqb (rowAt l i .r) (rowAt l i .r) refl) (own-num i h side-m a)
-  own-is i h side-u a =
-      rw (ne-eqb (rowAt l i .q) (rowAt l i .p) (λ e. named i h .p≢q (sym e)), eq-eqb (rowAt l i .p) (rowAt l i .p) refl, eq-eqb (rowAt l i .q) (rowAt l i .q) refl)
-      (own-num i h side-u a)
-  own-is i h side-v a =
-      rw (ne-eqb (rowAt l i .q) (rowAt l i .r) (named i h .q≢r), ne-eqb (rowAt l i .p) (rowAt l i .r) (λ e. named i h .r≢p (sym e)))
-      (own-num i h side-v a)
+  own-is : (i : ℕ) → i < t → {x y : ℕ} (s : Side (rowAt l i) x y) → news i (edge x y) ≡ true → ownOn n (rowAt l i) (noteFor i) x y ≡ num n scanned (edge x y)
+  own-is i h s a = on-side (rowAt l i) (named i h) s _ _ _ ∙ own-num i h s a
 
   -- where the notes of the rows up to i say what they are to say
   module _ (s : List ℕ) (i : ℕ) (h : i < t) (notes : (j : ℕ) → j ≤ i → noteAt s j ≡ noteFor j) where
@@ -408,12 +454,11 @@ module _ (l : List ℕ) (t n : ℕ) (only-one : OnceAt l t) (named : (i : ℕ) �
     unfolding midsAt
     mids-num = rw (notes i (omega arith)) (mids-path _ _ _ _ _ _ (for-num side-m) (for-num side-u) (for-num side-v))
 
-  -- ---- all rows: each turn makes the note of one row, and leaves bit 0 of the others
+  -- ---- all rows: each turn makes the note of one row, and leaves the others
 
   -- the sweep has reached row i; N is the length of scratch
   pub record Reached (N i : ℕ) (st : Numbers) : Type 0 where
-    pub below-noted : (j : ℕ) → j < i → noteAt (st .table) j ≡ noteFor j
-    pub still-bare : (j : ℕ) → i ≤ j → j < t → noteAt (st .table) j .m ≡ bit (mem (base (rowAt l j)))
+    pub halfway : Halfway i (st .table)
     pub counted : st .count ≡ length (once sameEdge (metBelow i))
     pub few : st .count ≤ 3 * i
     pub long : length (st .table) ≡ N
@@ -433,8 +478,10 @@ module _ (l : List ℕ) (t n : ℕ) (only-one : OnceAt l t) (named : (i : ℕ) �
     reach : (i : ℕ) (st : Numbers) → i < t → Reached N i st → Reached N (i + 1) (numberRow l t i st)
     unfolding numberRow noteAt
     reach i st h d = rw is (record {
-      below-noted = λ j a. at j a (ℕ-discrete j i);
-      still-bare = λ j a c. ap (λ (k : ℕ). unpacked k .m) (getD-set-other (st .table) i j (packed (noteFor i)) 0 (omega arith)) ∙ d .still-bare j (omega arith) c;
+      halfway = record {
+        below-noted = λ j a. at j a (ℕ-discrete j i);
+        still-first = λ j a c. ap unpacked (getD-set-other (st .table) i j (packed (noteFor i)) 0 (omega arith)) ∙ d .halfway .still-first j (omega arith) c;
+      };
       counted = (let a = length-next i h in let k = d .counted in omega arith);
       few = (let a = for-tight i few′ in let k = d .few in omega arith);
       long = length-set (st .table) i (packed (noteFor i)) ∙ d .long;
@@ -443,38 +490,24 @@ module _ (l : List ℕ) (t n : ℕ) (only-one : OnceAt l t) (named : (i : ℕ) �
         few′ : length (once sameEdge (metBelow i)) ≤ 16_777_216
         few′ = let a = d .counted in let b = d .few in omega arith
 
-        bits : (j : ℕ) → j < t → noteAt (st .table) j .m ≡ bit (mem (base (rowAt l j)))
-        bits j g = by (decLt j i)
-          where
-            by : Dec (j < i) → noteAt (st .table) j .m ≡ bit (mem (base (rowAt l j)))
-            by (yes a) = ap (λ (c : Note). c .m) (d .below-noted j a)
-            by (no a) = d .still-bare j (omega arith) g
-
         is : noteOf l t (st .table) i (st .count) ≡ noteFor i
-        is = rw (d .counted) (of-is (st .table) bits i h)
+        is = rw (d .counted) (of-is (st .table) i h (d .halfway))
 
         at : (j : ℕ) → j < i + 1 → Dec (j ≡ i) → unpacked (getD (set (st .table) i (packed (noteFor i))) j 0) ≡ noteFor j
         at j a (yes e) =
             rw (e, getD-set-same (st .table) i (packed (noteFor i)) 0 (let y = d .long in omega arith)) (unpacked-packed (noteFor i) (for-tight i few′))
-        at j a (no o) = ap unpacked (getD-set-other (st .table) i j (packed (noteFor i)) 0 o) ∙ d .below-noted j (omega arith)
+        at j a (no o) = ap unpacked (getD-set-other (st .table) i j (packed (noteFor i)) 0 o) ∙ d .halfway .below-noted j (omega arith)
 
-    -- from notes of 1 where a row is split
-    pub reach-all : (s : List ℕ) → length s ≡ N → ((j : ℕ) → j < t → getD s j 0 ≡ bit (mem (base (rowAt l j)))) → Reached N t (iter (numberRow l t) 0 t (numbers s 0))
-    unfolding noteAt unpacked
-    reach-all s e f =
-        iter-carries (numberRow l t) (λ i st. Reached N i st) t (numbers s 0) reach
+    pub reach-all : length G ≡ N → Reached N t (iter (numberRow l t) 0 t (numbers G 0))
+    reach-all e =
+        iter-carries (numberRow l t) (λ i st. Reached N i st) t (numbers G 0) reach
         (record {
-          below-noted = λ j a. absurd (omega arith);
-          still-bare = λ j a c. rw (f j c) (mod-bit (mem (base (rowAt l j))));
+          halfway = record { below-noted = λ j a. absurd (omega arith); still-first = λ j a c. refl };
           counted = none-met;
           few = omega arith;
           long = e;
         })
       where
-        mod-bit : (b : Bool) → bit b % 2 ≡ bit b
-        mod-bit true = refl
-        mod-bit false = refl
-
         none-met : 0 ≡ length (once sameEdge (metBelow 0))
         none-met = let z : items (rowAt l) 0 0 ≡ [] = items-none (rowAt l) 0 0 (omega arith) in rw z
 

@@ -1,5 +1,6 @@
 -- The parts of the code, in the form of their needs. Assumes nothing.
 use mathlib.Core.Path.{_≡_, refl, sym, ap, _∙_, subst}
+use mathlib.Core.Logic.{_⊎_, inl, inr}
 use mathlib.Core.Bool.{Bool, true, false, _&&_}
 use mathlib.Core.List.{List}
 use Prim.Native.Nat.{ℕ, _+_, _*_, _≤_, _<_}
@@ -18,17 +19,31 @@ use Rattle.meaning.specs.Tables.{rowAt}
 use Rattle.tables.specs.Arrow.{arrowAt}
 use Rattle.tables.specs.Ready.{Ready, ready-sized, ready-put}
 use Rattle.notes.specs.declared.Note.{Note}
-use Rattle.notes.specs.Notes.{note, noteAt, packed, Tight}
+use Rattle.notes.specs.Notes.{note, noteAt, packed, Tight, onArrow, splitOn}
+use Rattle.notes.specs.NotesLaw.{note-bits}
 use Rattle.close.specs.Drawn.{onFound}
-use Rattle.number.specs.Numbered.{Met, met, baseSplit, metBy, metBase, metAcross, noteBy, noteOf, Numbers, numbers, numberRow}
+use Rattle.number.specs.Numbered.{Met, met, either, metBy, metOn, noteBy, noteOf, Numbers, numbers, numberRow}
 
-pub base-yes : (w : Tri) (b x y : ℕ) → eqb b 1 && eqb (w .q) x && eqb (w .r) y ≡ true → 1 ≡ baseSplit w b x y
-unfolding baseSplit
-base-yes w b x y e = rw e
+pub either-own : (own other : ℕ) → own ≡ 1 → 1 ≡ either own other
+unfolding either
+either-own own other e = rw (eq-eqb own 1 e)
 
-pub base-no : (w : Tri) (b x y : ℕ) → eqb b 1 && eqb (w .q) x && eqb (w .r) y ≡ false → 0 ≡ baseSplit w b x y
-unfolding baseSplit
-base-no w b x y e = rw e
+pub either-other : (own other : ℕ) → (own ≡ 1 → ⊥) → other ≡ either own other
+unfolding either
+either-other own other e = rw (ne-eqb own 1 e)
+
+pub either-one : (own other : ℕ) → (own ≡ 1) ⊎ (other ≡ 1) → either own other ≡ 1
+unfolding either
+either-one own other (inl e) = rw (eq-eqb own 1 e)
+either-one own other (inr e) = rw e (go (eqb own 1))
+  where
+    go : (b : Bool) → _≡_ {A = ℕ} (cases b 1 1) 1
+    go true = refl
+    go false = refl
+
+pub either-none : (own other : ℕ) → own ≡ 0 → other ≡ 0 → either own other ≡ 0
+unfolding either
+either-none own other e f = rw (e, f)
 
 pub by-lower : (on j i : ℕ) → j < i → met on 0 ≡ metBy on j i
 unfolding metBy
@@ -47,32 +62,24 @@ module _ (l : List ℕ) (L t j x y : ℕ) (r : Found) (e : r ≡ lowest (arrowAt
   note-in-scratch h = let b = lowest-below (arrowAt l x y) t j (sym e ∙ a) in omega arith
 
 module _ (l : List ℕ) (t i x y : ℕ) (r : Found) (e : r ≡ lowest (arrowAt l y x) 0 t) where
-  pub met-base-found : (j : ℕ) (g : Met) → r ≡ At j → g ≡ metBy 1 j i → g ≡ metBase l t i x y
-  unfolding metBase
-  met-base-found j g a f = rw (← e, a) f
+  pub met-found : (s : List ℕ) (j own other on : ℕ) (w : Tri) (c : Note) (g : Met) → r ≡ At j → w ≡ rowAt l j → c ≡ noteAt s j → other ≡ splitOn w c y x →
+      on ≡ either own other → g ≡ metBy on j i → g ≡ metOn l t s i own x y
+  unfolding metOn
+  met-found s j own other on w c g a f k h o q = rw (← e, a, ← f, ← k, ← h, ← o) q
 
-  pub met-base-alone : r ≡ Nothing → met 1 1 ≡ metBase l t i x y
-  unfolding metBase
-  met-base-alone a = rw (← e, a)
+  pub met-alone : (s : List ℕ) (own : ℕ) → r ≡ Nothing → met own own ≡ metOn l t s i own x y
+  unfolding metOn
+  met-alone s own a = rw (← e, a)
 
-  pub met-found : (s : List ℕ) (j b on : ℕ) (w : Tri) (g : Met) → r ≡ At j → w ≡ rowAt l j → b ≡ noteAt s j .m → on ≡ baseSplit w b y x → g ≡ metBy on j i →
-      g ≡ metAcross l t s i x y
-  unfolding metAcross
-  met-found s j b on w g a f k h q = rw (← e, a, ← f, ← k, ← h) q
-
-  pub met-alone : (s : List ℕ) → r ≡ Nothing → met 0 0 ≡ metAcross l t s i x y
-  unfolding metAcross
-  met-alone s a = rw (← e, a)
-
-module _ (l : List ℕ) (t : ℕ) (s : List ℕ) (i k b : ℕ) (f : b ≡ noteAt s i .m) where
-  pub note-whole : b ≡ 0 → note 0 0 0 0 0 0 k ≡ noteOf l t s i k
+module _ (l : List ℕ) (t : ℕ) (s : List ℕ) (i k : ℕ) (c : Note) (f : c ≡ noteAt s i) where
+  pub note-whole : c .m ≡ 0 → note 0 0 0 0 0 0 k ≡ noteOf l t s i k
   unfolding noteOf
-  note-whole e = rw (← f, eq-eqb b 0 e)
+  note-whole e = rw (← f, eq-eqb (c .m) 0 e)
 
-  pub note-split : (w : Tri) (x y z : Met) → (b ≡ 0 → ⊥) → w ≡ rowAt l i → x ≡ metBase l t i (w .q) (w .r) → y ≡ metAcross l t s i (w .p) (w .q) →
-      z ≡ metAcross l t s i (w .r) (w .p) → noteBy x y z k ≡ noteOf l t s i k
+  pub note-split : (w : Tri) (x y z : Met) → (c .m ≡ 0 → ⊥) → w ≡ rowAt l i → x ≡ metOn l t s i (c .m) (w .q) (w .r) → y ≡ metOn l t s i (c .u) (w .p) (w .q) →
+      z ≡ metOn l t s i (c .v) (w .r) (w .p) → noteBy x y z k ≡ noteOf l t s i k
   unfolding noteOf
-  note-split w x y z o g p q r = rw (← f, ne-eqb b 0 o, ← g, ← p, ← q, ← r)
+  note-split w x y z o g p q r = rw (← f, ne-eqb (c .m) 0 o, ← g, ← p, ← q, ← r)
 
 -- ---- the bits of a note
 
@@ -84,30 +91,34 @@ by-bits on j i h = go (ltb j i)
     go true = (h, omega arith)
     go false = (h, h)
 
-base-bits : (l : List ℕ) (t i x y : ℕ) → (metBase l t i x y .on ≤ 1) × (metBase l t i x y .first ≤ 1)
-unfolding metBase
-base-bits l t i x y = go (lowest (arrowAt l y x) 0 t)
+arrow-le : (w : Tri) (x y a b c : ℕ) → a ≤ 1 → b ≤ 1 → c ≤ 1 → onArrow w x y a b c ≤ 1
+unfolding onArrow
+arrow-le w x y a b c p q r = go (eqb (w .q) x && eqb (w .r) y) (eqb (w .p) x && eqb (w .q) y)
   where
-    go : (r : Found) → (onFound r (λ j. metBy 1 j i) (met 1 1) .on ≤ 1) × (onFound r (λ j. metBy 1 j i) (met 1 1) .first ≤ 1)
-    go (At j) = by-bits 1 j i (omega arith)
-    go Nothing = (omega arith, omega arith)
+    go : (d e : Bool) → cases d a (cases e b c) ≤ 1
+    go true e = p
+    go false true = q
+    go false false = r
 
-split-le : (w : Tri) (b x y : ℕ) → baseSplit w b x y ≤ 1
-unfolding baseSplit
-split-le w b x y = go (eqb b 1 && eqb (w .q) x && eqb (w .r) y)
+pub split-le : (w : Tri) (s : List ℕ) (j x y : ℕ) → splitOn w (noteAt s j) x y ≤ 1
+split-le w s j x y = let b = note-bits s j in arrow-le w x y _ _ _ (b .m-bit) (b .u-bit) (b .v-bit)
+
+either-le : (own other : ℕ) → other ≤ 1 → either own other ≤ 1
+unfolding either
+either-le own other h = go (eqb own 1)
   where
-    go : (a : Bool) → cases a 1 0 ≤ 1
+    go : (a : Bool) → cases a 1 other ≤ 1
     go true = omega arith
-    go false = omega arith
+    go false = h
 
-across-bits : (l : List ℕ) (t : ℕ) (s : List ℕ) (i x y : ℕ) → (metAcross l t s i x y .on ≤ 1) × (metAcross l t s i x y .first ≤ 1)
-unfolding metAcross
-across-bits l t s i x y = go (lowest (arrowAt l y x) 0 t)
+on-bits : (l : List ℕ) (t : ℕ) (s : List ℕ) (i own x y : ℕ) → own ≤ 1 → (metOn l t s i own x y .on ≤ 1) × (metOn l t s i own x y .first ≤ 1)
+unfolding metOn
+on-bits l t s i own x y h = go (lowest (arrowAt l y x) 0 t)
   where
-    go : (r : Found) → (onFound r (λ j. metBy (baseSplit (rowAt l j) (noteAt s j .m) y x) j i) (met 0 0) .on ≤ 1) ×
-        (onFound r (λ j. metBy (baseSplit (rowAt l j) (noteAt s j .m) y x) j i) (met 0 0) .first ≤ 1)
-    go (At j) = by-bits (baseSplit (rowAt l j) (noteAt s j .m) y x) j i (split-le (rowAt l j) (noteAt s j .m) y x)
-    go Nothing = (omega arith, omega arith)
+    go : (r : Found) → (onFound r (λ j. metBy (either own (splitOn (rowAt l j) (noteAt s j) y x)) j i) (met own own) .on ≤ 1) ×
+        (onFound r (λ j. metBy (either own (splitOn (rowAt l j) (noteAt s j) y x)) j i) (met own own) .first ≤ 1)
+    go (At j) = by-bits (either own (splitOn (rowAt l j) (noteAt s j) y x)) j i (either-le own _ (split-le (rowAt l j) s j y x))
+    go Nothing = (h, h)
 
 tight-of : (l : List ℕ) (t : ℕ) (s : List ℕ) (i k : ℕ) → k ≤ 16_777_216 → Tight (noteOf l t s i k)
 unfolding noteOf
@@ -117,12 +128,14 @@ tight-of l t s i k h = go (eqb (noteAt s i .m) 0)
     w = rowAt l i
 
     go : (b : Bool) → Tight (cases b (note 0 0 0 0 0 0 k)
-        (noteBy (metBase l t i (rowAt l i .q) (rowAt l i .r)) (metAcross l t s i (rowAt l i .p) (rowAt l i .q)) (metAcross l t s i (rowAt l i .r) (rowAt l i .p)) k))
+        (noteBy (metOn l t s i (noteAt s i .m) (rowAt l i .q) (rowAt l i .r)) (metOn l t s i (noteAt s i .u) (rowAt l i .p) (rowAt l i .q))
+        (metOn l t s i (noteAt s i .v) (rowAt l i .r) (rowAt l i .p)) k))
     go true = record { m-bit = omega arith; u-bit = omega arith; v-bit = omega arith; fm-bit = omega arith; fu-bit = omega arith; fv-bit = omega arith; few = h }
     go false =
-        let a = base-bits l t i (rowAt l i .q) (rowAt l i .r) in
-        let b = across-bits l t s i (rowAt l i .p) (rowAt l i .q) in
-        let c = across-bits l t s i (rowAt l i .r) (rowAt l i .p) in
+        let n = note-bits s i in
+        let a = on-bits l t s i (noteAt s i .m) (w .q) (w .r) (n .m-bit) in
+        let b = on-bits l t s i (noteAt s i .u) (w .p) (w .q) (n .u-bit) in
+        let c = on-bits l t s i (noteAt s i .v) (w .r) (w .p) (n .v-bit) in
         record { m-bit = a .0; u-bit = b .0; v-bit = c .0; fm-bit = a .1; fu-bit = b .1; fv-bit = c .1; few = h }
 
 -- ---- one row: k new nodes before

@@ -1,22 +1,20 @@
--- The notes of all rows, made row by row upward from the rows that are split. Assumes nothing.
-use mathlib.Core.Bool.{_&&_}
+-- The notes of all rows, made row by row upward from those that say which rows are split and which edges start. Assumes nothing.
 use mathlib.Core.List.{List}
 use Prim.Native.Nat.{ℕ, _+_}
 use lib.Dec.{eqb, ltb}
 use lib.ListN.{set}
 use Rattle.lists.specs.Lists.{cases}
 use Rattle.lists.specs.Search.{lowest}
-use Rattle.meaning.specs.declared.Tri.{Tri}
 use Rattle.meaning.specs.Tables.{rowAt}
 use Rattle.tables.specs.Arrow.{arrowAt}
 use Rattle.notes.specs.declared.Note.{Note}
-use Rattle.notes.specs.Notes.{note, noteAt, packed}
+use Rattle.notes.specs.Notes.{note, noteAt, packed, splitOn}
 use Rattle.close.specs.Drawn.{onFound}
 pub use Rattle.number.specs.declared.Met.{Met}
 
--- 1 where x→y is the refinement edge of w, and w is split
-unfoldable pub baseSplit : Tri → ℕ → ℕ → ℕ → ℕ
-baseSplit w b x y = cases (eqb b 1 && eqb (w .q) x && eqb (w .r) y) 1 0
+-- an edge is split, where one of its two rows says so
+unfoldable pub either : ℕ → ℕ → ℕ
+either own other = cases (eqb own 1) 1 other
 
 abbrev pub met : ℕ → ℕ → Met
 met a b = record { on = a; first = b }
@@ -25,13 +23,9 @@ met a b = record { on = a; first = b }
 unfoldable pub metBy : ℕ → ℕ → ℕ → Met
 metBy on j i = cases (ltb j i) (met on 0) (met on on)
 
--- the refinement edge x→y of row i, which is split
-unfoldable pub metBase : List ℕ → ℕ → ℕ → ℕ → ℕ → Met
-metBase l t i x y = onFound (lowest (arrowAt l y x) 0 t) (λ j. metBy 1 j i) (met 1 1)
-
--- another edge x→y of row i, which is split: by the row across
-unfoldable pub metAcross : List ℕ → ℕ → List ℕ → ℕ → ℕ → ℕ → Met
-metAcross l t s i x y = onFound (lowest (arrowAt l y x) 0 t) (λ j. metBy (baseSplit (rowAt l j) (noteAt s j .m) y x) j i) (met 0 0)
+-- the edge x→y of row i, where own is 1 if the row itself says that it is split
+unfoldable pub metOn : List ℕ → ℕ → List ℕ → ℕ → ℕ → ℕ → ℕ → Met
+metOn l t s i own x y = onFound (lowest (arrowAt l y x) 0 t) (λ j. metBy (either own (splitOn (rowAt l j) (noteAt s j) y x)) j i) (met own own)
 
 abbrev pub noteBy : Met → Met → Met → ℕ → Note
 noteBy a b c k = note (a .on) (b .on) (c .on) (a .first) (b .first) (c .first) k
@@ -41,9 +35,9 @@ unfoldable pub noteOf : List ℕ → ℕ → List ℕ → ℕ → ℕ → Note
 noteOf l t s i k =
     cases (eqb (noteAt s i .m) 0) (note 0 0 0 0 0 0 k)
     (noteBy
-    (metBase l t i (rowAt l i .q) (rowAt l i .r))
-    (metAcross l t s i (rowAt l i .p) (rowAt l i .q))
-    (metAcross l t s i (rowAt l i .r) (rowAt l i .p))
+    (metOn l t s i (noteAt s i .m) (rowAt l i .q) (rowAt l i .r))
+    (metOn l t s i (noteAt s i .u) (rowAt l i .p) (rowAt l i .q))
+    (metOn l t s i (noteAt s i .v) (rowAt l i .r) (rowAt l i .p))
     k)
 
 -- the notes, and how many new nodes the rows so far have

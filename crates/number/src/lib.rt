@@ -1,14 +1,14 @@
 // Which edges of each row are split, which of these are first met there, and how many new nodes lower rows have: the note of each row,
-// made row by row upward. Bit 0 of a note says that the row is split, before as after.
+// made row by row upward. Before, each edge that is split has its bit in one of its rows, and bit 0 says that a row is split; after, in
+// both.
 ghost use mathlib.Core.Path.{_≡_};
 ghost use Prim.Native.Nat.{_+_, _*_, _≤_, _<_};
 ghost use lib.ListN.{length};
 ghost use Rattle.lists.specs.Search.{iter};
 ghost use Rattle.tables.specs.Ready.{Ready};
-ghost use Rattle.notes.specs.Notes.{noteAt, Tight};
-ghost use Rattle.number.specs.Numbered.{baseSplit, metBy, metBase, metAcross, noteOf, numbers, numberRow};
+ghost use Rattle.notes.specs.Notes.{Tight};
+ghost use Rattle.number.specs.Numbered.{either, metBy, metOn, noteOf, numbers, numberRow};
 use lists::Found;
-use meaning::Tri;
 use notes::Note;
 
 // Of an edge of a row: 1 where it is split, and 1 where it is split and no lower row holds it.
@@ -17,22 +17,14 @@ struct Met {
     first: u32,
 }
 
-fn split_bit(scratch: &[u32], j: usize) -> u32
-    requires { ⌜ j < length (now scratch) ⌝ }
-    ensures { λ r. ⌜ r ≡ noteAt (now (scratch .entry)) j .m ⌝ }
+// 1 where one of the two rows of an edge says that it is split.
+fn either(own: u32, other: u32) -> u32
+    ensures { λ r. ⌜ r ≡ either own other ⌝ }
 {
-    let c = notes::note_at(scratch, j);
-    c.m
-}
-
-// 1 where x→y is the refinement edge of w, and w is split.
-fn base_split(w: Tri, b: u32, x: u32, y: u32) -> u32
-    ensures { λ r. ⌜ r ≡ baseSplit w b x y ⌝ }
-{
-    if (b == 1) & (w.q == x) & (w.r == y) {
+    if own == 1 {
         return 1;
     }
-    0
+    other
 }
 
 // An edge of row i that row j holds too.
@@ -45,31 +37,29 @@ fn met_by(on: u32, j: usize, i: usize) -> Met
     Met { on: on, first: on }
 }
 
-// The refinement edge x→y of row i, which is split.
-fn met_base(rows: &[u32], scratch: &[u32], nc: usize, t: usize, i: usize, x: u32, y: u32) -> Met
-    requires { ⌜ Ready (now scratch) nc (now rows) t ⌝ }
-    ensures { λ r. ⌜ r ≡ metBase (now (rows .entry)) t i x y ⌝ }
-{
-    match tables::find_edge(rows, scratch, nc, t, y, x) {
-        Found::At(j) => met_by(1, j, i),
-        Found::Nothing => Met { on: 1, first: 1 },
-    }
-}
-
-// Another edge x→y of row i, which is split: this one is, where it is the refinement edge of a split row.
-fn met_across(rows: &[u32], scratch: &[u32], nc: usize, t: usize, i: usize, x: u32, y: u32) -> Met
+// The edge x→y of row i, where own is 1 if row i itself says that it is split: else the row across says it.
+fn met_on(
+    rows: &[u32],
+    scratch: &[u32],
+    nc: usize,
+    t: usize,
+    i: usize,
+    own: u32,
+    x: u32,
+    y: u32,
+) -> Met
     requires { ⌜ 3 * t ≤ length (now rows) ⌝ }
     requires { ⌜ t ≤ length (now scratch) ⌝ }
     requires { ⌜ Ready (now scratch) nc (now rows) t ⌝ }
-    ensures { λ r. ⌜ r ≡ metAcross (now (rows .entry)) t (now (scratch .entry)) i x y ⌝ }
+    ensures { λ r. ⌜ r ≡ metOn (now (rows .entry)) t (now (scratch .entry)) i own x y ⌝ }
 {
     match tables::find_edge(rows, scratch, nc, t, y, x) {
-        Found::At(j) => met_by(
-            base_split(tables::row_at(rows, j), split_bit(scratch, j), y, x),
-            j,
-            i,
-        ),
-        Found::Nothing => Met { on: 0, first: 0 },
+        Found::At(j) => {
+            let w = tables::row_at(rows, j);
+            let c = notes::note_at(scratch, j);
+            met_by(either(own, notes::split_on(w, c, y, x)), j, i)
+        }
+        Found::Nothing => Met { on: own, first: own },
     }
 }
 
@@ -81,7 +71,8 @@ fn note_of(rows: &[u32], scratch: &[u32], nc: usize, t: usize, i: usize, k: u32)
     requires { ⌜ Ready (now scratch) nc (now rows) t ⌝ }
     ensures { λ r. ⌜ r ≡ noteOf (now (rows .entry)) t (now (scratch .entry)) i k ⌝ }
 {
-    if split_bit(scratch, i) == 0 {
+    let c = notes::note_at(scratch, i);
+    if c.m == 0 {
         return Note {
             m: 0,
             u: 0,
@@ -93,16 +84,16 @@ fn note_of(rows: &[u32], scratch: &[u32], nc: usize, t: usize, i: usize, k: u32)
         };
     }
     let w = tables::row_at(rows, i);
-    let a = met_base(rows, scratch, nc, t, i, w.q, w.r);
-    let b = met_across(rows, scratch, nc, t, i, w.p, w.q);
-    let c = met_across(rows, scratch, nc, t, i, w.r, w.p);
+    let m = met_on(rows, scratch, nc, t, i, c.m, w.q, w.r);
+    let u = met_on(rows, scratch, nc, t, i, c.u, w.p, w.q);
+    let v = met_on(rows, scratch, nc, t, i, c.v, w.r, w.p);
     Note {
-        m: a.on,
-        u: b.on,
-        v: c.on,
-        fm: a.first,
-        fu: b.first,
-        fv: c.first,
+        m: m.on,
+        u: u.on,
+        v: v.on,
+        fm: m.first,
+        fu: u.first,
+        fv: v.first,
         before: k,
     }
 }
@@ -129,7 +120,7 @@ fn number_row(rows: &[u32], scratch: &mut [u32], nc: usize, t: usize, i: usize, 
     with_new(k, c)
 }
 
-// The notes are 1 where a row is split, else 0. Returns how many new nodes there are.
+// The notes are those that close leaves. Returns how many new nodes there are.
 pub fn number(rows: &[u32], scratch: &mut [u32], nc: usize, t: usize) -> u32
     requires { ⌜ 3 * t ≤ length (now rows) ⌝ }
     requires { ⌜ t ≤ length (now scratch) ⌝ }

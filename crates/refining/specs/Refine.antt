@@ -1,4 +1,4 @@
--- Refine, step by step: what is judged, what is planned, and what is carried out. Assumes nothing.
+-- Refine, step by step, in any manner: what is judged, what is planned, and what is carried out. Assumes nothing.
 use mathlib.Core.Path.{_≡_}
 use mathlib.Core.Bool.{Bool, _||_}
 use mathlib.Core.List.{List}
@@ -9,8 +9,9 @@ use lib.ListN.{length}
 use Rattle.lists.specs.Lists.{all, cases, isFound}
 use Rattle.lists.specs.Search.{lowest, items, iter}
 use Rattle.lists.specs.ItemsLaw.{sumTo}
+use Rattle.meaning.specs.declared.Manner.{Manner}
 use Rattle.meaning.specs.Mesh.{Mesh, Edge}
-use Rattle.meaning.specs.Split.{splitEdges, started, newest, refined, halves}
+use Rattle.meaning.specs.Split.{splitEdges, started, wayOf, refined, halves}
 use Rattle.meaning.specs.Tables.{Given, rowAt, placeAt, flatNodes, flatRows, filled}
 use Rattle.meaning.specs.Calls.{unless, orElse, fits}
 use Rattle.tables.specs.Ready.{Ready}
@@ -22,16 +23,16 @@ use Rattle.refining.specs.declared.Plan.{Plan}
 use Rattle.judging.specs.Judge.{meshIn, early}
 
 -- the split edges of the mesh in the tables
-abbrev pub splitIn : List ℤ → List ℕ → List ℕ → ℕ → ℕ → List Edge
-splitIn nodes rows marks n t = splitEdges (meshIn nodes rows n t) (started newest marks (items (rowAt rows) 0 t))
+abbrev pub splitIn : Manner → List ℤ → List ℕ → List ℕ → ℕ → ℕ → List Edge
+splitIn how nodes rows marks n t = splitEdges (meshIn nodes rows n t) (started (wayOf how) marks (items (rowAt rows) 0 t))
 
 -- the mesh after
-abbrev pub afterIn : List ℤ → List ℕ → List ℕ → ℕ → ℕ → Mesh
-afterIn nodes rows marks n t = refined newest (meshIn nodes rows n t) marks
+abbrev pub afterIn : Manner → List ℤ → List ℕ → List ℕ → ℕ → ℕ → Mesh
+afterIn how nodes rows marks n t = refined (wayOf how) (meshIn nodes rows n t) marks
 
 -- and there is room for it
-abbrev pub fitsIn : List ℤ → List ℕ → List ℕ → ℕ → ℕ → Bool
-fitsIn nodes rows marks n t = fits (record { nodes = length nodes / 2; rows = length rows / 3 }) (afterIn nodes rows marks n t)
+abbrev pub fitsIn : Manner → List ℤ → List ℕ → List ℕ → ℕ → ℕ → Bool
+fitsIn how nodes rows marks n t = fits (record { nodes = length nodes / 2; rows = length rows / 3 }) (afterIn how nodes rows marks n t)
 
 -- ---- what is judged
 
@@ -53,15 +54,15 @@ pub record Weighty (nodes : List ℤ) (rows s : List ℕ) (n t k : ℕ) : Type 0
   pub standing : (i : ℕ) → i < t → Standing nodes (rowAt rows i)
 
 -- document 01's 8 and 9, of a lawful mesh
-unfoldable pub lateNumber : List ℤ → List ℕ → List ℕ → ℕ → ℕ → ℕ
-lateNumber nodes rows marks n t =
-    unless (all (halves (meshIn nodes rows n t)) (splitIn nodes rows marks n t)) 8
-    (unless (fitsIn nodes rows marks n t) 9
+unfoldable pub lateNumber : Manner → List ℤ → List ℕ → List ℕ → ℕ → ℕ → ℕ
+lateNumber how nodes rows marks n t =
+    unless (all (halves (meshIn nodes rows n t)) (splitIn how nodes rows marks n t)) 8
+    (unless (fitsIn how nodes rows marks n t) 9
     0)
 
 -- document 01's 1 to 9
-unfoldable pub refineNumber : Given → ℕ → List ℕ → ℕ
-refineNumber g n0 marks = orElse (early g n0 (g .t) marks) (lateNumber (g .nodes) (g .rows) marks (g .n) (g .t))
+unfoldable pub refineNumber : Manner → Given → ℕ → List ℕ → ℕ
+refineNumber how g n0 marks = orElse (early g n0 (g .t) marks) (lateNumber how (g .nodes) (g .rows) marks (g .n) (g .t))
 
 -- ---- what is carried out
 
@@ -92,9 +93,9 @@ carried nodes rows s n t n1 =
     (filled 0 (length rows) (flatRows (cutAll (items (cutAt n rows s) 0 t))))
 
 -- carried out, it is document 01's refined mesh
-pub record Planned (nodes : List ℤ) (rows s marks : List ℕ) (n t n1 t1 : ℕ) : Type 0 where
+pub record Planned (how : Manner) (nodes : List ℤ) (rows s marks : List ℕ) (n t n1 t1 : ℕ) : Type 0 where
   pub carry : Carry nodes rows s n t n1 t1
-  pub nodes-are : items (placeAt (iter (placeRow n rows s) 0 t nodes)) 0 n1 ≡ afterIn nodes rows marks n t .nodes
-  pub rows-are : cutAll (items (cutAt n rows s) 0 t) ≡ afterIn nodes rows marks n t .tris
-  pub nodes-after : n1 ≡ length (afterIn nodes rows marks n t .nodes)
-  pub rows-after : t1 ≡ length (afterIn nodes rows marks n t .tris)
+  pub nodes-are : items (placeAt (iter (placeRow n rows s) 0 t nodes)) 0 n1 ≡ afterIn how nodes rows marks n t .nodes
+  pub rows-are : cutAll (items (cutAt n rows s) 0 t) ≡ afterIn how nodes rows marks n t .tris
+  pub nodes-after : n1 ≡ length (afterIn how nodes rows marks n t .nodes)
+  pub rows-after : t1 ≡ length (afterIn how nodes rows marks n t .tris)

@@ -1,4 +1,4 @@
--- The steps of refine, in the form of their needs. All is read off the notes: whether 8 or 9 applies, the counts after, the places and
+-- The steps of refine, in any manner, in the form of their needs. All is read off the notes: whether 8 or 9 applies, the counts after, the places and
 -- the rows. The notes tell the split edges of document 01 (`SplitNotes`), so what is carried out is its refined mesh. Assumes nothing.
 use mathlib.Core.Path.{_≡_, refl, sym, ap, _∙_, subst}
 use mathlib.Core.Bool.{Bool, true, false, not, _&&_, _||_}
@@ -16,11 +16,12 @@ use Rattle.lists.specs.ListsLaw.{and-left, and-right, All-getD}
 use Rattle.lists.specs.Search.{lowest, items, iter}
 use Rattle.lists.specs.IterLaw.{length-items, getD-items}
 use Rattle.lists.specs.ItemsLaw.{sumTo}
+use Rattle.meaning.specs.declared.Manner.{Manner}
 use Rattle.meaning.specs.declared.Place.{Place}
 use Rattle.meaning.specs.declared.Answer.{Answer}
 use Rattle.meaning.specs.Mesh.{Mesh, Edge, at, origin}
 use Rattle.meaning.specs.Lawful.{InRange, Named}
-use Rattle.meaning.specs.Split.{bisected, splitEdges, splitAt, split, newest, refined, halves, memEdge, closure, started}
+use Rattle.meaning.specs.Split.{bisected, splitEdges, splitAt, split, wayOf, refined, halves, memEdge, closure, started}
 use Rattle.meaning.specs.Tables.{given, outcome, answer, roomOf, meshOf, rowAt, placeAt, flatNodes, flatRows, filled}
 use Rattle.meaning.specs.Calls.{unless, refineNo, refines, leavesBy, refineOut}
 use Rattle.tables.specs.Sized.{Corners, indexAt}
@@ -30,9 +31,9 @@ use Rattle.notes.specs.Met.{after}
 use Rattle.nodes.specs.Nodes.{Standing, oddAt, placeRow}
 use Rattle.nodes.specs.OddLaw.{standing-at, odd-found}
 use Rattle.nodes.specs.PlacedLaw.{placed-mesh, rooms}
-use Rattle.close.specs.Drawn.{drawMarked}
+use Rattle.close.specs.Drawn.{closed}
 use Rattle.close.specs.EdgeLaw.{lawful-named}
-use Rattle.close.specs.DrawLaw.{close-kept, ready-closed}
+use Rattle.close.specs.DrawLaw.{closed-kept, ready-closed}
 use Rattle.number.specs.Numbered.{numbers, numberRow}
 use Rattle.number.specs.NumberStep.{ready-numbered}
 use Rattle.number.specs.SplitLaw.{SplitNotes, split-notes, split-length}
@@ -69,7 +70,7 @@ short-fits a b c d = go (leb a c) refl (leb b d) refl
     go true e false f = rw (le-ltb c a (leb-true a c e), lt-ltb d b (leb-false b d f))
     go false e y f = rw (lt-ltb c a (leb-false a c e))
 
-module _ (nodes : List ℤ) (rows s₀ marks : List ℕ) (n t : ℕ) (R : Admitted nodes rows s₀ marks t n t) where
+module _ (how : Manner) (nodes : List ℤ) (rows s₀ marks : List ℕ) (n t : ℕ) (R : Admitted nodes rows s₀ marks t n t) where
   abbrev ns : List Place
   ns = items (placeAt nodes) 0 n
 
@@ -110,18 +111,18 @@ module _ (nodes : List ℤ) (rows s₀ marks : List ℕ) (n t : ℕ) (R : Admitt
   rows-standing i h = standing-at nodes n (rowAt rows i) (R .nodes-fit) nodes-near (corners i h)
 
   -- s₁ after close, s₂ and k after number
-  module _ (s₁ s₂ : List ℕ) (k : ℕ) (e₁ : s₁ ≡ iter (drawMarked rows t marks) 0 t s₀) (e₂ : numbers s₂ k ≡ iter (numberRow rows t) 0 t (numbers s₁ 0)) where
+  module _ (s₁ s₂ : List ℕ) (k : ℕ) (e₁ : s₁ ≡ closed how rows t marks s₀) (e₂ : numbers s₂ k ≡ iter (numberRow rows t) 0 t (numbers s₁ 0)) where
     abbrev es : List Edge
-    es = splitIn nodes rows marks n t
+    es = splitIn how nodes rows marks n t
 
     abbrev isSplit : Edge → Bool
-    isSplit e = memEdge e (closure (items (rowAt rows) 0 t) (started newest marks (items (rowAt rows) 0 t)))
+    isSplit e = memEdge e (closure (items (rowAt rows) 0 t) (started (wayOf how) marks (items (rowAt rows) 0 t)))
 
     N : SplitNotes n rows t es isSplit s₂ k
-    N = split-notes ns rows t (R .law) marks s₀ notes-fit clear few-numbers s₁ s₂ n k e₁ e₂ nodes-in-table
+    N = split-notes how ns rows t (R .law) marks s₀ notes-fit clear few-numbers s₁ s₂ n k e₁ e₂ nodes-in-table
 
     same-length : length s₂ ≡ length s₀
-    same-length = split-length ns rows t (R .law) marks s₀ notes-fit clear few-numbers s₁ s₂ n k e₁ e₂
+    same-length = split-length how ns rows t (R .law) marks s₀ notes-fit clear few-numbers s₁ s₂ n k e₁ e₂
 
     -- 8
     odd-as-said : isFound (lowest (oddAt nodes rows s₂) 0 t) ≡ not (all (halves m) es)
@@ -129,17 +130,17 @@ module _ (nodes : List ℤ) (rows s₀ marks : List ℕ) (n t : ℕ) (R : Admitt
     odd-as-said = odd-found nodes n m place-same isSplit rows s₂ t corners (N .member-said)
 
     -- the counts after
-    after-nodes : length (afterIn nodes rows marks n t .nodes) ≡ n + k
+    after-nodes : length (afterIn how nodes rows marks n t .nodes) ≡ n + k
     unfolding refined split splitAt
     after-nodes = length-append ns _ ∙ rw (length-map, nodes-in-table, ← (N .counted))
 
-    after-rows : length (afterIn nodes rows marks n t .tris) ≡ t + sumTo (splits s₂) t
+    after-rows : length (afterIn how nodes rows marks n t .tris) ≡ t + sumTo (splits s₂) t
     unfolding refined split
     after-rows = sym (count-mesh m es n rows s₂ t nodes-in-table refl some-node (N .mids) (N .split-said) (N .pulled))
 
     -- 9
     short-is : ltb (length nodes / 2) (n + k) || ltb (length rows / 3) (t + sumTo (splits s₂) t) ≡
-        not (fitsIn nodes rows marks n t)
+        not (fitsIn how nodes rows marks n t)
     short-is = short-fits (n + k) (t + sumTo (splits s₂) t) (length nodes / 2) (length rows / 3) ∙ rw (after-nodes, after-rows)
 
     chain : (a b : Bool) (x y : ℕ) → cases (not a) (planOf 8 n t) (cases (not b) (planOf 9 n t) (planOf 0 x y)) .number ≡ unless a 8 (unless b 9 0)
@@ -147,21 +148,21 @@ module _ (nodes : List ℤ) (rows s₀ marks : List ℕ) (n t : ℕ) (R : Admitt
     chain true false x y = refl
     chain false b x y = refl
 
-    pub late-number : (r : Plan) → r ≡ weighed nodes rows s₂ n t k → r .number ≡ lateNumber nodes rows marks n t
+    pub late-number : (r : Plan) → r ≡ weighed nodes rows s₂ n t k → r .number ≡ lateNumber how nodes rows marks n t
     unfolding weighed lateNumber
-    late-number r e = ap (λ (p : Plan). p .number) e ∙ rw (odd-as-said, short-is) (chain (all (halves m) es) (fitsIn nodes rows marks n t) (n + k) (t + sumTo (splits s₂) t))
+    late-number r e = ap (λ (p : Plan). p .number) e ∙ rw (odd-as-said, short-is) (chain (all (halves m) es) (fitsIn how nodes rows marks n t) (n + k) (t + sumTo (splits s₂) t))
 
     -- with room for all, the plan can be carried out
-    room-both : fitsIn nodes rows marks n t ≡ true → (n + k ≤ length nodes / 2) × (t + sumTo (splits s₂) t ≤ length rows / 3)
+    room-both : fitsIn how nodes rows marks n t ≡ true → (n + k ≤ length nodes / 2) × (t + sumTo (splits s₂) t ≤ length rows / 3)
     room-both e =
-        let a = leb (length (afterIn nodes rows marks n t .nodes)) (length nodes / 2) in
-        let b = leb (length (afterIn nodes rows marks n t .tris)) (length rows / 3) in
-        let f : length (afterIn nodes rows marks n t .nodes) ≤ length nodes / 2 = leb-true (length (afterIn nodes rows marks n t .nodes)) (length nodes / 2) (and-left a b e) in
-        let g : length (afterIn nodes rows marks n t .tris) ≤ length rows / 3 = leb-true (length (afterIn nodes rows marks n t .tris)) (length rows / 3) (and-right a b e) in
+        let a = leb (length (afterIn how nodes rows marks n t .nodes)) (length nodes / 2) in
+        let b = leb (length (afterIn how nodes rows marks n t .tris)) (length rows / 3) in
+        let f : length (afterIn how nodes rows marks n t .nodes) ≤ length nodes / 2 = leb-true (length (afterIn how nodes rows marks n t .nodes)) (length nodes / 2) (and-left a b e) in
+        let g : length (afterIn how nodes rows marks n t .tris) ≤ length rows / 3 = leb-true (length (afterIn how nodes rows marks n t .tris)) (length rows / 3) (and-right a b e) in
         (rw after-nodes at f, rw after-rows at g)
 
-    room-plan : Ready s₂ (length nodes / 2) rows t → fitsIn nodes rows marks n t ≡ true →
-        Planned nodes rows s₂ marks n t (n + k) (t + sumTo (splits s₂) t)
+    room-plan : Ready s₂ (length nodes / 2) rows t → fitsIn how nodes rows marks n t ≡ true →
+        Planned how nodes rows s₂ marks n t (n + k) (t + sumTo (splits s₂) t)
     unfolding refined split
     room-plan ready e =
         let both = room-both e in
@@ -192,17 +193,17 @@ module _ (nodes : List ℤ) (rows s₀ marks : List ℕ) (n t : ℕ) (R : Admitt
         }
 
     ready-after : Ready s₂ (length nodes / 2) rows t
-    ready-after = ready-numbered rows s₁ s₂ (length nodes / 2) t k (R .rows-fit) (ready-closed rows s₀ s₁ (length nodes / 2) t (R .rows-fit) (R .ready) marks e₁) e₂
+    ready-after = ready-numbered rows s₁ s₂ (length nodes / 2) t k (R .rows-fit) (ready-closed rows s₀ s₁ (length nodes / 2) t (R .rows-fit) (R .ready) how marks e₁) e₂
 
-    pub late-plan : (r : Plan) → r ≡ weighed nodes rows s₂ n t k → r .number ≡ 0 → Planned nodes rows s₂ marks n t (r .n) (r .t)
+    pub late-plan : (r : Plan) → r ≡ weighed nodes rows s₂ n t k → r .number ≡ 0 → Planned how nodes rows s₂ marks n t (r .n) (r .t)
     unfolding weighed
     late-plan r e z =
-        go (all (halves m) es) (fitsIn nodes rows marks n t) refl
+        go (all (halves m) es) (fitsIn how nodes rows marks n t) refl
         (e ∙ rw (odd-as-said, short-is))
       where
-        go : (a b : Bool) → fitsIn nodes rows marks n t ≡ b →
-            r ≡ cases (not a) (planOf 8 n t) (cases (not b) (planOf 9 n t) (planOf 0 (n + k) (t + sumTo (splits s₂) t))) → Planned nodes rows s₂ marks n t (r .n) (r .t)
-        go true true q f = subst (λ (p : Plan). Planned nodes rows s₂ marks n t (p .n) (p .t)) (sym f) (room-plan ready-after q)
+        go : (a b : Bool) → fitsIn how nodes rows marks n t ≡ b →
+            r ≡ cases (not a) (planOf 8 n t) (cases (not b) (planOf 9 n t) (planOf 0 (n + k) (t + sumTo (splits s₂) t))) → Planned how nodes rows s₂ marks n t (r .n) (r .t)
+        go true true q f = subst (λ (p : Plan). Planned how nodes rows s₂ marks n t (p .n) (p .t)) (sym f) (room-plan ready-after q)
         go true false q f = let y : r .number ≡ 9 = ap (λ (p : Plan). p .number) f in absurd (omega arith)
         go false b q f = let y : r .number ≡ 8 = ap (λ (p : Plan). p .number) f in absurd (omega arith)
 
@@ -216,23 +217,23 @@ module _ (nodes : List ℤ) (rows s₀ marks : List ℕ) (n t : ℕ) (R : Admitt
         let f = N .few in
         record { rows-fit = R .rows-fit; notes-fit = omega arith; few-rows = omega arith; few-nodes = omega arith; standing = rows-standing }
 
-  pub closed-ready : (s₁ : List ℕ) → s₁ ≡ iter (drawMarked rows t marks) 0 t s₀ → Ready s₁ (length nodes / 2) rows t
-  closed-ready s₁ e = ready-closed rows s₀ s₁ (length nodes / 2) t (R .rows-fit) (R .ready) marks e
+  pub closed-ready : (s₁ : List ℕ) → s₁ ≡ closed how rows t marks s₀ → Ready s₁ (length nodes / 2) rows t
+  closed-ready s₁ e = ready-closed rows s₀ s₁ (length nodes / 2) t (R .rows-fit) (R .ready) how marks e
 
-  pub closed-fit : (s₁ : List ℕ) → s₁ ≡ iter (drawMarked rows t marks) 0 t s₀ → t ≤ length s₁
-  closed-fit s₁ e = let a = notes-fit in let b = ap length e ∙ close-kept rows t t (omega arith) marks s₀ .0 in omega arith
+  pub closed-fit : (s₁ : List ℕ) → s₁ ≡ closed how rows t marks s₀ → t ≤ length s₁
+  closed-fit s₁ e = let a = notes-fit in let b = ap length e ∙ closed-kept rows t t (omega arith) how marks s₀ .0 in omega arith
 
   pub marks-long : t ≤ length marks
   marks-long = let a = R .marks-fit in omega arith
 
 -- ---- 1 to 7, then 8 and 9
 
-module _ (nodes : List ℤ) (rows s : List ℕ) (n0 n t : ℕ) (marks : List ℕ) (k : ℕ) (e : k ≡ early (given nodes rows s n t) n0 t marks) where
-  pub judge-early : (k ≡ 0 → ⊥) → k ≡ refineNumber (given nodes rows s n t) n0 marks
+module _ (how : Manner) (nodes : List ℤ) (rows s : List ℕ) (n0 n t : ℕ) (marks : List ℕ) (k : ℕ) (e : k ≡ early (given nodes rows s n t) n0 t marks) where
+  pub judge-early : (k ≡ 0 → ⊥) → k ≡ refineNumber how (given nodes rows s n t) n0 marks
   unfolding refineNumber
   judge-early o = rw (← e) (first-of k _ o)
 
-  pub judge-late : (r : ℕ) → k ≡ 0 → r ≡ lateNumber nodes rows marks n t → r ≡ refineNumber (given nodes rows s n t) n0 marks
+  pub judge-late : (r : ℕ) → k ≡ 0 → r ≡ lateNumber how nodes rows marks n t → r ≡ refineNumber how (given nodes rows s n t) n0 marks
   unfolding refineNumber
   judge-late r z d = rw (← e, z) d
 
@@ -256,28 +257,28 @@ carry-done nodes a c rows b d s n t n1 t1 p la q lb fc fd = rw (fc, fd, q, la, l
 
 -- ---- what the call leaves
 
-module _ (nodes : List ℤ) (rows s marks : List ℕ) (n0 n t k : ℕ) (z : s ≡ replicate (length s) 0) (e : k ≡ refineNumber (given nodes rows s n t) n0 marks) where
-  refine-out : leavesBy (given nodes rows s n t) k (afterIn nodes rows marks n t) 0 ≡ refineOut newest (given nodes rows s n t) n0 marks
+module _ (how : Manner) (nodes : List ℤ) (rows s marks : List ℕ) (n0 n t k : ℕ) (z : s ≡ replicate (length s) 0) (e : k ≡ refineNumber how (given nodes rows s n t) n0 marks) where
+  refine-out : leavesBy (given nodes rows s n t) k (afterIn how nodes rows marks n t) 0 ≡ refineOut (wayOf how) (given nodes rows s n t) n0 marks
   unfolding refineOut refines refineNo refineNumber lateNumber meshOf
-  refine-out = rw (e, length-items (rowAt rows) t) (sym (leaves-late (given nodes rows s n t) n0 t marks (lateNumber nodes rows marks n t) (afterIn nodes rows marks n t)))
+  refine-out = rw (e, length-items (rowAt rows) t) (sym (leaves-late (given nodes rows s n t) n0 t marks (lateNumber how nodes rows marks n t) (afterIn how nodes rows marks n t)))
 
-  pub work-refused : (r : Answer) → (k ≡ 0 → ⊥) → r ≡ answer k n t 0 → outcome r nodes rows s ≡ refineOut newest (given nodes rows s n t) n0 marks
+  pub work-refused : (r : Answer) → (k ≡ 0 → ⊥) → r ≡ answer k n t 0 → outcome r nodes rows s ≡ refineOut (wayOf how) (given nodes rows s n t) n0 marks
   work-refused r o f = leaves-refused nodes rows s n t _ z k r o f ∙ refine-out
 
-  pub work-done : (r : Answer) (a : List ℤ) (b s′ : List ℕ) (n1 t1 : ℕ) → k ≡ 0 → (k ≡ 0 → Planned nodes rows s′ marks n t n1 t1) →
-      bothTables a b ≡ carried nodes rows s′ n t n1 → r ≡ answer 0 n1 t1 0 → outcome r a b s ≡ refineOut newest (given nodes rows s n t) n0 marks
+  pub work-done : (r : Answer) (a : List ℤ) (b s′ : List ℕ) (n1 t1 : ℕ) → k ≡ 0 → (k ≡ 0 → Planned how nodes rows s′ marks n t n1 t1) →
+      bothTables a b ≡ carried nodes rows s′ n t n1 → r ≡ answer 0 n1 t1 0 → outcome r a b s ≡ refineOut (wayOf how) (given nodes rows s n t) n0 marks
   unfolding carried
   work-done r a b s′ n1 t1 q f g h =
       let d = f q in
-      leaves-done nodes rows s n t (afterIn nodes rows marks n t) z r a b n1 t1 (d .nodes-after) (d .rows-after)
+      leaves-done nodes rows s n t (afterIn how nodes rows marks n t) z r a b n1 t1 (d .nodes-after) (d .rows-after)
       (ap (λ (y : Pair). y .nodes) g ∙ ap (λ v. filled (pos 0) (length nodes) (flatNodes v)) (d .nodes-are))
       (ap (λ (y : Pair). y .rows) g ∙ ap (λ v. filled 0 (length rows) (flatRows v)) (d .rows-are)) h
       ∙ rw q at refine-out
 
-pub refined-call : (nodes a : List ℤ) (rows b s s₁ s₂ marks : List ℕ) (n0 n t len : ℕ) (r : Answer) → s₁ ≡ replicate (length s) 0 →
-    outcome r a b s₁ ≡ refineOut newest (given nodes rows s₁ n t) n0 marks → s₂ ≡ replicate len 0 → len ≡ length s₁ →
-    outcome r a b s₂ ≡ refineOut newest (given nodes rows s n t) n0 marks
+pub refined-call : (how : Manner) (nodes a : List ℤ) (rows b s s₁ s₂ marks : List ℕ) (n0 n t len : ℕ) (r : Answer) → s₁ ≡ replicate (length s) 0 →
+    outcome r a b s₁ ≡ refineOut (wayOf how) (given nodes rows s₁ n t) n0 marks → s₂ ≡ replicate len 0 → len ≡ length s₁ →
+    outcome r a b s₂ ≡ refineOut (wayOf how) (given nodes rows s n t) n0 marks
 unfolding refineOut meshOf
-refined-call nodes a rows b s s₁ s₂ marks n0 n t len r p =
-    call-out s s₁ p (λ x. refineOut newest (given nodes rows x n t) n0 marks)
-    (λ x x′ e. leaves-same nodes rows x x′ n0 n t e (refines newest (roomOf (given nodes rows s n t)) (meshIn nodes rows n t) marks)) r a b s₂ len
+refined-call how nodes a rows b s s₁ s₂ marks n0 n t len r p =
+    call-out s s₁ p (λ x. refineOut (wayOf how) (given nodes rows x n t) n0 marks)
+    (λ x x′ e. leaves-same nodes rows x x′ n0 n t e (refines (wayOf how) (roomOf (given nodes rows s n t)) (meshIn nodes rows n t) marks)) r a b s₂ len

@@ -1,12 +1,13 @@
-// The steps of refine: all is judged before a node or a row is written.
+// The steps of refine, in any manner: all is judged before a node or a row is written.
 ghost use mathlib.Core.Path.{_≡_};
 ghost use lib.ListN.{length, replicate};
-ghost use Rattle.meaning.specs.Split.{newest};
+ghost use Rattle.meaning.specs.Split.{wayOf};
 ghost use Rattle.meaning.specs.Tables.{given, outcome};
 ghost use Rattle.meaning.specs.Calls.{refineOut};
 ghost use Rattle.judging.specs.Judge.{Admitted};
 ghost use Rattle.refining.specs.Refine.{weighed, Weighty, lateNumber, refineNumber, Planned, Carry, bothTables, carried};
 use meaning::Answer;
+use meaning::Manner;
 
 // What refine is to do: 0, and the counts of nodes and rows after; or the number of the refusal.
 struct Plan {
@@ -43,12 +44,13 @@ fn lay_out(
     marks: &[u8],
     n: usize,
     t: usize,
+    manner: Manner,
 ) -> Plan
     requires { ⌜ Admitted (now nodes) (now rows) (now scratch) (now marks) t n t ⌝ }
-    ensures number { λ r. ⌜ r .number ≡ lateNumber (now (nodes .entry)) (now (rows .entry)) (now (marks .entry)) n t ⌝ }
-    ensures plan { λ r. ⌜ (r .number ≡ 0 → Planned (now (nodes .entry)) (now (rows .entry)) (now (scratch .exit)) (now (marks .entry)) n t (r .n) (r .t)) ⌝ }
+    ensures number { λ r. ⌜ r .number ≡ lateNumber manner (now (nodes .entry)) (now (rows .entry)) (now (marks .entry)) n t ⌝ }
+    ensures plan { λ r. ⌜ (r .number ≡ 0 → Planned manner (now (nodes .entry)) (now (rows .entry)) (now (scratch .exit)) (now (marks .entry)) n t (r .n) (r .t)) ⌝ }
 {
-    close::close(rows, scratch, nodes.len() / 2, t, marks);
+    close::close(rows, scratch, nodes.len() / 2, t, marks, manner);
     let k = number::number(rows, scratch, nodes.len() / 2, t);
     weigh(nodes, rows, scratch, n, t, k as usize)
 }
@@ -62,16 +64,17 @@ fn judge(
     n0: usize,
     n: usize,
     t: usize,
+    manner: Manner,
 ) -> Plan
     requires { ⌜ now scratch ≡ replicate (length (now scratch)) 0 ⌝ }
-    ensures number { λ r. ⌜ r .number ≡ refineNumber (given (now (nodes .entry)) (now (rows .entry)) (now (scratch .entry)) n t) n0 (now (marks .entry)) ⌝ }
-    ensures plan { λ r. ⌜ (r .number ≡ 0 → Planned (now (nodes .entry)) (now (rows .entry)) (now (scratch .exit)) (now (marks .entry)) n t (r .n) (r .t)) ⌝ }
+    ensures number { λ r. ⌜ r .number ≡ refineNumber manner (given (now (nodes .entry)) (now (rows .entry)) (now (scratch .entry)) n t) n0 (now (marks .entry)) ⌝ }
+    ensures plan { λ r. ⌜ (r .number ≡ 0 → Planned manner (now (nodes .entry)) (now (rows .entry)) (now (scratch .exit)) (now (marks .entry)) n t (r .n) (r .t)) ⌝ }
 {
     let k = judging::judge(nodes, rows, scratch, marks, t, n0, n, t);
     if k != 0 {
         return Plan { number: k, n, t };
     }
-    lay_out(nodes, rows, scratch, marks, n, t)
+    lay_out(nodes, rows, scratch, marks, n, t, manner)
 }
 
 // ---- the work
@@ -104,11 +107,12 @@ pub fn work(
     n0: usize,
     n: usize,
     t: usize,
+    manner: Manner,
 ) -> Answer
     requires { ⌜ now scratch ≡ replicate (length (now scratch)) 0 ⌝ }
-    ensures { λ r. ⌜ outcome r (now (nodes .exit)) (now (rows .exit)) (now (scratch .entry)) ≡ refineOut newest (given (now (nodes .entry)) (now (rows .entry)) (now (scratch .entry)) n t) n0 (now (marks .entry)) ⌝ }
+    ensures { λ r. ⌜ outcome r (now (nodes .exit)) (now (rows .exit)) (now (scratch .entry)) ≡ refineOut (wayOf manner) (given (now (nodes .entry)) (now (rows .entry)) (now (scratch .entry)) n t) n0 (now (marks .entry)) ⌝ }
 {
-    let p = judge(nodes, rows, scratch, marks, n0, n, t);
+    let p = judge(nodes, rows, scratch, marks, n0, n, t, manner);
     if p.number != 0 {
         return judging::said(p.number, n, t);
     }

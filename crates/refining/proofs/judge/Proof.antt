@@ -4,7 +4,7 @@ use Rattle.refining.proofs.judge.Statement.{statement}
 use Rattle.refining.proofs.judge.Tie as tie
 
 returns : tie.Need-returns
-returns c = (judge-early _ _ _ _ _ _ _ _ (c .before .before .before .judge .ensures .0) (c .if1 .taken), λ e. absurd (c .if1 .taken e))
+returns c = (judge-early _ _ _ _ _ _ _ _ _ (c .before .before .before .judge .ensures .0) (c .if1 .taken), λ e. absurd (c .if1 .taken e))
 
 lay-out-requires : tie.Need-lay-out-requires
 lay-out-requires c κs = c .before .before .before .before .judge .ensures .1 (c .before .if1 .left)
@@ -13,7 +13,7 @@ returns-2 : tie.Need-returns-2
 returns-2 c =
     let lay = c .before .before in
     let go-on = lay .before .before in
-    (judge-late _ _ _ _ _ _ _ _ (go-on .before .before .before .judge .ensures .0) _ (go-on .if1 .left) (lay .lay-out .ensures .0), lay .lay-out .ensures .1)
+    (judge-late _ _ _ _ _ _ _ _ _ (go-on .before .before .before .judge .ensures .0) _ (go-on .if1 .left) (lay .lay-out .ensures .0), lay .lay-out .ensures .1)
 
 pub judge-spec : {M : Type 1} → statement M
 judge-spec =

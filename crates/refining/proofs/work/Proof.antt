@@ -6,7 +6,7 @@ use Rattle.refining.proofs.work.Tie as tie
 returns : tie.Need-returns
 returns c =
     let judge = c .before .before .before .before .before in
-    work-refused _ _ _ _ _ _ _ _ (judge .before .before .before .before .before .before .before .pre) (judge .judge .ensures .0) _ (c .before .if1 .taken) (c .said .ensures)
+    work-refused _ _ _ _ _ _ _ _ _ (judge .before .before .before .before .before .before .before .pre) (judge .judge .ensures .0) _ (c .before .if1 .taken) (c .said .ensures)
 
 carry-out-requires : tie.Need-carry-out-requires
 carry-out-requires c κs =
@@ -18,7 +18,7 @@ returns-2 c =
     let carry = c .before .before .before .before in
     let go-on = carry .before .before .before .before in
     let judge = go-on .before .before .before .before in
-    work-done _ _ _ _ _ _ _ _ (judge .before .before .before .before .before .before .before .pre) (judge .judge .ensures .0) _ _ _ _ _ _ (go-on .if1 .left) (judge .judge .ensures .1)
+    work-done _ _ _ _ _ _ _ _ _ (judge .before .before .before .before .before .before .before .pre) (judge .judge .ensures .0) _ _ _ _ _ _ (go-on .if1 .left) (judge .judge .ensures .1)
     (carry .carry-out .ensures) (c .said2 .ensures)
 
 pub work-spec : {M : Type 1} → statement M

@@ -2,10 +2,11 @@
 ghost use mathlib.Core.Path.{_≡_};
 ghost use lib.ListN.{length, replicate};
 ghost use Rattle.meaning.specs.Tables.{given, outcome};
-ghost use Rattle.meaning.specs.Split.{newest};
+ghost use Rattle.meaning.specs.Split.{wayOf, newest, allThree};
 ghost use Rattle.meaning.specs.Calls.{checkOut, refineOut, coarsenOut};
 ghost use Rattle.mesh.specs.Check.{checkNumber};
 use meaning::Answer;
+use meaning::Manner;
 
 mod coarsening; // coarsening.rt: the steps of coarsen
 
@@ -39,7 +40,26 @@ pub fn check(nodes: &mut [i32], rows: &mut [u32], scratch: &mut [u32], n: usize,
     }
 }
 
-// Refine: the marked triangles are split, and as many more as keep the mesh whole. A refusal changes no node, row or mark.
+// Refine, in any manner: the marked triangles are split, and as many more as keep the mesh whole. A refusal changes no node, row or mark.
+pub fn refine_by(
+    nodes: &mut [i32],
+    rows: &mut [u32],
+    scratch: &mut [u32],
+    marks: &[u8],
+    n0: usize,
+    n: usize,
+    t: usize,
+    manner: Manner,
+) -> Answer
+    ensures { λ r. ⌜ outcome r (now (nodes .exit)) (now (rows .exit)) (now (scratch .exit)) ≡ refineOut (wayOf manner) (given (now (nodes .entry)) (now (rows .entry)) (now (scratch .entry)) n t) n0 (now (marks .entry)) ⌝ }
+{
+    tables::clear(scratch);
+    let a = refining::work(nodes, rows, scratch, marks, n0, n, t, manner);
+    tables::clear(scratch);
+    a
+}
+
+// Refine by 01: a marked triangle is cut at its refinement edge, and at others if the mesh is to stay whole.
 pub fn refine(
     nodes: &mut [i32],
     rows: &mut [u32],
@@ -51,10 +71,22 @@ pub fn refine(
 ) -> Answer
     ensures { λ r. ⌜ outcome r (now (nodes .exit)) (now (rows .exit)) (now (scratch .exit)) ≡ refineOut newest (given (now (nodes .entry)) (now (rows .entry)) (now (scratch .entry)) n t) n0 (now (marks .entry)) ⌝ }
 {
-    tables::clear(scratch);
-    let a = refining::work(nodes, rows, scratch, marks, n0, n, t);
-    tables::clear(scratch);
-    a
+    refine_by(nodes, rows, scratch, marks, n0, n, t, Manner::Newest)
+}
+
+// Refine by W1: a marked triangle is cut in four, at all three edges.
+pub fn quarter(
+    nodes: &mut [i32],
+    rows: &mut [u32],
+    scratch: &mut [u32],
+    marks: &[u8],
+    n0: usize,
+    n: usize,
+    t: usize,
+) -> Answer
+    ensures { λ r. ⌜ outcome r (now (nodes .exit)) (now (rows .exit)) (now (scratch .exit)) ≡ refineOut allThree (given (now (nodes .entry)) (now (rows .entry)) (now (scratch .entry)) n t) n0 (now (marks .entry)) ⌝ }
+{
+    refine_by(nodes, rows, scratch, marks, n0, n, t, Manner::AllThree)
 }
 
 // Coarsen: the nodes that are marked and good go. A refusal changes no node, row or mark.

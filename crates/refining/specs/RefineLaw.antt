@@ -21,7 +21,7 @@ use Rattle.meaning.specs.declared.Place.{Place}
 use Rattle.meaning.specs.declared.Answer.{Answer}
 use Rattle.meaning.specs.Mesh.{Mesh, Edge, at, origin}
 use Rattle.meaning.specs.Lawful.{InRange, Named}
-use Rattle.meaning.specs.Split.{bisected, splitEdges, splitAt, split, wayOf, refined, halves, memEdge, closure, started}
+use Rattle.meaning.specs.Split.{bisected, splitEdges, splitAt, split, Way, wayOf, refined, halves, memEdge, closure, started}
 use Rattle.meaning.specs.Tables.{given, outcome, answer, roomOf, meshOf, rowAt, placeAt, flatNodes, flatRows, filled}
 use Rattle.meaning.specs.Calls.{unless, refineNo, refines, leavesBy, refineOut}
 use Rattle.tables.specs.Sized.{Corners, indexAt}
@@ -275,10 +275,11 @@ module _ (how : Manner) (nodes : List ℤ) (rows s marks : List ℕ) (n0 n t k :
       (ap (λ (y : Pair). y .rows) g ∙ ap (λ v. filled 0 (length rows) (flatRows v)) (d .rows-are)) h
       ∙ rw q at refine-out
 
-pub refined-call : (how : Manner) (nodes a : List ℤ) (rows b s s₁ s₂ marks : List ℕ) (n0 n t len : ℕ) (r : Answer) → s₁ ≡ replicate (length s) 0 →
-    outcome r a b s₁ ≡ refineOut (wayOf how) (given nodes rows s₁ n t) n0 marks → s₂ ≡ replicate len 0 → len ≡ length s₁ →
-    outcome r a b s₂ ≡ refineOut (wayOf how) (given nodes rows s n t) n0 marks
+-- by whatever way
+pub refined-call : (w : Way) (nodes a : List ℤ) (rows b s s₁ s₂ marks : List ℕ) (n0 n t len : ℕ) (r : Answer) → s₁ ≡ replicate (length s) 0 →
+    outcome r a b s₁ ≡ refineOut w (given nodes rows s₁ n t) n0 marks → s₂ ≡ replicate len 0 → len ≡ length s₁ →
+    outcome r a b s₂ ≡ refineOut w (given nodes rows s n t) n0 marks
 unfolding refineOut meshOf
-refined-call how nodes a rows b s s₁ s₂ marks n0 n t len r p =
-    call-out s s₁ p (λ x. refineOut (wayOf how) (given nodes rows x n t) n0 marks)
-    (λ x x′ e. leaves-same nodes rows x x′ n0 n t e (refines (wayOf how) (roomOf (given nodes rows s n t)) (meshIn nodes rows n t) marks)) r a b s₂ len
+refined-call w nodes a rows b s s₁ s₂ marks n0 n t len r p =
+    call-out s s₁ p (λ x. refineOut w (given nodes rows x n t) n0 marks)
+    (λ x x′ e. leaves-same nodes rows x x′ n0 n t e (refines w (roomOf (given nodes rows s n t)) (meshIn nodes rows n t) marks)) r a b s₂ len

@@ -1,0 +1,9 @@
+use borrow.Author.Needs.{needs}
+use Rattle.mesh.proofs.quarter.Statement.{statement}
+use Rattle.mesh.proofs.quarter.Tie as tie
+
+pub quarter-spec : {M : Type 1} → statement M
+quarter-spec =
+    tie.close
+    (tie.spec
+    (λ c κs. search needs) (λ c. search needs) (λ c. search needs) (λ c. search needs) (λ c. search needs))

@@ -10,7 +10,6 @@ use lib.ListN.{replicate}
 use Rattle.lists.specs.Search.{lowest, lowestFrom, items, itemsFrom}
 use Rattle.meaning.specs.Mesh.{twiceArea}
 use Rattle.meaning.specs.Lawful.{refusal, compatible, faultOf, firstOutside, firstMisnamed, firstRepeat, firstFlat, firstUnused, firstClash}
-use Rattle.meaning.specs.declared.Manner.the-variants.{Newest, AllThree}
 use Rattle.meaning.specs.Split.{newest, allThree, closure, splitEdges, splitAt, split, refined}
 use Rattle.meaning.specs.Good.{pairs, span, G1-4, good}
 use Rattle.meaning.specs.Coarsen.{taken, without, coarsened, goodNodes, pass, restored}
@@ -65,11 +64,11 @@ not-0 k e = omega arith
 history : Held S S4
 unfolding leaving square two nodesCut nodesMore rowsCut rowsMore S S4 lowest lowestFrom items itemsFrom placeAt rowAt meshOf twiceArea firstOutside firstMisnamed firstRepeat firstFlat firstUnused firstClash faultOf refusal compatible closure splitEdges splitAt split refined pairs span G1-4 good taken without coarsened goodNodes pass restored checkNo refineNo coarsenNo checks refines coarsens restores sizesFit checkOut refineOut coarsenOut restoreOut
 history =
-    let a = after-refine base-held AllThree refl (1 ∷ 0 ∷ []) (leaving 0 7 6 0 nodesCut rowsCut 76) refl refl in
-    let b = after-refine a Newest refl (1 ∷ 0 ∷ 0 ∷ 0 ∷ 0 ∷ 0 ∷ []) (leaving 0 8 8 0 nodesMore rowsMore 76) refl refl in
+    let a = after-refine base-held allThree refl (1 ∷ 0 ∷ []) (leaving 0 7 6 0 nodesCut rowsCut 76) refl refl in
+    let b = after-refine a newest refl (1 ∷ 0 ∷ 0 ∷ 0 ∷ 0 ∷ 0 ∷ []) (leaving 0 8 8 0 nodesMore rowsMore 76) refl refl in
     let c = after-refusal b (replicate 76 1) 7 8 (leaving 4 7 8 0 nodesMore rowsMore 76) (check-made refl) (not-0 3) in
-    let d = after-refusal c (replicate 76 0) 8 8 (leaving 2 8 8 0 nodesMore rowsMore 76) (refine-made Newest 4 (1 ∷ []) refl) (not-0 1) in
-    let e = after-refusal d (replicate 76 0) 8 8 (leaving 9 8 8 0 nodesMore rowsMore 76) (refine-made AllThree 4 (0 ∷ 0 ∷ 0 ∷ 0 ∷ 1 ∷ 0 ∷ 0 ∷ 0 ∷ []) refl) (not-0 8) in
+    let d = after-refusal c (replicate 76 0) 8 8 (leaving 2 8 8 0 nodesMore rowsMore 76) (refine-made newest 4 (1 ∷ []) refl) (not-0 1) in
+    let e = after-refusal d (replicate 76 0) 8 8 (leaving 9 8 8 0 nodesMore rowsMore 76) (refine-made allThree 4 (0 ∷ 0 ∷ 0 ∷ 0 ∷ 1 ∷ 0 ∷ 0 ∷ 0 ∷ []) refl) (not-0 8) in
     let f = after-coarsen e (0 ∷ 0 ∷ 0 ∷ 0 ∷ 0 ∷ 0 ∷ 0 ∷ 1 ∷ []) (leaving 0 7 6 0 nodesCut rowsCut 76) refl refl in
     let g = after-refusal f (replicate 76 0) 7 6 (leaving 1 7 6 0 nodesCut rowsCut 76) (coarsen-made 8 (replicate 7 1) refl) (not-0 0) in
     let h = after-refusal g [] 7 6 (leaving 1 7 6 0 nodesCut rowsCut 0) (restore-made 4 refl) (not-0 0) in

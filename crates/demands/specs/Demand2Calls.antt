@@ -27,6 +27,7 @@ use Rattle.laws.specs.CoarsenCalls.{Coarsened, CoarsenSays, well-marked, Restor
 use Rattle.laws.specs.Restore.{restored-fewer, restored-rows}
 use Rattle.laws.specs.TableMesh.{nodes-count, rows-count, tablesAfter}
 use Rattle.laws.specs.CallLaw.{Sizes, sizes-exact, AsGiven, Holds, Answers, CallLeaves, call-answers, done-holds, check-leaves, refine-leaves, coarsen-leaves, restore-leaves}
+use Rattle.demands.specs.InFour.{InFour, marked-in-four}
 
 -- ---- what a user finds
 
@@ -158,6 +159,14 @@ module _ (w : Way) (laws : CutLaws (w .cutting)) (own : (t : Tri) → All (λ e.
 pub manner-call : (k : Manner) (g : Given) (n0 : ℕ) (marks : List ℕ) (o : Outcome) → o ≡ refineOut (wayOf k) g n0 marks → RefineMade (wayOf k) (startsOf k) g n0 marks o
 manner-call k = refine-call (wayOf k) bisected-laws (starts-own k)
 
+-- what was row i, marked, is four rows of the mesh left
+pub quarter-in-four : (g : Given) (n0 : ℕ) (marks : List ℕ) (o : Outcome) → o ≡ refineOut allThree g n0 marks → o .answer .number ≡ 0 → (i : ℕ) → i < g .t → getD marks i 0 ≡ 1 →
+    InFour (rowOf (meshOf g .tris) i) i (meshOf (tablesAfter o))
+quarter-in-four g n0 marks o e z i l one =
+    let done = refine-leaves g n0 allThree marks .sized-and-0 (ap (λ (x : Outcome). x .answer .number) (sym e) ∙ z) .1 in
+    rw (manner-call AllThree g n0 marks o e .leaves-refined z .holds .mesh-is)
+    (marked-in-four (roomOf g) (meshOf g) marks done i (omega (arith, rows-count g)) one)
+
 pub coarsen-call : (g : Given) (n0 : ℕ) (marks : List ℕ) (o : Outcome) → o ≡ coarsenOut g n0 marks → CoarsenMade g n0 marks o
 coarsen-call g n0 marks o e =
     let c = coarsen-leaves g n0 marks in
@@ -206,7 +215,10 @@ pub record Demand2 : Type 1 where
   pub of-refine : (g : Given) (n0 : ℕ) (marks : List ℕ) (o : Outcome) → o ≡ refineOut newest g n0 marks → RefineMade newest (λ t. base t ∷ []) g n0 marks o
   -- W1: from "all three edges of a marked triangle"
   pub of-quarter : (g : Given) (n0 : ℕ) (marks : List ℕ) (o : Outcome) → o ≡ refineOut allThree g n0 marks → RefineMade allThree edges g n0 marks o
+  -- W1: "a marked triangle cut in four at once"
+  pub cut-in-four : (g : Given) (n0 : ℕ) (marks : List ℕ) (o : Outcome) → o ≡ refineOut allThree g n0 marks → o .answer .number ≡ 0 → (i : ℕ) → i < g .t → getD marks i 0 ≡ 1 →
+      InFour (rowOf (meshOf g .tris) i) i (meshOf (tablesAfter o))
   pub of-coarsen : (g : Given) (n0 : ℕ) (marks : List ℕ) (o : Outcome) → o ≡ coarsenOut g n0 marks → CoarsenMade g n0 marks o
 
 pub demand2-calls : Demand2
-demand2-calls = record { of-check = check-call; of-refine = manner-call Newest; of-quarter = manner-call AllThree; of-coarsen = coarsen-call }
+demand2-calls = record { of-check = check-call; of-refine = manner-call Newest; of-quarter = manner-call AllThree; cut-in-four = quarter-in-four; of-coarsen = coarsen-call }

@@ -8,7 +8,7 @@ use native.Mathlib.Omega.{arith}
 use lib.IntN.{pos}
 use lib.ListN.{replicate}
 use Rattle.lists.specs.Search.{lowest, lowestFrom, items, itemsFrom}
-use Rattle.meaning.specs.Mesh.{twiceArea}
+use Rattle.meaning.specs.Mesh.{tri, twiceArea}
 use Rattle.meaning.specs.Lawful.{refusal, compatible, faultOf, firstOutside, firstMisnamed, firstRepeat, firstFlat, firstUnused, firstClash}
 use Rattle.meaning.specs.Split.{newest, allThree, closure, splitEdges, splitAt, split, refined}
 use Rattle.meaning.specs.Good.{pairs, span, G1-4, good}
@@ -16,6 +16,7 @@ use Rattle.meaning.specs.Coarsen.{taken, without, coarsened, goodNodes, pass, r
 use Rattle.meaning.specs.Tables.{Given, Outcome, given, outcome, answer, placeAt, rowAt, meshOf}
 use Rattle.meaning.specs.Calls.{checkNo, refineNo, coarsenNo, checks, refines, coarsens, restores, sizesFit, checkOut, refineOut, coarsenOut, restoreOut}
 use Rattle.laws.specs.TableMesh.{tablesAfter}
+use Rattle.demands.specs.InFour.{InFour}
 use Rattle.demands.specs.Demand2Calls.{RefineDone, CoarsenDone, demand2-calls}
 use Rattle.demands.specs.Demand3Calls.{Held, base-held, scratch-anew, after-refine, after-coarsen, after-refusal, check-made, refine-made, coarsen-made, restore-made, demand3-calls}
 
@@ -78,6 +79,11 @@ history =
 quartered-first : RefineDone allThree S (1 ∷ 0 ∷ []) (leaving 0 7 6 0 nodesCut rowsCut 76)
 unfolding leaving square two nodesCut rowsCut S lowest lowestFrom items itemsFrom placeAt rowAt meshOf twiceArea firstOutside firstMisnamed firstRepeat firstFlat firstUnused faultOf refusal closure splitEdges splitAt split refined refineNo refines sizesFit refineOut
 quartered-first = demand2-calls .of-quarter S 4 (1 ∷ 0 ∷ []) (leaving 0 7 6 0 nodesCut rowsCut 76) refl .leaves-refined refl
+
+-- row 0 is four rows now
+quartered-in-four : InFour (tri 1 2 0) 0 (meshOf (tablesAfter (leaving 0 7 6 0 nodesCut rowsCut 76)))
+unfolding leaving square two nodesCut rowsCut S lowest lowestFrom items itemsFrom placeAt rowAt meshOf twiceArea firstOutside firstMisnamed firstRepeat firstFlat firstUnused faultOf refusal closure splitEdges splitAt split refined refineNo refines sizesFit refineOut
+quartered-in-four = demand2-calls .cut-in-four S 4 (1 ∷ 0 ∷ []) (leaving 0 7 6 0 nodesCut rowsCut 76) refl refl 0 (omega arith) refl
 
 refined-next : RefineDone newest (tablesAfter (leaving 0 7 6 0 nodesCut rowsCut 76)) (1 ∷ 0 ∷ 0 ∷ 0 ∷ 0 ∷ 0 ∷ []) (leaving 0 8 8 0 nodesMore rowsMore 76)
 unfolding leaving square nodesCut nodesMore rowsCut rowsMore lowest lowestFrom items itemsFrom placeAt rowAt meshOf twiceArea firstOutside firstMisnamed firstRepeat firstFlat firstUnused faultOf refusal closure splitEdges splitAt split refined refineNo refines sizesFit refineOut

@@ -1,17 +1,19 @@
 -- DEMAND 2 OF THE CALLS. Every premise on a call is the equation that its contract ensures, so that what is said here holds of any run of
--- the calls themselves: mesh::check, mesh::refine, mesh::coarsen (crates/mesh/src/lib.rt) and job::restore (crates/job/src/lib.rt).
--- What `Answers`, `Holds` and `AsGiven` say of tables stands in crates/laws/specs/CallLaw.antt. Assumes nothing.
-use mathlib.Core.List.{List, List·Memᴰ, List·Memᴰ·head}
+-- the calls themselves: mesh::check, mesh::refine, mesh::quarter, mesh::coarsen (crates/mesh/src/lib.rt) and job::restore
+-- (crates/job/src/lib.rt). What `Answers`, `Holds` and `AsGiven` say of tables stands in crates/laws/specs/CallLaw.antt. Assumes nothing.
+use mathlib.Core.List.{List, [], _∷_, List·Memᴰ}
 use mathlib.Core.Logic.{_↔_, _≢_, _⊎_}
-use mathlib.Core.Path.{_≡_, refl, sym, subst, ap, _∙_}
-use Prim.Native.Nat.{ℕ, _*_, _/_, _≤_}
+use mathlib.Core.Path.{_≡_, sym, subst, ap, _∙_}
+use Prim.Native.Nat.{ℕ, _*_, _/_, _≤_, _<_}
 use native.Mathlib.Omega.{arith}
-use lib.ListN.{length}
-use Rattle.lists.specs.Lists.{All, nil, cons}
+use lib.ListN.{length, getD}
+use Rattle.lists.specs.Lists.{All}
+use Rattle.meaning.specs.declared.Manner.{Manner}
+use Rattle.meaning.specs.declared.Manner.the-variants.{Newest, AllThree}
 use Rattle.meaning.specs.declared.Tri.{Tri}
-use Rattle.meaning.specs.Mesh.{Mesh, Edge, edges}
-use Rattle.meaning.specs.Lawful.{Lawful, Lowest, refusal}
-use Rattle.meaning.specs.Split.{Way, newest, started, refined}
+use Rattle.meaning.specs.Mesh.{Mesh, Edge, edges, base}
+use Rattle.meaning.specs.Lawful.{Lawful, Lowest, refusal, rowOf}
+use Rattle.meaning.specs.Split.{Way, startsOf, wayOf, newest, allThree, started, refined}
 use Rattle.meaning.specs.Coarsen.{coarsened, restored}
 use Rattle.meaning.specs.Tables.{Given, Outcome, meshOf, roomOf}
 use Rattle.meaning.specs.Calls.{checkNo, refineNo, coarsenNo, checkOut, refineOut, coarsenOut, restoreOut}
@@ -20,11 +22,12 @@ use Rattle.laws.specs.Check.{CheckSays, unlawful-base, check-exact}
 use Rattle.laws.specs.Marks.{WellMarked}
 use Rattle.laws.specs.Cut.{CutLaws}
 use Rattle.laws.specs.Bisected.{bisected-laws}
-use Rattle.laws.specs.Refine.{toSplit, Least, OddSum, Fits, TooMany, RefineSays, unlawful, Refined, refine-splits, refine-exact, refine-8, refine-9, refine-0, refine-only-8-9, refine-done}
+use Rattle.laws.specs.Refine.{toSplit, Least, OddSum, Fits, TooMany, RefineSays, unlawful, Refined, refine-splits, started-exactly, starts-own, refine-exact, refine-8, refine-9, refine-0, refine-only-8-9, refine-done}
 use Rattle.laws.specs.CoarsenCalls.{Coarsened, CoarsenSays, well-marked, RestoreDone, coarsen-exact, coarsen-0, coarsen-done, restore-done}
 use Rattle.laws.specs.Restore.{restored-fewer, restored-rows}
 use Rattle.laws.specs.TableMesh.{nodes-count, rows-count, tablesAfter}
 use Rattle.laws.specs.CallLaw.{Sizes, sizes-exact, AsGiven, Holds, Answers, CallLeaves, call-answers, done-holds, check-leaves, refine-leaves, coarsen-leaves, restore-leaves}
+use Rattle.demands.specs.InFour.{InFour, marked-in-four}
 
 -- ---- what a user finds
 
@@ -41,17 +44,21 @@ pub record OfLawful (w : Way) (g : Given) (marks : List ℕ) (k : ℕ) : Type 0 
   pub exactly-0 : (k ≡ 0) ↔ (All (λ e. ¬ OddSum (meshOf g) e) (toSplit w (meshOf g) marks) × Fits (roomOf g) (refined w (meshOf g) marks))
 
 -- after 0
-pub record RefineDone (w : Way) (g : Given) (marks : List ℕ) (o : Outcome) : Type 1 where
+pub record RefineDone (w : Way) (g : Given) (marks : List ℕ) (o : Outcome) : Type 0 where
   -- the tables hold the refined mesh, zeros past it
   pub holds : Holds g (refined w (meshOf g) marks) o
   -- which is lawful, of the same total, with the nodes and rows that splitting makes
   pub is-refined : Refined w (roomOf g) (meshOf g) marks (meshOf (tablesAfter o))
-  -- and the edges that are split are the least closed set
-  pub splits-least : Least (meshOf g .tris) (started w marks (meshOf g .tris)) (toSplit w (meshOf g) marks)
   pub reports-none : o .answer .passes ≡ 0
 
-pub record RefineMade (w : Way) (g : Given) (n0 : ℕ) (marks : List ℕ) (o : Outcome) : Type 1 where
+-- a refine by the way w, which starts from `starts t` for every marked triangle t
+pub record RefineMade (w : Way) (starts : Tri → List Edge) (g : Given) (n0 : ℕ) (marks : List ℕ) (o : Outcome) : Type 1 where
   pub answered : Answers g n0 (RefineSays w (roomOf g) (meshOf g) marks) o
+  -- the starting edges: those of every marked triangle, and no other
+  pub starts-exactly : (e : Edge) →
+      List·Memᴰ e (started w marks (meshOf g .tris)) ↔ ((i : ℕ) × (i < length (meshOf g .tris)) × (getD marks i 0 ≡ 1) × List·Memᴰ e (starts (rowOf (meshOf g .tris) i)))
+  -- the edges to be split: the least set that holds these and, with any edge of a triangle, its refinement edge
+  pub splits-least : Least (meshOf g .tris) (started w marks (meshOf g .tris)) (toSplit w (meshOf g) marks)
   pub of-lawful : Sizes g n0 → WellMarked (g .t) marks → Lawful (meshOf g) → OfLawful w g marks (o .answer .number)
   pub leaves-refined : o .answer .number ≡ 0 → RefineDone w g marks o
 
@@ -133,23 +140,32 @@ module _ (w : Way) (laws : CutLaws (w .cutting)) (own : (t : Tri) → All (λ e.
         record {
           holds = h;
           is-refined = rw (h .mesh-is) d;
-          splits-least = refine-splits w own (meshOf g) marks;
           reports-none = ap (λ (x : Outcome). x .answer .passes) (c .done-is e);
         }
 
-  pub refine-call : (g : Given) (n0 : ℕ) (marks : List ℕ) (o : Outcome) → o ≡ refineOut w g n0 marks → RefineMade w g n0 marks o
+  pub refine-call : (g : Given) (n0 : ℕ) (marks : List ℕ) (o : Outcome) → o ≡ refineOut w g n0 marks → RefineMade w (w .starts) g n0 marks o
   refine-call g n0 marks o e =
       let c = refine-leaves g n0 w marks in
-      subst (RefineMade w g n0 marks) (sym e)
+      subst (RefineMade w (w .starts) g n0 marks) (sym e)
       (record {
         answered = call-answers g n0 (k g n0 marks) (RefineSays w (roomOf g) (meshOf g) marks) (refineOut w g n0 marks) (c .number-said) (refine-exact w (roomOf g) (meshOf g) marks) (not-1 g n0 marks) (c .refusal-leaves) (c .scratch-zero);
+        starts-exactly = started-exactly w marks (meshOf g .tris);
+        splits-least = refine-splits w own (meshOf g) marks;
         of-lawful = lawful-says g n0 marks;
         leaves-refined = made g n0 marks;
       })
 
--- 01's way
-pub newest-call : (g : Given) (n0 : ℕ) (marks : List ℕ) (o : Outcome) → o ≡ refineOut newest g n0 marks → RefineMade newest g n0 marks o
-newest-call = refine-call newest bisected-laws (λ t. cons (List·Memᴰ·head refl) nil)
+-- in each manner
+pub manner-call : (k : Manner) (g : Given) (n0 : ℕ) (marks : List ℕ) (o : Outcome) → o ≡ refineOut (wayOf k) g n0 marks → RefineMade (wayOf k) (startsOf k) g n0 marks o
+manner-call k = refine-call (wayOf k) bisected-laws (starts-own k)
+
+-- what was row i, marked, is four rows of the mesh left
+pub quarter-in-four : (g : Given) (n0 : ℕ) (marks : List ℕ) (o : Outcome) → o ≡ refineOut allThree g n0 marks → o .answer .number ≡ 0 → (i : ℕ) → i < g .t → getD marks i 0 ≡ 1 →
+    InFour (rowOf (meshOf g .tris) i) i (meshOf (tablesAfter o))
+quarter-in-four g n0 marks o e z i l one =
+    let done = refine-leaves g n0 allThree marks .sized-and-0 (ap (λ (x : Outcome). x .answer .number) (sym e) ∙ z) .1 in
+    rw (manner-call AllThree g n0 marks o e .leaves-refined z .holds .mesh-is)
+    (marked-in-four (roomOf g) (meshOf g) marks done i (omega (arith, rows-count g)) one)
 
 pub coarsen-call : (g : Given) (n0 : ℕ) (marks : List ℕ) (o : Outcome) → o ≡ coarsenOut g n0 marks → CoarsenMade g n0 marks o
 coarsen-call g n0 marks o e =
@@ -195,8 +211,14 @@ restore-call g n0 o e =
 -- DEMAND 2 OF THE CALLS.
 pub record Demand2 : Type 1 where
   pub of-check : (g : Given) (o : Outcome) → o ≡ checkOut g → CheckMade g o
-  pub of-refine : (g : Given) (n0 : ℕ) (marks : List ℕ) (o : Outcome) → o ≡ refineOut newest g n0 marks → RefineMade newest g n0 marks o
+  -- 01: from "the refinement edge of every marked triangle"
+  pub of-refine : (g : Given) (n0 : ℕ) (marks : List ℕ) (o : Outcome) → o ≡ refineOut newest g n0 marks → RefineMade newest (λ t. base t ∷ []) g n0 marks o
+  -- W1: from "all three edges of a marked triangle"
+  pub of-quarter : (g : Given) (n0 : ℕ) (marks : List ℕ) (o : Outcome) → o ≡ refineOut allThree g n0 marks → RefineMade allThree edges g n0 marks o
+  -- W1: "a marked triangle cut in four at once"
+  pub cut-in-four : (g : Given) (n0 : ℕ) (marks : List ℕ) (o : Outcome) → o ≡ refineOut allThree g n0 marks → o .answer .number ≡ 0 → (i : ℕ) → i < g .t → getD marks i 0 ≡ 1 →
+      InFour (rowOf (meshOf g .tris) i) i (meshOf (tablesAfter o))
   pub of-coarsen : (g : Given) (n0 : ℕ) (marks : List ℕ) (o : Outcome) → o ≡ coarsenOut g n0 marks → CoarsenMade g n0 marks o
 
 pub demand2-calls : Demand2
-demand2-calls = record { of-check = check-call; of-refine = newest-call; of-coarsen = coarsen-call }
+demand2-calls = record { of-check = check-call; of-refine = manner-call Newest; of-quarter = manner-call AllThree; cut-in-four = quarter-in-four; of-coarsen = coarsen-call }

@@ -1,6 +1,6 @@
 -- DEMAND 3 OF THE CALLS. Every premise on a call is the equation that its contract ensures, so that what is said here holds of any run of
--- the calls themselves: mesh::check, mesh::refine, mesh::coarsen (crates/mesh/src/lib.rt) and job::restore (crates/job/src/lib.rt).
--- Assumes nothing.
+-- the calls themselves: mesh::check, mesh::refine, mesh::quarter, mesh::coarsen (crates/mesh/src/lib.rt) and job::restore
+-- (crates/job/src/lib.rt). W1: "Demand 3 then covers sequences that mix both ways." Assumes nothing.
 use mathlib.Core.Bool.{Bool, true, false}
 use mathlib.Core.List.{List}
 use mathlib.Core.Logic.{_≢_}
@@ -10,7 +10,7 @@ use native.Mathlib.Omega.{arith}
 use lib.Dec.{leb}
 use lib.ListN.{length, replicate}
 use Rattle.lists.specs.Lists.{cases}
-use Rattle.meaning.specs.Split.{newest}
+use Rattle.meaning.specs.Split.{Way, bisected}
 use Rattle.meaning.specs.Coarsen.{restored}
 use Rattle.meaning.specs.Tables.{Given, Outcome, given, meshOf, roomOf}
 use Rattle.meaning.specs.Calls.{sizesFit, checkOut, refineOut, coarsenOut, restoreOut}
@@ -20,7 +20,8 @@ use Rattle.growth.specs.Demand3.{Removals, TablesReached, begin, lent, refined-
 -- A call that was made on the tables g: what it left, o, is what its contract ensures.
 pub data Made (g : Given) (o : Outcome) : Type 0 where
   check-made : o ≡ checkOut g → Made g o
-  refine-made : (n0 : ℕ) (marks : List ℕ) → o ≡ refineOut newest g n0 marks → Made g o
+  -- by `newest`, 01's way, or by `allThree`, W1's
+  refine-made : (w : Way) (n0 : ℕ) (marks : List ℕ) → o ≡ refineOut w g n0 marks → Made g o
   coarsen-made : (n0 : ℕ) (marks : List ℕ) → o ≡ coarsenOut g n0 marks → Made g o
   restore-made : (n0 : ℕ) → o ≡ restoreOut g n0 → Made g o
 
@@ -30,8 +31,10 @@ pub data Held (g₀ : Given) : Given → Type 0 where
   base-held : Held g₀ g₀
   -- scratch may be another table at every call
   scratch-anew : {g : Given} → Held g₀ g → (scratch : List ℕ) → Held g₀ (given (g .nodes) (g .rows) scratch (g .n) (g .t))
-  -- an accepted refine, coarsen or restore with the base's node count, on the tables and counts left by the accepted call before
-  after-refine : {g : Given} → Held g₀ g → (marks : List ℕ) (o : Outcome) → o ≡ refineOut newest g (g₀ .n) marks → o .answer .number ≡ 0 → Held g₀ (tablesAfter o)
+  -- an accepted refine, coarsen or restore with the base's node count, on the tables and counts left by the accepted call before;
+  -- a refine by any way that cuts by bisection, as `newest` and `allThree` do, and by another at every step
+  after-refine : {g : Given} → Held g₀ g → (w : Way) → w .cutting ≡ bisected → (marks : List ℕ) (o : Outcome) →
+      o ≡ refineOut w g (g₀ .n) marks → o .answer .number ≡ 0 → Held g₀ (tablesAfter o)
   after-coarsen : {g : Given} → Held g₀ g → (marks : List ℕ) (o : Outcome) → o ≡ coarsenOut g (g₀ .n) marks → o .answer .number ≡ 0 → Held g₀ (tablesAfter o)
   after-restore : {g : Given} → Held g₀ g → (o : Outcome) → o ≡ restoreOut g (g₀ .n) → o .answer .number ≡ 0 → Held g₀ (tablesAfter o)
   -- a refused call of any kind, with whatever counts, n0, marks and scratch: the counts held stay
@@ -58,8 +61,8 @@ pub record Ends (g₀ g : Given) : Type 0 where
 held-reached : (g₀ : Given) {g : Given} → Held g₀ g → TablesReached g₀ g
 held-reached g₀ base-held = begin
 held-reached g₀ (scratch-anew h scratch) = lent (held-reached g₀ h) scratch
-held-reached g₀ (after-refine {g = g} h marks o e z) =
-    subst (λ x. TablesReached g₀ (tablesAfter x)) (sym e) (refined-by (held-reached g₀ h) newest refl marks (ap (λ x. x .answer .number) (sym e) ∙ z))
+held-reached g₀ (after-refine {g = g} h w cuts marks o e z) =
+    subst (λ x. TablesReached g₀ (tablesAfter x)) (sym e) (refined-by (held-reached g₀ h) w cuts marks (ap (λ x. x .answer .number) (sym e) ∙ z))
 held-reached g₀ (after-coarsen {g = g} h marks o e z) =
     subst (λ x. TablesReached g₀ (tablesAfter x)) (sym e) (coarsened-by (held-reached g₀ h) marks (ap (λ x. x .answer .number) (sym e) ∙ z))
 held-reached g₀ (after-restore {g = g} h o e z) =
@@ -68,7 +71,7 @@ held-reached g₀ (after-refusal {g = g} h scratch n t o m z) = go m (held-reach
   where
     go : Made (given (g .nodes) (g .rows) scratch n t) o → TablesReached g₀ g → TablesReached g₀ (still g o)
     go (check-made e) l = subst (λ x. TablesReached g₀ (still g x)) (sym e) (checked-by l scratch n t)
-    go (refine-made n0 marks e) l = subst (λ x. TablesReached g₀ (still g x)) (sym e) (refused-by l scratch n t (a-refine newest n0 marks) (λ y. z (ap (λ x. x .answer .number) e ∙ y)))
+    go (refine-made w n0 marks e) l = subst (λ x. TablesReached g₀ (still g x)) (sym e) (refused-by l scratch n t (a-refine w n0 marks) (λ y. z (ap (λ x. x .answer .number) e ∙ y)))
     go (coarsen-made n0 marks e) l = subst (λ x. TablesReached g₀ (still g x)) (sym e) (refused-by l scratch n t (a-coarsen n0 marks) (λ y. z (ap (λ x. x .answer .number) e ∙ y)))
     go (restore-made n0 e) l = subst (λ x. TablesReached g₀ (still g x)) (sym e) (refused-by l scratch n t (a-restore n0) (λ y. z (ap (λ x. x .answer .number) e ∙ y)))
 

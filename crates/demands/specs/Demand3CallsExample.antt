@@ -1,6 +1,6 @@
--- Demands 2 and 3 of the calls at cases 2 to 5 of document 01: S checked, refined three times, coarsened, a refused call of each kind among
--- them, and other scratch; each run compared with its lists. The premises of `demand3-calls` are met, and it says that restore leaves S
--- after 2 passes. Assumes nothing.
+-- Demands 2 and 3 of the calls at S: checked, refined from all three edges of a triangle, then by 01, then coarsened, a refused call of each
+-- kind among them, and other scratch; each run compared with its lists. The premises of `demand3-calls` are met, and it says that restore
+-- leaves S after 2 passes. Assumes nothing.
 use mathlib.Core.List.{List, [], _∷_, _++_, map}
 use mathlib.Core.Path.{_≡_, refl}
 use Prim.Native.Nat.{ℕ, suc, _<_}
@@ -8,14 +8,15 @@ use native.Mathlib.Omega.{arith}
 use lib.IntN.{pos}
 use lib.ListN.{replicate}
 use Rattle.lists.specs.Search.{lowest, lowestFrom, items, itemsFrom}
-use Rattle.meaning.specs.Mesh.{twiceArea}
+use Rattle.meaning.specs.Mesh.{tri, twiceArea}
 use Rattle.meaning.specs.Lawful.{refusal, compatible, faultOf, firstOutside, firstMisnamed, firstRepeat, firstFlat, firstUnused, firstClash}
-use Rattle.meaning.specs.Split.{newest, closure, splitEdges, splitAt, split, refined}
+use Rattle.meaning.specs.Split.{newest, allThree, closure, splitEdges, splitAt, split, refined}
 use Rattle.meaning.specs.Good.{pairs, span, G1-4, good}
 use Rattle.meaning.specs.Coarsen.{taken, without, coarsened, goodNodes, pass, restored}
 use Rattle.meaning.specs.Tables.{Given, Outcome, given, outcome, answer, placeAt, rowAt, meshOf}
 use Rattle.meaning.specs.Calls.{checkNo, refineNo, coarsenNo, checks, refines, coarsens, restores, sizesFit, checkOut, refineOut, coarsenOut, restoreOut}
 use Rattle.laws.specs.TableMesh.{tablesAfter}
+use Rattle.demands.specs.InFour.{InFour}
 use Rattle.demands.specs.Demand2Calls.{RefineDone, CoarsenDone, demand2-calls}
 use Rattle.demands.specs.Demand3Calls.{Held, base-held, scratch-anew, after-refine, after-coarsen, after-refusal, check-made, refine-made, coarsen-made, restore-made, demand3-calls}
 
@@ -33,34 +34,22 @@ S = given (map pos (square ++ replicate 10 5)) (two ++ replicate 24 6) (replicat
 leaving : ℕ → ℕ → ℕ → ℕ → List ℕ → List ℕ → ℕ → Outcome
 leaving k n t p ns rs c = outcome (answer k n t p) (map pos ns) rs (replicate c 0)
 
--- The nodes and rows of cases 2, 3 and 4, and of 4 with node 6 taken out.
-nodes2 : List ℕ
-nodes2 = square ++ 4 ∷ 4 ∷ replicate 8 0
+-- The nodes and rows of S with row 0 cut in four, and of that with row 0 refined by 01.
+nodesCut : List ℕ
+nodesCut = square ++ 4 ∷ 4 ∷ 8 ∷ 4 ∷ 4 ∷ 0 ∷ replicate 4 0
 
-nodes3 : List ℕ
-nodes3 = square ++ 4 ∷ 4 ∷ 8 ∷ 4 ∷ replicate 6 0
+nodesMore : List ℕ
+nodesMore = square ++ 4 ∷ 4 ∷ 8 ∷ 4 ∷ 4 ∷ 0 ∷ 6 ∷ 2 ∷ 0 ∷ 0 ∷ []
 
-nodes4 : List ℕ
-nodes4 = square ++ 4 ∷ 4 ∷ 8 ∷ 4 ∷ 6 ∷ 2 ∷ 4 ∷ 0 ∷ 0 ∷ 0 ∷ []
+rowsCut : List ℕ
+rowsCut = 5 ∷ 4 ∷ 1 ∷ 4 ∷ 3 ∷ 0 ∷ 6 ∷ 4 ∷ 0 ∷ 5 ∷ 2 ∷ 4 ∷ 6 ∷ 1 ∷ 4 ∷ 4 ∷ 2 ∷ 3 ∷ replicate 12 0
 
-nodes5 : List ℕ
-nodes5 = square ++ 4 ∷ 4 ∷ 8 ∷ 4 ∷ 4 ∷ 0 ∷ replicate 4 0
-
-rows2 : List ℕ
-rows2 = 4 ∷ 1 ∷ 2 ∷ 4 ∷ 3 ∷ 0 ∷ 4 ∷ 0 ∷ 1 ∷ 4 ∷ 2 ∷ 3 ∷ replicate 18 0
-
-rows3 : List ℕ
-rows3 = 5 ∷ 4 ∷ 1 ∷ 4 ∷ 3 ∷ 0 ∷ 4 ∷ 0 ∷ 1 ∷ 4 ∷ 2 ∷ 3 ∷ 5 ∷ 2 ∷ 4 ∷ replicate 15 0
-
-rows4 : List ℕ
-rows4 = 6 ∷ 5 ∷ 4 ∷ 4 ∷ 3 ∷ 0 ∷ 7 ∷ 4 ∷ 0 ∷ 4 ∷ 2 ∷ 3 ∷ 5 ∷ 2 ∷ 4 ∷ 6 ∷ 1 ∷ 5 ∷ 6 ∷ 7 ∷ 1 ∷ 6 ∷ 4 ∷ 7 ∷ replicate 6 0
-
-rows5 : List ℕ
-rows5 = 5 ∷ 4 ∷ 1 ∷ 4 ∷ 3 ∷ 0 ∷ 6 ∷ 4 ∷ 0 ∷ 4 ∷ 2 ∷ 3 ∷ 5 ∷ 2 ∷ 4 ∷ 6 ∷ 1 ∷ 4 ∷ replicate 12 0
+rowsMore : List ℕ
+rowsMore = 7 ∷ 5 ∷ 4 ∷ 4 ∷ 3 ∷ 0 ∷ 6 ∷ 4 ∷ 0 ∷ 5 ∷ 2 ∷ 4 ∷ 7 ∷ 6 ∷ 1 ∷ 4 ∷ 2 ∷ 3 ∷ 7 ∷ 1 ∷ 5 ∷ 7 ∷ 4 ∷ 6 ∷ replicate 6 0
 
 -- The tables at the end, scratch of another length, full of nines.
-S5 : Given
-S5 = given (map pos nodes5) rows5 (replicate 80 9) 7 6
+S4 : Given
+S4 = given (map pos nodesCut) rowsCut (replicate 80 9) 7 6
 
 -- The base check says 0 of S.
 S-checked : leaving 0 4 2 0 (square ++ replicate 10 5) (two ++ replicate 24 6) 76 ≡ checkOut S
@@ -70,40 +59,50 @@ S-checked = refl
 not-0 : (k : ℕ) → suc k ≡ 0 → ⊥
 not-0 k e = omega arith
 
--- Row 0 is marked three times. Then a check with a count too low (4), a refine with a mark table of another length (2); node 6 is
--- coarsened; a coarsen with n0 above n (1) and a restore with no scratch (1); other scratch.
-history : Held S S5
-unfolding leaving square two nodes2 nodes3 nodes4 nodes5 rows2 rows3 rows4 rows5 S S5 lowest lowestFrom items itemsFrom placeAt rowAt meshOf twiceArea firstOutside firstMisnamed firstRepeat firstFlat firstUnused firstClash faultOf refusal compatible closure splitEdges splitAt split refined pairs span G1-4 good taken without coarsened goodNodes pass restored checkNo refineNo coarsenNo checks refines coarsens restores sizesFit checkOut refineOut coarsenOut restoreOut
+-- Row 0 is cut in four, then bisected. Then a check with a count too low (4), a refine with a mark table of another length (2), and one from
+-- all three edges for which there is no room (9); node 7 is coarsened; a coarsen with n0 above n (1) and a restore with no scratch (1);
+-- other scratch.
+history : Held S S4
+unfolding leaving square two nodesCut nodesMore rowsCut rowsMore S S4 lowest lowestFrom items itemsFrom placeAt rowAt meshOf twiceArea firstOutside firstMisnamed firstRepeat firstFlat firstUnused firstClash faultOf refusal compatible closure splitEdges splitAt split refined pairs span G1-4 good taken without coarsened goodNodes pass restored checkNo refineNo coarsenNo checks refines coarsens restores sizesFit checkOut refineOut coarsenOut restoreOut
 history =
-    let a = after-refine base-held (1 ∷ 0 ∷ []) (leaving 0 5 4 0 nodes2 rows2 76) refl refl in
-    let b = after-refine a (1 ∷ 0 ∷ 0 ∷ 0 ∷ []) (leaving 0 6 5 0 nodes3 rows3 76) refl refl in
-    let c = after-refine b (1 ∷ 0 ∷ 0 ∷ 0 ∷ 0 ∷ []) (leaving 0 8 8 0 nodes4 rows4 76) refl refl in
-    let d = after-refusal c (replicate 76 1) 7 8 (leaving 4 7 8 0 nodes4 rows4 76) (check-made refl) (not-0 3) in
-    let e = after-refusal d (replicate 76 0) 8 8 (leaving 2 8 8 0 nodes4 rows4 76) (refine-made 4 (1 ∷ []) refl) (not-0 1) in
-    let f = after-coarsen e (0 ∷ 0 ∷ 0 ∷ 0 ∷ 0 ∷ 0 ∷ 1 ∷ 0 ∷ []) (leaving 0 7 6 0 nodes5 rows5 76) refl refl in
-    let g = after-refusal f (replicate 76 0) 7 6 (leaving 1 7 6 0 nodes5 rows5 76) (coarsen-made 8 (replicate 7 1) refl) (not-0 0) in
-    let h = after-refusal g [] 7 6 (leaving 1 7 6 0 nodes5 rows5 0) (restore-made 4 refl) (not-0 0) in
+    let a = after-refine base-held allThree refl (1 ∷ 0 ∷ []) (leaving 0 7 6 0 nodesCut rowsCut 76) refl refl in
+    let b = after-refine a newest refl (1 ∷ 0 ∷ 0 ∷ 0 ∷ 0 ∷ 0 ∷ []) (leaving 0 8 8 0 nodesMore rowsMore 76) refl refl in
+    let c = after-refusal b (replicate 76 1) 7 8 (leaving 4 7 8 0 nodesMore rowsMore 76) (check-made refl) (not-0 3) in
+    let d = after-refusal c (replicate 76 0) 8 8 (leaving 2 8 8 0 nodesMore rowsMore 76) (refine-made newest 4 (1 ∷ []) refl) (not-0 1) in
+    let e = after-refusal d (replicate 76 0) 8 8 (leaving 9 8 8 0 nodesMore rowsMore 76) (refine-made allThree 4 (0 ∷ 0 ∷ 0 ∷ 0 ∷ 1 ∷ 0 ∷ 0 ∷ 0 ∷ []) refl) (not-0 8) in
+    let f = after-coarsen e (0 ∷ 0 ∷ 0 ∷ 0 ∷ 0 ∷ 0 ∷ 0 ∷ 1 ∷ []) (leaving 0 7 6 0 nodesCut rowsCut 76) refl refl in
+    let g = after-refusal f (replicate 76 0) 7 6 (leaving 1 7 6 0 nodesCut rowsCut 76) (coarsen-made 8 (replicate 7 1) refl) (not-0 0) in
+    let h = after-refusal g [] 7 6 (leaving 1 7 6 0 nodesCut rowsCut 0) (restore-made 4 refl) (not-0 0) in
     scratch-anew h (replicate 80 9)
 
--- Demand 2, of the first run: the tables hold the refined mesh; and of the coarsen.
-refined-first : RefineDone newest S (1 ∷ 0 ∷ []) (leaving 0 5 4 0 nodes2 rows2 76)
-unfolding leaving square two nodes2 rows2 S lowest lowestFrom items itemsFrom placeAt rowAt meshOf twiceArea firstOutside firstMisnamed firstRepeat firstFlat firstUnused faultOf refusal closure splitEdges splitAt split refined refineNo refines sizesFit refineOut
-refined-first = demand2-calls .of-refine S 4 (1 ∷ 0 ∷ []) (leaving 0 5 4 0 nodes2 rows2 76) refl .leaves-refined refl
+-- Demand 2, of the accepted runs: the tables hold the mesh refined from all three edges, then by 01; and the coarsened one.
+quartered-first : RefineDone allThree S (1 ∷ 0 ∷ []) (leaving 0 7 6 0 nodesCut rowsCut 76)
+unfolding leaving square two nodesCut rowsCut S lowest lowestFrom items itemsFrom placeAt rowAt meshOf twiceArea firstOutside firstMisnamed firstRepeat firstFlat firstUnused faultOf refusal closure splitEdges splitAt split refined refineNo refines sizesFit refineOut
+quartered-first = demand2-calls .of-quarter S 4 (1 ∷ 0 ∷ []) (leaving 0 7 6 0 nodesCut rowsCut 76) refl .leaves-refined refl
 
-coarsened-last : CoarsenDone (tablesAfter (leaving 0 8 8 0 nodes4 rows4 76)) 4 (0 ∷ 0 ∷ 0 ∷ 0 ∷ 0 ∷ 0 ∷ 1 ∷ 0 ∷ []) (leaving 0 7 6 0 nodes5 rows5 76)
-unfolding leaving square nodes4 nodes5 rows4 rows5 lowest lowestFrom items itemsFrom placeAt rowAt meshOf twiceArea firstOutside firstMisnamed firstRepeat firstFlat firstUnused faultOf refusal pairs span G1-4 good taken without coarsened coarsenNo coarsens sizesFit coarsenOut
+-- row 0 is four rows now
+quartered-in-four : InFour (tri 1 2 0) 0 (meshOf (tablesAfter (leaving 0 7 6 0 nodesCut rowsCut 76)))
+unfolding leaving square two nodesCut rowsCut S lowest lowestFrom items itemsFrom placeAt rowAt meshOf twiceArea firstOutside firstMisnamed firstRepeat firstFlat firstUnused faultOf refusal closure splitEdges splitAt split refined refineNo refines sizesFit refineOut
+quartered-in-four = demand2-calls .cut-in-four S 4 (1 ∷ 0 ∷ []) (leaving 0 7 6 0 nodesCut rowsCut 76) refl refl 0 (omega arith) refl
+
+refined-next : RefineDone newest (tablesAfter (leaving 0 7 6 0 nodesCut rowsCut 76)) (1 ∷ 0 ∷ 0 ∷ 0 ∷ 0 ∷ 0 ∷ []) (leaving 0 8 8 0 nodesMore rowsMore 76)
+unfolding leaving square nodesCut nodesMore rowsCut rowsMore lowest lowestFrom items itemsFrom placeAt rowAt meshOf twiceArea firstOutside firstMisnamed firstRepeat firstFlat firstUnused faultOf refusal closure splitEdges splitAt split refined refineNo refines sizesFit refineOut
+refined-next = demand2-calls .of-refine _ 4 _ _ refl .leaves-refined refl
+
+coarsened-last : CoarsenDone (tablesAfter (leaving 0 8 8 0 nodesMore rowsMore 76)) 4 (0 ∷ 0 ∷ 0 ∷ 0 ∷ 0 ∷ 0 ∷ 0 ∷ 1 ∷ []) (leaving 0 7 6 0 nodesCut rowsCut 76)
+unfolding leaving square nodesCut nodesMore rowsCut rowsMore lowest lowestFrom items itemsFrom placeAt rowAt meshOf twiceArea firstOutside firstMisnamed firstRepeat firstFlat firstUnused faultOf refusal pairs span G1-4 good taken without coarsened coarsenNo coarsens sizesFit coarsenOut
 coarsened-last = demand2-calls .of-coarsen _ 4 _ _ refl .leaves-coarsened refl
 
 -- A full pass that is made removes a node,
-passed : (o : Outcome) → o ≡ coarsenOut S5 4 (replicate 7 1) → o .answer .n < 7
-unfolding leaving square two nodes5 rows5 S S5 sizesFit
+passed : (o : Outcome) → o ≡ coarsenOut S4 4 (replicate 7 1) → o .answer .n < 7
+unfolding leaving square two nodesCut rowsCut S S4 sizesFit
 passed o e = demand3-calls S _ S-checked refl history .pass-takes-one (omega arith) o e refl .1
 
 -- and restore, which says 0 after 2 passes, has left S, zeros past it.
-restored-S : leaving 0 4 2 2 (square ++ replicate 10 0) (two ++ replicate 24 0) 80 ≡ restoreOut S5 4
-unfolding leaving square two nodes5 rows5 S5 lowest lowestFrom items itemsFrom placeAt rowAt meshOf twiceArea firstOutside firstMisnamed firstRepeat firstFlat firstUnused firstClash faultOf refusal pairs span G1-4 good taken without coarsened goodNodes pass restored restores sizesFit restoreOut
+restored-S : leaving 0 4 2 2 (square ++ replicate 10 0) (two ++ replicate 24 0) 80 ≡ restoreOut S4 4
+unfolding leaving square two nodesCut rowsCut S4 lowest lowestFrom items itemsFrom placeAt rowAt meshOf twiceArea firstOutside firstMisnamed firstRepeat firstFlat firstUnused firstClash faultOf refusal pairs span G1-4 good taken without coarsened goodNodes pass restored restores sizesFit restoreOut
 restored-S = refl
 
-again : (o : Outcome) → o ≡ restoreOut S5 4 → o .answer .number ≡ 0 → o ≡ leaving 0 4 2 2 (square ++ replicate 10 0) (two ++ replicate 24 0) 80
-unfolding leaving square two nodes5 rows5 S S5 lowest lowestFrom items itemsFrom placeAt rowAt meshOf twiceArea pairs span G1-4 good taken without coarsened goodNodes pass restored
+again : (o : Outcome) → o ≡ restoreOut S4 4 → o .answer .number ≡ 0 → o ≡ leaving 0 4 2 2 (square ++ replicate 10 0) (two ++ replicate 24 0) 80
+unfolding leaving square two nodesCut rowsCut S S4 lowest lowestFrom items itemsFrom placeAt rowAt meshOf twiceArea pairs span G1-4 good taken without coarsened goodNodes pass restored
 again o e z = demand3-calls S _ S-checked refl history .base-again o e z

@@ -1,4 +1,5 @@
 -- What the calls promise, in one statement for each demand: the theorems of the product, and an example that meets their premises.
+pub mod InFour
 pub mod Demand2Calls
 pub mod Demand3Calls
 pub mod Demand3CallsExample

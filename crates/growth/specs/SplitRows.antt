@@ -86,13 +86,13 @@ pub record LeftFirst (ts : List Tri) (i : ℕ) (t : Tri) (k : ℕ) (u v : Option
   pub of-right : (b : ℕ) → v ≡ some b → (h : ℕ) × Before ts j h (leftChild (rightChild t k) b) (rightChild (rightChild t k) b)
 
 -- the parts of a row that was in row i: the first there, the others in later rows, in order
-record Placed (ts : List Tri) (i : ℕ) (x : Cut) : Type 0 where
-  first-there : rowOf ts i ≡ x .kept
-  from : ℕ
-  later : i < from
-  then-there : (n : ℕ) → n < length (x .added) → (rowOf ts (from + n) ≡ getD (x .added) n (tri 0 0 0)) × (from + n < length ts)
+pub record Placed (ts : List Tri) (i : ℕ) (x : Cut) : Type 0 where
+  pub first-there : rowOf ts i ≡ x .kept
+  pub from : ℕ
+  pub later : i < from
+  pub then-there : (n : ℕ) → n < length (x .added) → (rowOf ts (from + n) ≡ getD (x .added) n (tri 0 0 0)) × (from + n < length ts)
 
-parts-placed : (c : Cutting) (m : Mesh) (s : List Edge) (i : ℕ) → i < length (m .tris) → Placed (splitAt c m s .tris) i (cutOf c (length (m .nodes)) s (rowOf (m .tris) i))
+pub parts-placed : (c : Cutting) (m : Mesh) (s : List Edge) (i : ℕ) → i < length (m .tris) → Placed (splitAt c m s .tris) i (cutOf c (length (m .nodes)) s (rowOf (m .tris) i))
 parts-placed c m s i l = record {
   first-there = row-of-kept c m s i l;
   from = length (m .tris) + rows-ahead c m s i;

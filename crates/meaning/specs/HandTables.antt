@@ -8,7 +8,7 @@ use lib.ListN.{replicate}
 use Rattle.lists.specs.Search.{lowest, lowestFrom, items, itemsFrom}
 use Rattle.meaning.specs.Mesh.{twiceArea}
 use Rattle.meaning.specs.Lawful.{refusal, compatible, faultOf, firstOutside, firstMisnamed, firstRepeat, firstFlat, firstUnused, firstClash}
-use Rattle.meaning.specs.Split.{newest, closure, splitEdges, splitAt, split, refined}
+use Rattle.meaning.specs.Split.{newest, allThree, closure, splitEdges, splitAt, split, refined}
 use Rattle.meaning.specs.Good.{pairs, span, G1-4, good}
 use Rattle.meaning.specs.Coarsen.{taken, without, coarsened, goodNodes, pass, restored}
 use Rattle.meaning.specs.Tables.{Given, Outcome, given, outcome, answer, placeAt, rowAt, meshOf}
@@ -44,6 +44,9 @@ wide = two ++ replicate 9 5
 four : List ℕ
 four = 4 ∷ 1 ∷ 2 ∷ 4 ∷ 3 ∷ 0 ∷ 4 ∷ 0 ∷ 1 ∷ 4 ∷ 2 ∷ 3 ∷ []
 
+six : List ℕ
+six = 5 ∷ 4 ∷ 1 ∷ 4 ∷ 3 ∷ 0 ∷ 6 ∷ 4 ∷ 0 ∷ 5 ∷ 2 ∷ 4 ∷ 6 ∷ 1 ∷ 4 ∷ 4 ∷ 2 ∷ 3 ∷ []
+
 -- a check that draws 1 leaves all but scratch
 wrong : List ℕ → List ℕ → ℕ → ℕ → ℕ → Row
 wrong ns rs k n t = checkOut (lent ns rs k n t) is said 1 n t 0 ns rs k
@@ -55,8 +58,11 @@ outcomes =
     (refineOut newest (lent spare wide 40 4 2) 4 (1 ∷ 0 ∷ []) is said 0 5 4 0 (square ++ 4 ∷ 4 ∷ []) (four ++ 0 ∷ 0 ∷ 0 ∷ []) 40) ∷
     (coarsenOut (lent (square ++ 4 ∷ 4 ∷ []) (four ++ 7 ∷ 7 ∷ 7 ∷ []) 43 5 4) 4 (1 ∷ 1 ∷ 1 ∷ 1 ∷ 1 ∷ []) is said 0 4 2 0 (square ++ 0 ∷ 0 ∷ []) (two ++ replicate 9 0) 43) ∷
     (restoreOut (lent (square ++ 4 ∷ 4 ∷ []) four 36 5 4) 4 is said 0 4 2 1 (square ++ 0 ∷ 0 ∷ []) (two ++ replicate 6 0) 36) ∷
-    -- a refused refine and a coarsen that takes nothing
+    -- from all three edges, in room for 8 nodes and 7 rows
+    (refineOut allThree (lent (square ++ replicate 8 9) (two ++ replicate 15 5) 60 4 2) 4 (1 ∷ 0 ∷ []) is said 0 7 6 0 (square ++ 4 ∷ 4 ∷ 8 ∷ 4 ∷ 4 ∷ 0 ∷ 0 ∷ 0 ∷ []) (six ++ 0 ∷ 0 ∷ 0 ∷ []) 60) ∷
+    -- refused refines, the second in the room where 01's is done, and a coarsen that takes nothing
     (refineOut newest (lent square two 24 4 2) 4 (1 ∷ 0 ∷ []) is said 9 4 2 0 square two 24) ∷
+    (refineOut allThree (lent spare wide 40 4 2) 4 (1 ∷ 0 ∷ []) is said 9 4 2 0 spare wide 40) ∷
     (coarsenOut (lent spare wide 40 4 2) 4 (1 ∷ 1 ∷ 1 ∷ 1 ∷ []) is said 0 4 2 0 (square ++ 0 ∷ 0 ∷ []) (two ++ replicate 9 0) 40) ∷
     -- 1: scratch is short; a table length is no multiple of its row; a room, a count or n0 is too large
     wrong spare wide 39 4 2 ∷
@@ -67,6 +73,7 @@ outcomes =
     wrong spare wide 40 6 2 ∷
     wrong spare wide 40 4 6 ∷
     (refineOut newest (lent spare wide 40 4 2) 5 (1 ∷ 0 ∷ []) is said 1 4 2 0 spare wide 40) ∷
+    (refineOut allThree (lent spare wide 40 4 2) 5 (1 ∷ 0 ∷ []) is said 1 4 2 0 spare wide 40) ∷
     (coarsenOut (lent spare wide 40 4 2) 5 (1 ∷ []) is said 1 4 2 0 spare wide 40) ∷
     (restoreOut (lent spare wide 40 4 2) 5 is said 1 4 2 0 spare wide 40) ∷
     (checkOut (lent (replicate 2048 0) (replicate 6144 0) 12288 0 0) is said 0 0 0 0 (replicate 2048 0) (replicate 6144 0) 12288) ∷
@@ -75,5 +82,5 @@ outcomes =
     []
 
 hand-tables : map (λ r. r .got) outcomes ≡ map (λ r. r .expected) outcomes
-unfolding outcomes wrong lent said square spare two wide four _is_ lowest lowestFrom items itemsFrom placeAt rowAt meshOf twiceArea firstOutside firstMisnamed firstRepeat firstFlat firstUnused firstClash faultOf refusal compatible closure splitEdges splitAt split refined pairs span G1-4 good taken without coarsened goodNodes pass restored checkNo refineNo coarsenNo checks refines coarsens restores sizesFit checkOut refineOut coarsenOut restoreOut
+unfolding outcomes wrong lent said square spare two wide four six _is_ lowest lowestFrom items itemsFrom placeAt rowAt meshOf twiceArea firstOutside firstMisnamed firstRepeat firstFlat firstUnused firstClash faultOf refusal compatible closure splitEdges splitAt split refined pairs span G1-4 good taken without coarsened goodNodes pass restored checkNo refineNo coarsenNo checks refines coarsens restores sizesFit checkOut refineOut coarsenOut restoreOut
 hand-tables = refl

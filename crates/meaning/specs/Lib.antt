@@ -9,4 +9,5 @@ pub mod Calls
 pub mod HandCase
 pub mod HandMeshes
 pub mod OwnMeshes
+pub mod QuarterMeshes
 pub mod HandTables

@@ -68,11 +68,11 @@ stripped = mesh (at 0 0 ∷ at 8 0 ∷ at 0 8 ∷ at 8 8 ∷ at 4 0 ∷ []) (tri
 
 -- ---- the four cuts, father by father
 
-abbrev wings : List Place
+abbrev pub wings : List Place
 wings = at 0 0 ∷ at 16 0 ∷ at 0 16 ∷ place (pos 8) (negsuc 7) ∷ place (negsuc 7) (pos 8) ∷ []
 
 -- row 0 with a neighbour on p–q and one on r–p, each with that side as its refinement edge
-abbrev winged : Mesh
+abbrev pub winged : Mesh
 winged = mesh wings (tri 0 1 2 ∷ tri 3 1 0 ∷ tri 4 0 2 ∷ [])
 
 abbrev cut-m : Mesh
@@ -84,7 +84,7 @@ cut-mu = mesh (wings ++ at 8 8 ∷ at 8 0 ∷ []) (tri 6 5 0 ∷ tri 6 3 1 ∷ t
 abbrev cut-mv : Mesh
 cut-mv = mesh (wings ++ at 8 8 ∷ at 0 8 ∷ []) (tri 5 0 1 ∷ tri 3 1 0 ∷ tri 6 4 0 ∷ tri 6 5 2 ∷ tri 6 0 5 ∷ tri 6 2 4 ∷ [])
 
-abbrev cut-all : Mesh
+abbrev pub cut-all : Mesh
 cut-all =
     mesh (wings ++ at 8 8 ∷ at 8 0 ∷ at 0 8 ∷ [])
     (tri 6 5 0 ∷ tri 6 3 1 ∷ tri 7 4 0 ∷ tri 7 5 2 ∷ tri 6 1 5 ∷ tri 7 0 5 ∷ tri 6 0 3 ∷ tri 7 2 4 ∷ [])
@@ -100,7 +100,7 @@ straight = mesh (at 0 0 ∷ at 4 4 ∷ at 8 8 ∷ []) (tri 0 1 2 ∷ [])
 abbrev lone : Mesh
 lone = mesh (at 0 0 ∷ at 8 0 ∷ at 0 8 ∷ at 9 9 ∷ []) (tri 0 1 2 ∷ [])
 
-abbrev empty : Mesh
+abbrev pub empty : Mesh
 empty = mesh [] []
 
 abbrev pub ownCases : List Case

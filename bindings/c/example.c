@@ -1,4 +1,4 @@
-/* A square in two halves: refined three times at its first row, then restored. */
+/* A square in two halves: where a fine rule is printed, its first row is cut in four and then refined once more; then it is restored. */
 #include "spoutbeetle.h"
 
 #include <stdio.h>
@@ -18,11 +18,11 @@ int main(void) {
     memcpy(base_rows, rows, sizeof rows);
 
     printf("check %u\n", spoutbeetle_check(nodes, 2 * NC, rows, 3 * TC, scratch, 4 * (NC + TC), n, t));
-    for (int k = 0; k < 3; k++) {
-        uint32_t said = spoutbeetle_refine(nodes, 2 * NC, rows, 3 * TC, scratch, 4 * (NC + TC), marks, t, n0, &n, &t);
-        printf("refine %u: %zu nodes, %zu triangles\n", said, n, t);
-    }
-    uint32_t said = spoutbeetle_restore(nodes, 2 * NC, rows, 3 * TC, scratch, 4 * (NC + TC), n0, &n, &t, &passes);
+    uint32_t said = spoutbeetle_quarter(nodes, 2 * NC, rows, 3 * TC, scratch, 4 * (NC + TC), marks, t, n0, &n, &t);
+    printf("quarter %u: %zu nodes, %zu triangles\n", said, n, t);
+    said = spoutbeetle_refine(nodes, 2 * NC, rows, 3 * TC, scratch, 4 * (NC + TC), marks, t, n0, &n, &t);
+    printf("refine %u: %zu nodes, %zu triangles\n", said, n, t);
+    said = spoutbeetle_restore(nodes, 2 * NC, rows, 3 * TC, scratch, 4 * (NC + TC), n0, &n, &t, &passes);
     printf("restore %u: %zu nodes, %zu triangles, %zu passes\n", said, n, t, passes);
     int same = memcmp(base_nodes, nodes, sizeof nodes) == 0 && memcmp(base_rows, rows, sizeof rows) == 0;
     printf("the base is back: %s\n", same ? "yes" : "no");

@@ -8,7 +8,7 @@
  *   nodes    two numbers a node, x and y; room NC = nodes_len / 2, at most 1,024
  *   rows     three numbers a triangle, p q r: p is the newest vertex, q-r the refinement edge; room TC = rows_len / 3, at most 2,048
  *   scratch  at least 4 * (NC + TC) numbers; what it holds does not matter; all zero after every call
- *   marks    one byte for each triangle (refine) or node (coarsen), 0 or 1; never written
+ *   marks    one byte for each triangle (refine, quarter) or node (coarsen), 0 or 1; never written
  *   n, t     how many nodes and triangles there are
  *   n0       how many of the nodes belong to the factory mesh
  *
@@ -46,6 +46,10 @@ uint32_t spoutbeetle_check(int32_t *nodes, size_t nodes_len, uint32_t *rows, siz
 uint32_t spoutbeetle_refine(int32_t *nodes, size_t nodes_len, uint32_t *rows, size_t rows_len, uint32_t *scratch, size_t scratch_len,
                             const uint8_t *marks, size_t marks_len, size_t n0, size_t *n, size_t *t);
 
+/* As spoutbeetle_refine, but all three edges of every marked triangle are split, not its refinement edge alone: it becomes four. */
+uint32_t spoutbeetle_quarter(int32_t *nodes, size_t nodes_len, uint32_t *rows, size_t rows_len, uint32_t *scratch, size_t scratch_len,
+                             const uint8_t *marks, size_t marks_len, size_t n0, size_t *n, size_t *t);
+
 /* Takes the marked nodes that are good: added nodes that can go without leaving a gap. After 0, *n and *t are the new counts. */
 uint32_t spoutbeetle_coarsen(int32_t *nodes, size_t nodes_len, uint32_t *rows, size_t rows_len, uint32_t *scratch, size_t scratch_len,
                              const uint8_t *marks, size_t marks_len, size_t n0, size_t *n, size_t *t);
@@ -56,7 +60,7 @@ uint32_t spoutbeetle_coarsen(int32_t *nodes, size_t nodes_len, uint32_t *rows, s
  * It gives back a base row for row (node table, triangle table and counts; zeros past them), after no more passes than there were added
  * nodes, if
  *   - spoutbeetle_check returned 0 for the base, on these tables;
- *   - every refine, coarsen or restore since that returned 0 had the base's node count as n0, and was made on the tables and the counts
+ *   - every refine, quarter, coarsen or restore since that returned 0 had the base's node count as n0, and was made on the tables and the counts
  *     that the accepted call before it left (the first: on those of the check);
  *   - this call too has the base's node count as n0, the tables and the counts that the last accepted call left, and scratch enough;
  *   - nothing but these calls wrote to the node table or the triangle table, and their lengths stayed.

@@ -1,4 +1,4 @@
-//! Check, refine, coarsen and restore on lent tables.
+//! Check, refine, quarter, coarsen and restore on lent tables.
 use std::collections::{HashMap, HashSet};
 
 /// What a call says: its number, the counts after it, the passes it made.
@@ -18,6 +18,13 @@ pub struct Tables {
     pub scratch: Vec<u32>,
     pub n: usize,
     pub t: usize,
+}
+
+/// Which edges of a marked triangle start the split set.
+#[derive(Clone, Copy)]
+enum Starts {
+    RefinementEdge,
+    AllThree,
 }
 
 type Row = [usize; 3];
@@ -81,6 +88,14 @@ fn edges(r: Row) -> [(usize, usize); 3] {
     [pair(r[1], r[2]), pair(r[0], r[1]), pair(r[2], r[0])]
 }
 
+/// Those of a marked row that start the split set.
+fn starting(starts: Starts, r: Row) -> Vec<(usize, usize)> {
+    match starts {
+        Starts::RefinementEdge => vec![pair(r[1], r[2])],
+        Starts::AllThree => edges(r).to_vec(),
+    }
+}
+
 fn pair(a: usize, b: usize) -> (usize, usize) {
     (a.min(b), a.max(b))
 }
@@ -128,8 +143,8 @@ impl Mesh {
         self.rows.iter().all(|&r| holders[&pair(r[1], r[2])].iter().all(|&j| pair(self.rows[j][1], self.rows[j][2]) == pair(r[1], r[2])))
     }
 
-    /// The least closed set of edges over the refinement edges of the marked rows.
-    fn split_set(&self, marks: &[u8]) -> HashSet<(usize, usize)> {
+    /// The least closed set of edges over the starting edges of the marked rows.
+    fn split_set(&self, starts: Starts, marks: &[u8]) -> HashSet<(usize, usize)> {
         let mut holders: HashMap<(usize, usize), Vec<usize>> = HashMap::new();
         for (i, &r) in self.rows.iter().enumerate() {
             for e in edges(r) {
@@ -137,7 +152,7 @@ impl Mesh {
             }
         }
         let mut set = HashSet::new();
-        let mut todo: Vec<_> = (0..self.rows.len()).filter(|&i| marks[i] == 1).map(|i| edges(self.rows[i])[0]).collect();
+        let mut todo: Vec<_> = (0..self.rows.len()).filter(|&i| marks[i] == 1).flat_map(|i| starting(starts, self.rows[i])).collect();
         while let Some(e) = todo.pop() {
             if set.insert(e) {
                 todo.extend(holders[&e].iter().map(|&i| edges(self.rows[i])[0]));
@@ -147,8 +162,8 @@ impl Mesh {
     }
 
     /// The refined mesh, or 8.
-    fn refined(&self, marks: &[u8]) -> Result<Mesh, u32> {
-        let set = self.split_set(marks);
+    fn refined(&self, starts: Starts, marks: &[u8]) -> Result<Mesh, u32> {
+        let set = self.split_set(starts, marks);
         let mut number = HashMap::new();
         let mut nodes = self.nodes.clone();
         for &r in &self.rows {
@@ -280,7 +295,17 @@ pub fn check(g: &mut Tables) -> Answer {
     }
 }
 
+/// Document 01: the refinement edge of every marked triangle starts the split set.
 pub fn refine(g: &mut Tables, n0: usize, marks: &[u8]) -> Answer {
+    refine_from(Starts::RefinementEdge, g, n0, marks)
+}
+
+/// Request W1: all three edges of every marked triangle start it.
+pub fn quarter(g: &mut Tables, n0: usize, marks: &[u8]) -> Answer {
+    refine_from(Starts::AllThree, g, n0, marks)
+}
+
+fn refine_from(starts: Starts, g: &mut Tables, n0: usize, marks: &[u8]) -> Answer {
     if !g.sizes_fit(n0) {
         return g.answer(1, 0);
     }
@@ -289,7 +314,7 @@ pub fn refine(g: &mut Tables, n0: usize, marks: &[u8]) -> Answer {
     }
     let m = g.mesh();
     match m.refusal() {
-        0 => match m.refined(marks) {
+        0 => match m.refined(starts, marks) {
             Err(k) => g.answer(k, 0),
             Ok(new) if new.nodes.len() > g.nodes.len() / 2 || new.rows.len() > g.rows.len() / 3 => g.answer(9, 0),
             Ok(new) => {

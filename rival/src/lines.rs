@@ -1,4 +1,4 @@
-//! The line program of document 01 by an ordinary method.
+//! The line program of document 01, with `09` of request W1, by an ordinary method.
 use crate::calls::{self, Answer, Tables};
 
 const NODES: usize = 512;
@@ -90,9 +90,10 @@ impl Desk {
                     answer(out, 3, Answer { n: 0, t: 0, ..a });
                 }
             }
-            (4, Some(n0)) => {
+            (4 | 9, Some(n0)) => {
                 let marks = marks(rest, self.g.t)?;
-                answer(out, 4, calls::refine(&mut self.g, n0, &marks));
+                let refine = if kind == 4 { calls::refine } else { calls::quarter };
+                answer(out, kind, refine(&mut self.g, n0, &marks));
             }
             (5, Some(n0)) => {
                 let marks = marks(rest, self.g.n)?;
@@ -124,6 +125,6 @@ fn marks(digits: &[u64], count: usize) -> Option<Vec<u8>> {
     Some(marks)
 }
 
-fn answer(out: &mut Vec<u8>, kind: u32, a: Answer) {
+fn answer(out: &mut Vec<u8>, kind: u64, a: Answer) {
     out.extend(format!("{:02x}{:02x}{:04x}{:04x}{:04x}\n", kind, a.number, a.n, a.t, a.passes).bytes());
 }

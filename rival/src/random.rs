@@ -103,7 +103,7 @@ pub fn absurd(d: &mut Dice) -> (Vec<(i32, i32)>, Vec<[u32; 3]>) {
     (kept, rows)
 }
 
-/// A mesh: a grid or an absurd one, grown by some refinements of the rival's own.
+/// A mesh: a grid or an absurd one, grown by some refinements of the rival's own, of either way.
 pub fn mesh(d: &mut Dice) -> (Tables, usize) {
     let (nodes, rows) = if d.once_in(3) {
         let (w, h) = (1 + d.below(3), 1 + d.below(3));
@@ -115,7 +115,8 @@ pub fn mesh(d: &mut Dice) -> (Tables, usize) {
     let n0 = g.n;
     for _ in 0..d.below(5) {
         let marks: Vec<u8> = (0..g.t).map(|_| d.once_in(3) as u8).collect();
-        calls::refine(&mut g, n0, &marks);
+        let refine = if d.once_in(2) { calls::quarter } else { calls::refine };
+        refine(&mut g, n0, &marks);
         if d.once_in(3) {
             let marks: Vec<u8> = (0..g.n).map(|_| d.once_in(2) as u8).collect();
             calls::coarsen(&mut g, n0, &marks);

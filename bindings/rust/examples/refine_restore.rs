@@ -1,5 +1,5 @@
-//! A square in two halves: refined three times at its first row, then restored.
-use spoutbeetle::{check, refine, restore, Tables};
+//! A square in two halves: where a fine rule is printed, its first row is cut in four and then refined once more; then it is restored.
+use spoutbeetle::{check, quarter, refine, restore, Answer, Tables};
 
 fn main() {
     let (nc, tc) = (16, 32);
@@ -13,12 +13,13 @@ fn main() {
 
     let a = check(Tables { nodes: &mut nodes, rows: &mut rows, scratch: &mut scratch, n, t });
     println!("check {}", a.number);
-    for _ in 0..3 {
+    let steps: [(&str, fn(Tables, usize, &[u8]) -> Answer); 2] = [("quarter", quarter), ("refine", refine)];
+    for (name, call) in steps {
         let mut marks = vec![0u8; t];
         marks[0] = 1;
-        let a = refine(Tables { nodes: &mut nodes, rows: &mut rows, scratch: &mut scratch, n, t }, 4, &marks);
+        let a = call(Tables { nodes: &mut nodes, rows: &mut rows, scratch: &mut scratch, n, t }, 4, &marks);
         (n, t) = (a.n, a.t);
-        println!("refine {}: {n} nodes, {t} triangles", a.number);
+        println!("{name} {}: {n} nodes, {t} triangles", a.number);
     }
     let a = restore(Tables { nodes: &mut nodes, rows: &mut rows, scratch: &mut scratch, n, t }, 4);
     println!("restore {}: {} nodes, {} triangles, {} passes", a.number, a.n, a.t, a.passes);

@@ -22,9 +22,13 @@ pub struct Tables<'a> {
 extern "C" {
     fn spoutbeetle_check(nodes: *mut i32, nodes_len: usize, rows: *mut u32, rows_len: usize, scratch: *mut u32, scratch_len: usize, n: usize, t: usize) -> u32;
     fn spoutbeetle_refine(nodes: *mut i32, nodes_len: usize, rows: *mut u32, rows_len: usize, scratch: *mut u32, scratch_len: usize, marks: *const u8, marks_len: usize, n0: usize, n: *mut usize, t: *mut usize) -> u32;
+    fn spoutbeetle_quarter(nodes: *mut i32, nodes_len: usize, rows: *mut u32, rows_len: usize, scratch: *mut u32, scratch_len: usize, marks: *const u8, marks_len: usize, n0: usize, n: *mut usize, t: *mut usize) -> u32;
     fn spoutbeetle_coarsen(nodes: *mut i32, nodes_len: usize, rows: *mut u32, rows_len: usize, scratch: *mut u32, scratch_len: usize, marks: *const u8, marks_len: usize, n0: usize, n: *mut usize, t: *mut usize) -> u32;
     fn spoutbeetle_restore(nodes: *mut i32, nodes_len: usize, rows: *mut u32, rows_len: usize, scratch: *mut u32, scratch_len: usize, n0: usize, n: *mut usize, t: *mut usize, passes: *mut usize) -> u32;
 }
+
+/// A call that takes marks.
+type Marked = unsafe extern "C" fn(*mut i32, usize, *mut u32, usize, *mut u32, usize, *const u8, usize, usize, *mut usize, *mut usize) -> u32;
 
 // SAFETY, in every call below: the pointers and lengths are those of live, distinct slices and numbers, which is all that a call asks.
 
@@ -36,18 +40,23 @@ pub fn check(g: Tables) -> Answer {
 
 /// Splits the marked rows, and what must be split with them. `marks` has one byte a row, 0 or 1; `n0` is the base's node count.
 pub fn refine(g: Tables, n0: usize, marks: &[u8]) -> Answer {
-    let (mut n, mut t) = (g.n, g.t);
-    let number = unsafe {
-        spoutbeetle_refine(g.nodes.as_mut_ptr(), g.nodes.len(), g.rows.as_mut_ptr(), g.rows.len(), g.scratch.as_mut_ptr(), g.scratch.len(), marks.as_ptr(), marks.len(), n0, &mut n, &mut t)
-    };
-    Answer { number, n, t, passes: 0 }
+    marked(spoutbeetle_refine, g, n0, marks)
+}
+
+/// As `refine`, but all three edges of every marked row are split, so that it becomes four rows.
+pub fn quarter(g: Tables, n0: usize, marks: &[u8]) -> Answer {
+    marked(spoutbeetle_quarter, g, n0, marks)
 }
 
 /// Takes the marked good nodes. `marks` has one byte a node, 0 or 1; `n0` is the base's node count.
 pub fn coarsen(g: Tables, n0: usize, marks: &[u8]) -> Answer {
+    marked(spoutbeetle_coarsen, g, n0, marks)
+}
+
+fn marked(call: Marked, g: Tables, n0: usize, marks: &[u8]) -> Answer {
     let (mut n, mut t) = (g.n, g.t);
     let number = unsafe {
-        spoutbeetle_coarsen(g.nodes.as_mut_ptr(), g.nodes.len(), g.rows.as_mut_ptr(), g.rows.len(), g.scratch.as_mut_ptr(), g.scratch.len(), marks.as_ptr(), marks.len(), n0, &mut n, &mut t)
+        call(g.nodes.as_mut_ptr(), g.nodes.len(), g.rows.as_mut_ptr(), g.rows.len(), g.scratch.as_mut_ptr(), g.scratch.len(), marks.as_ptr(), marks.len(), n0, &mut n, &mut t)
     };
     Answer { number, n, t, passes: 0 }
 }

@@ -49,11 +49,12 @@ fn random_text(d: &mut Dice) -> Vec<u8> {
             3 => text.extend(b"07\n"),
             4 | 5 => listed(d, "05", most, &mut text),
             6 => {
-                let kind = ["08", "00", "ff", "0", "04a", "06ff"][d.below(6)];
+                let kind = ["08", "00", "ff", "0", "04a", "06ff", "09a", "0a"][d.below(8)];
                 listed(d, kind, most, &mut text);
             }
             _ => {
-                listed(d, "04", most, &mut text);
+                let kind = ["04", "09"][d.below(2)];
+                listed(d, kind, most, &mut text);
                 most += d.below(12);
             }
         }

@@ -6,6 +6,7 @@ use rival::calls::{self, Answer, Tables};
 pub enum Call {
     Check,
     Refine(usize, Vec<u8>),
+    Quarter(usize, Vec<u8>),
     Coarsen(usize, Vec<u8>),
     Restore(usize),
 }
@@ -15,6 +16,7 @@ pub fn proved(call: &Call, g: &mut Tables) -> Answer {
     let a = match call {
         Call::Check => spoutbeetle::check(lent),
         Call::Refine(n0, marks) => spoutbeetle::refine(lent, *n0, marks),
+        Call::Quarter(n0, marks) => spoutbeetle::quarter(lent, *n0, marks),
         Call::Coarsen(n0, marks) => spoutbeetle::coarsen(lent, *n0, marks),
         Call::Restore(n0) => spoutbeetle::restore(lent, *n0),
     };
@@ -26,6 +28,7 @@ pub fn rival(call: &Call, g: &mut Tables) -> Answer {
     match call {
         Call::Check => calls::check(g),
         Call::Refine(n0, marks) => calls::refine(g, *n0, marks),
+        Call::Quarter(n0, marks) => calls::quarter(g, *n0, marks),
         Call::Coarsen(n0, marks) => calls::coarsen(g, *n0, marks),
         Call::Restore(n0) => calls::restore(g, *n0),
     }

@@ -1,9 +1,19 @@
 //! Drives the proved library and the rival with the same random calls and compares answers and every table entry.
 //! Usage: compare COUNT [SEED]. The first difference is made smaller by taking rows away, shown with its seed, and the run fails.
+//! The last line names each number that a call may answer and did not.
 use compare::{proved, rival as other, Call};
 use rival::calls::Tables;
 use rival::random::{damage, mesh, Dice};
 use std::collections::BTreeMap;
+
+/// The calls, and the numbers that document 01 lists for each; quarter's are refine's.
+const NUMBERS: [(&str, &[u32]); 5] = [
+    ("check", &[0, 1, 3, 4, 5, 6, 7, 10]),
+    ("refine", &[0, 1, 2, 3, 4, 5, 6, 7, 8, 9]),
+    ("quarter", &[0, 1, 2, 3, 4, 5, 6, 7, 8, 9]),
+    ("coarsen", &[0, 1, 2, 3, 4, 5, 6, 7]),
+    ("restore", &[0, 1, 3, 4, 5, 6, 7]),
+];
 
 fn random_call(d: &mut Dice, g: &Tables, base: usize) -> Call {
     let n0 = if d.once_in(4) { d.below(g.n.saturating_add(2).min(2000)) } else { base };
@@ -19,11 +29,12 @@ fn random_call(d: &mut Dice, g: &Tables, base: usize) -> Call {
         m
     };
     let (refining, coarsening) = (marks(g.t, 3), marks(g.n, 1));
-    match d.below(4) {
+    match d.below(5) {
         0 => Call::Check,
         1 => Call::Refine(n0, refining),
-        2 if d.once_in(2) => Call::Coarsen(n0, coarsening),
-        2 => Call::Coarsen(n0, coarsening.iter().map(|&b| if d.once_in(3) { 0 } else { b }).collect()),
+        2 => Call::Quarter(n0, refining),
+        3 if d.once_in(2) => Call::Coarsen(n0, coarsening),
+        3 => Call::Coarsen(n0, coarsening.iter().map(|&b| if d.once_in(3) { 0 } else { b }).collect()),
         _ => Call::Restore(n0),
     }
 }
@@ -41,7 +52,7 @@ fn smaller(call: &Call, given: &Tables) -> Tables {
         let mut fewer = least.clone();
         fewer.rows.drain(3 * i..3 * i + 3);
         fewer.t -= 1;
-        if !matches!(call, Call::Refine(..)) && differ(call, &fewer) {
+        if !matches!(call, Call::Refine(..) | Call::Quarter(..)) && differ(call, &fewer) {
             least = fewer;
         } else {
             i += 1;
@@ -69,14 +80,18 @@ fn main() {
         let kind = match call {
             Call::Check => "check",
             Call::Refine(..) => "refine",
+            Call::Quarter(..) => "quarter",
             Call::Coarsen(..) => "coarsen",
             Call::Restore(..) => "restore",
         };
         *seen.entry((kind, a.number)).or_default() += 1;
     }
-    for kind in ["check", "refine", "coarsen", "restore"] {
+    let mut missed = vec![];
+    for (kind, numbers) in NUMBERS {
         let given = seen.iter().filter(|(key, _)| key.0 == kind);
         println!("{kind} said {}", given.map(|(key, times)| format!("{} {times} times", key.1)).collect::<Vec<_>>().join(", "));
+        missed.extend(numbers.iter().filter(|&&k| !seen.contains_key(&(kind, k))).map(|k| format!("{kind} {k}")));
     }
-    println!("compare: {count} calls from seed {first} agree");
+    let reached = if missed.is_empty() { "every number was given".to_string() } else { format!("never given: {}", missed.join(", ")) };
+    println!("compare: {count} calls from seed {first} agree; {reached}");
 }

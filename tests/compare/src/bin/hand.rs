@@ -1,4 +1,4 @@
-//! Document 01's hand meshes, and every refusal, run through the proved library and the rival. Usage: hand.
+//! Document 01's hand meshes, those of request W1, and every refusal, run through the proved library and the rival. Usage: hand.
 //! Entries past the counts and scratch hold sevens before each call: after 0 they are zero, after a refusal the tables are as they were.
 use compare::{proved, rival as other, Call};
 use rival::calls::{Answer, Tables};
@@ -32,7 +32,89 @@ const CASE_8: Mesh = (
 const ENDS: Mesh = (&[(-3, 0), (1, 0), (-1, 4)], &[[2, 0, 1]]);
 const ENDS_CUT: Mesh = (&[(-3, 0), (1, 0), (-1, 4), (-1, 0)], &[[3, 2, 0], [3, 1, 2]]);
 
-/// A call, what it is given, and what 01 says of it.
+/// S, row 0 cut in four.
+const QUARTERED: Mesh = (
+    &[(0, 0), (8, 0), (8, 8), (0, 8), (4, 4), (8, 4), (4, 0)],
+    &[[5, 4, 1], [4, 3, 0], [6, 4, 0], [5, 2, 4], [6, 1, 4], [4, 2, 3]],
+);
+/// S, both rows cut in four.
+const BOTH_QUARTERED: Mesh = (
+    &[(0, 0), (8, 0), (8, 8), (0, 8), (4, 4), (8, 4), (4, 0), (0, 4), (4, 8)],
+    &[[5, 4, 1], [7, 4, 3], [6, 4, 0], [5, 2, 4], [6, 1, 4], [8, 4, 2], [7, 0, 4], [8, 3, 4]],
+);
+/// Case 2, rows 0 and 2 cut in four: they share the side 1-4.
+const SIDE_SHARED: Mesh = (
+    &[(0, 0), (8, 0), (8, 8), (0, 8), (4, 4), (8, 4), (6, 2), (6, 6), (0, 4), (2, 2), (4, 0), (4, 8)],
+    &[
+        [6, 5, 4], [8, 4, 3], [9, 10, 4], [7, 11, 4], [7, 5, 2], [6, 1, 5], [7, 4, 5], [9, 8, 0], [9, 4, 8], [6, 10, 1], [9, 0, 10],
+        [6, 4, 10], [11, 3, 4], [7, 2, 11],
+    ],
+);
+/// A strip; the refinement edges of rows 5, 4 and 3 are each a side of the next lower row.
+const CHAIN: Mesh = (
+    &[(0, 0), (8, 0), (16, 0), (24, 0), (32, 0), (0, 8), (8, 8), (16, 8), (24, 8)],
+    &[[8, 3, 4], [8, 7, 3], [2, 3, 7], [6, 2, 7], [1, 2, 6], [5, 1, 6], [5, 0, 1]],
+);
+/// Its last row cut in four, which draws in all but row 0; and refined, which draws in none.
+const CHAIN_QUARTERED: Mesh = (
+    &[
+        (0, 0), (8, 0), (16, 0), (24, 0), (32, 0), (0, 8), (8, 8), (16, 8), (24, 8), (20, 4), (16, 4), (12, 4), (8, 4), (4, 4), (4, 0),
+        (0, 4),
+    ],
+    &[
+        [8, 3, 4], [9, 8, 7], [9, 2, 3], [11, 10, 6], [11, 1, 2], [13, 12, 5], [15, 14, 5], [9, 3, 8], [10, 9, 7], [10, 2, 9], [10, 7, 6],
+        [11, 2, 10], [12, 11, 6], [12, 1, 11], [12, 6, 5], [13, 1, 12], [13, 14, 1], [15, 0, 14], [13, 5, 14],
+    ],
+);
+const CHAIN_REFINED: Mesh = (
+    &[(0, 0), (8, 0), (16, 0), (24, 0), (32, 0), (0, 8), (8, 8), (16, 8), (24, 8), (4, 0)],
+    &[[8, 3, 4], [8, 7, 3], [2, 3, 7], [6, 2, 7], [1, 2, 6], [5, 1, 6], [9, 5, 0], [9, 1, 5]],
+);
+/// S, row 0 cut in four, then row 0 refined; then row 4 cut in four.
+const QUARTERED_REFINED: Mesh = (
+    &[(0, 0), (8, 0), (8, 8), (0, 8), (4, 4), (8, 4), (4, 0), (6, 2)],
+    &[[7, 5, 4], [4, 3, 0], [6, 4, 0], [5, 2, 4], [7, 6, 1], [4, 2, 3], [7, 1, 5], [7, 4, 6]],
+);
+const MIXED: Mesh = (
+    &[(0, 0), (8, 0), (8, 8), (0, 8), (4, 4), (8, 4), (4, 0), (6, 2), (0, 4), (2, 2), (4, 2), (6, 0), (5, 1), (7, 1), (8, 2)],
+    &[
+        [7, 5, 4], [8, 4, 3], [10, 9, 6], [5, 2, 4], [12, 11, 7], [4, 2, 3], [13, 14, 7], [10, 7, 4], [9, 8, 0], [9, 4, 8], [9, 0, 6],
+        [10, 4, 9], [13, 11, 1], [12, 6, 11], [13, 7, 11], [14, 5, 7], [13, 1, 14], [12, 10, 6], [12, 7, 10],
+    ],
+);
+/// R, row 0 cut in four: all rows round the inner node are drawn in.
+const ROUND_QUARTERED: Mesh = (
+    &[(0, 0), (16, 0), (0, 16), (4, 4), (10, 2), (8, 0), (2, 2), (2, 10)],
+    &[[5, 4, 0], [7, 1, 2], [6, 2, 0], [6, 4, 3], [5, 1, 4], [6, 0, 4], [4, 7, 3], [4, 1, 7], [7, 6, 3], [7, 2, 6]],
+);
+/// Row 0's sides are the refinement edges of its neighbours.
+const WINGED: Mesh = (&[(0, 0), (16, 0), (0, 16), (8, -8), (-8, 8)], &[[0, 1, 2], [3, 1, 0], [4, 0, 2]]);
+/// Its row 0 cut in four.
+const CUT_ALL: Mesh = (
+    &[(0, 0), (16, 0), (0, 16), (8, -8), (-8, 8), (8, 8), (8, 0), (0, 8)],
+    &[[6, 5, 0], [6, 3, 1], [7, 4, 0], [7, 5, 2], [6, 1, 5], [7, 0, 5], [6, 0, 3], [7, 2, 4]],
+);
+/// Its row 1 cut in four; rows 0 and 1.
+const WING_QUARTERED: Mesh = (
+    &[(0, 0), (16, 0), (0, 16), (8, -8), (-8, 8), (8, 8), (8, 0), (12, -4), (4, -4)],
+    &[[6, 5, 0], [7, 6, 3], [4, 0, 2], [5, 2, 0], [6, 1, 5], [8, 6, 0], [7, 1, 6], [8, 3, 6]],
+);
+const WINGS_QUARTERED: Mesh = (
+    &[(0, 0), (16, 0), (0, 16), (8, -8), (-8, 8), (8, 8), (8, 0), (0, 8), (12, -4), (4, -4)],
+    &[[6, 5, 0], [8, 6, 3], [7, 4, 0], [7, 5, 2], [6, 1, 5], [7, 0, 5], [9, 6, 0], [8, 1, 6], [9, 3, 6], [7, 2, 4]],
+);
+/// Case 12's triangle, cut in four.
+const ENDS_QUARTERED: Mesh = (
+    &[(-3, 0), (1, 0), (-1, 4), (-1, 0), (-2, 2), (0, 2)],
+    &[[4, 3, 2], [5, 3, 1], [4, 0, 3], [5, 2, 3]],
+);
+/// The refinement edge has even sums, the sides have not.
+const ODD_SIDES: Mesh = (&[(1, 1), (4, 0), (0, 4)], &[[0, 1, 2]]);
+const ODD_SIDES_REFINED: Mesh = (&[(1, 1), (4, 0), (0, 4), (2, 2)], &[[3, 0, 1], [3, 2, 0]]);
+/// Row 0's edges have even sums, the refinement edge that its side draws in has not.
+const ODD_NEIGHBOUR: Mesh = (&[(0, 4), (8, 4), (0, 12), (3, 0)], &[[0, 1, 2], [1, 0, 3]]);
+
+/// A call, what it is given, and what 01 or W1 says of it.
 struct Case {
     name: &'static str,
     given: Tables,
@@ -70,6 +152,10 @@ fn refine(mesh: Mesh, n0: usize, listed: &[usize]) -> Call {
     Call::Refine(n0, marks(mesh.1.len(), listed))
 }
 
+fn quarter(mesh: Mesh, n0: usize, listed: &[usize]) -> Call {
+    Call::Quarter(n0, marks(mesh.1.len(), listed))
+}
+
 fn coarsen(mesh: Mesh, n0: usize, listed: &[usize]) -> Call {
     Call::Coarsen(n0, marks(mesh.0.len(), listed))
 }
@@ -104,6 +190,35 @@ fn hand_meshes() -> Vec<Case> {
     ]
 }
 
+/// Request W1: all three edges of a marked row start the split set.
+fn quarter_meshes() -> Vec<Case> {
+    vec![
+        done("S, row 0", S, quarter(S, 4, &[0]), QUARTERED, 0),
+        done("S, row 0, restore", QUARTERED, Call::Restore(4), S, 2),
+        done("S, row 0, the first pass", QUARTERED, full_pass(QUARTERED, 4), CASE_2, 0),
+        done("S, both rows", S, quarter(S, 4, &[0, 1]), BOTH_QUARTERED, 0),
+        done("S, both rows, restore", BOTH_QUARTERED, Call::Restore(4), S, 2),
+        done("S, no marks", S, quarter(S, 4, &[]), S, 0),
+        done("the empty mesh, quarter", EMPTY, Call::Quarter(0, vec![]), EMPTY, 0),
+        done("a side in common", CASE_2, quarter(CASE_2, 4, &[0, 2]), SIDE_SHARED, 0),
+        done("a side in common, restore", SIDE_SHARED, Call::Restore(4), S, 3),
+        done("past one ring", CHAIN, quarter(CHAIN, 9, &[6]), CHAIN_QUARTERED, 0),
+        done("the same row refined", CHAIN, refine(CHAIN, 9, &[6]), CHAIN_REFINED, 0),
+        done("one way, the other", QUARTERED, refine(QUARTERED, 4, &[0]), QUARTERED_REFINED, 0),
+        done("and the first again", QUARTERED_REFINED, quarter(QUARTERED_REFINED, 4, &[4]), MIXED, 0),
+        done("both ways mixed, restore", MIXED, Call::Restore(4), S, 5),
+        done("R, round the inner node", R, quarter(R, 4, &[0]), ROUND_QUARTERED, 0),
+        done("sides that are refinement edges", WINGED, quarter(WINGED, 5, &[0]), CUT_ALL, 0),
+        done("the same edges by their own rows", WINGED, refine(WINGED, 5, &[1, 2]), CUT_ALL, 0),
+        done("the neighbour marked", WINGED, quarter(WINGED, 5, &[1]), WING_QUARTERED, 0),
+        done("both marked", WINGED, quarter(WINGED, 5, &[0, 1]), WINGS_QUARTERED, 0),
+        done("both marked, restore", WINGS_QUARTERED, Call::Restore(5), WINGED, 3),
+        done("one triangle, case 12's midpoint", ENDS, quarter(ENDS, 3, &[0]), ENDS_QUARTERED, 0),
+        done("odd sides, refine", ODD_SIDES, refine(ODD_SIDES, 3, &[0]), ODD_SIDES_REFINED, 0),
+        Case { given: lent(S, 7, 6), ..done("the rooms are just enough, quarter", S, quarter(S, 4, &[0]), QUARTERED, 0) },
+    ]
+}
+
 /// 2: another length, and a byte above 1.
 fn number_2() -> Vec<Case> {
     let s = || lent(S, 20, 30);
@@ -111,6 +226,9 @@ fn number_2() -> Vec<Case> {
         refused("2, refine, one mark short", s(), Call::Refine(4, vec![1]), 2),
         refused("2, refine, one mark more", s(), Call::Refine(4, vec![1, 0, 0]), 2),
         refused("2, refine, a byte of 2", s(), Call::Refine(4, vec![0, 2]), 2),
+        refused("2, quarter, one mark short", s(), Call::Quarter(4, vec![1]), 2),
+        refused("2, quarter, one mark more", s(), Call::Quarter(4, vec![1, 0, 0]), 2),
+        refused("2, quarter, a byte of 2", s(), Call::Quarter(4, vec![0, 2]), 2),
         refused("2, coarsen, a mark a row", s(), Call::Coarsen(4, vec![0, 0]), 2),
         refused("2, coarsen, a byte of 255", s(), Call::Coarsen(4, vec![0, 0, 0, 255]), 2),
     ]
@@ -124,13 +242,19 @@ fn numbers_8_to_10() -> Vec<Case> {
         refused("case 11, no room for a node", lent(S, 4, 30), refine(S, 4, &[0]), 9),
         refused("9, no room for two rows", lent(S, 20, 3), refine(S, 4, &[0]), 9),
         refused("8 before 9", lent(SMALL, 3, 1), refine(SMALL, 3, &[0]), 8),
+        refused("8, by the sides alone", lent(ODD_SIDES, 20, 30), quarter(ODD_SIDES, 3, &[0]), 8),
+        refused("8, by an edge drawn in", lent(ODD_NEIGHBOUR, 20, 30), quarter(ODD_NEIGHBOUR, 4, &[0]), 8),
+        refused("8 before 9, quarter", lent(ODD_SIDES, 3, 1), quarter(ODD_SIDES, 3, &[0]), 8),
+        refused("9, room for a refine, not for a quarter", lent(S, 5, 4), quarter(S, 4, &[0]), 9),
+        refused("9, room for two nodes of three", lent(S, 6, 6), quarter(S, 4, &[0]), 9),
+        refused("9, room for three rows of four", lent(S, 7, 5), quarter(S, 4, &[0]), 9),
     ]
 }
 
 /// Every call but the check takes n0; all answer 3 to 7 alike.
 fn by_all_calls(name: &'static str, given: Mesh, number: u32) -> Vec<Case> {
     let n0 = 0;
-    [Call::Check, refine(given, n0, &[]), coarsen(given, n0, &[]), Call::Restore(n0)]
+    [Call::Check, refine(given, n0, &[]), quarter(given, n0, &[]), coarsen(given, n0, &[]), Call::Restore(n0)]
         .map(|call| refused(name, lent(given, 20, 30), call, number))
         .into()
 }
@@ -179,9 +303,10 @@ fn number_1() -> Vec<Case> {
         ("1, t above TC", |g| g.t = usize::MAX),
         ("1, scratch one short", |g| g.scratch.truncate(4 * 50 - 1)),
     ];
-    let mut all = vec![refused("1, n0 above n", lent(S, 20, 30), Call::Restore(5), 1)];
+    let mut all: Vec<Case> =
+        [refine(S, 5, &[0]), quarter(S, 5, &[0]), full_pass(S, 5), Call::Restore(5)].map(|call| refused("1, n0 above n", lent(S, 20, 30), call, 1)).into();
     for (name, spoil) in reasons {
-        for call in [Call::Check, refine(S, 4, &[0]), full_pass(S, 4), Call::Restore(4)] {
+        for call in [Call::Check, refine(S, 4, &[0]), quarter(S, 4, &[0]), full_pass(S, 4), Call::Restore(4)] {
             let mut given = lent(S, 20, 30);
             spoil(&mut given);
             all.push(refused(name, given, call, 1));
@@ -215,7 +340,7 @@ fn fault(case: &Case, by: fn(&Call, &mut Tables) -> Answer) -> Option<String> {
 }
 
 fn main() {
-    let parts = [hand_meshes(), range_ends(), number_1(), number_2(), numbers_3_to_7(), numbers_8_to_10()];
+    let parts = [hand_meshes(), quarter_meshes(), range_ends(), number_1(), number_2(), numbers_3_to_7(), numbers_8_to_10()];
     let cases: Vec<Case> = parts.into_iter().flatten().collect();
     let faults: Vec<String> = cases.iter().flat_map(|c| [fault(c, proved), fault(c, other)]).flatten().collect();
     for f in &faults {

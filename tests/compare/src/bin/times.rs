@@ -74,9 +74,18 @@ fn main() {
         row("check", &Call::Check, &tables(&nodes, &rows, nodes.len(), rows.len()));
     }
     row("check", &Call::Check, &full());
-    for (want, every, name) in [(43, 3, "refine, every third row"), (246, 3, "refine, every third row"), (434, 3, "refine, every third row"), (790, 12, "refine, every twelfth row")] {
+    let refining: [(&str, fn(usize, Vec<u8>) -> Call, usize, usize); 7] = [
+        ("refine, every third row", Call::Refine, 43, 3),
+        ("refine, every third row", Call::Refine, 246, 3),
+        ("refine, every third row", Call::Refine, 434, 3),
+        ("refine, every twelfth row", Call::Refine, 790, 12),
+        ("quarter, every ninth row", Call::Quarter, 43, 9),
+        ("quarter, every ninth row", Call::Quarter, 246, 9),
+        ("quarter, every ninth row", Call::Quarter, 434, 9),
+    ];
+    for (name, call, want, every) in refining {
         let g = grown(want);
-        row(name, &Call::Refine(4, (0..g.t).map(|i| (i % every == 0) as u8).collect()), &g);
+        row(name, &call(4, (0..g.t).map(|i| (i % every == 0) as u8).collect()), &g);
     }
     let mut last = grown(790);
     let marks = (0..last.t).map(|i| (i % 12 == 0) as u8).collect();

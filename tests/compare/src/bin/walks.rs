@@ -1,10 +1,31 @@
-//! Random walks over the proved library: a base, a thousand accepted and refused calls, then restore, which must give back the base row
-//! for row with no more passes than nodes were added. Usage: walks COUNT [SEED].
+//! Random walks over the proved library: a base, a thousand accepted and refused calls that mix both ways to refine with coarsen, then
+//! restore, which must give back the base row for row with no more passes than nodes were added. Usage: walks COUNT [SEED].
 use compare::{proved, Call};
 use rival::calls::Tables;
 use rival::random::{grid, lend, Dice};
 
-fn walk(seed: u64) -> (usize, usize, usize) {
+/// What a walk made of its calls.
+#[derive(Default)]
+struct Told {
+    refined: usize,
+    quartered: usize,
+    coarsened: usize,
+    refused: usize,
+    passes: usize,
+}
+
+/// A call on the mesh, made with the base's node count or, once in five, with anything. A quarter splits more for a mark, so it gets fewer.
+fn random_call(d: &mut Dice, g: &Tables, n0: usize) -> Call {
+    let way: (fn(usize, Vec<u8>) -> Call, usize) = if d.once_in(2) { (Call::Quarter, 80) } else { (Call::Refine, 20) };
+    let (refine, every) = way;
+    match d.below(5) {
+        0 => Call::Coarsen(n0, (0..g.n).map(|_| d.once_in(2) as u8).collect()),
+        1 => refine(d.below(g.n + 5), (0..g.t + d.below(3)).map(|_| d.below(3) as u8).collect()),
+        _ => refine(n0, (0..g.t).map(|_| d.once_in(every) as u8).collect()),
+    }
+}
+
+fn walk(seed: u64) -> Told {
     let mut d = Dice::new(seed);
     let (w, h) = (1 + d.below(4), 1 + d.below(4));
     let (nodes, rows) = grid(w, h, 1 << (4 + d.below(6)));
@@ -15,24 +36,22 @@ fn walk(seed: u64) -> (usize, usize, usize) {
     let base = g.clone();
     let n0 = base.n;
     assert_eq!(proved(&Call::Check, &mut g).number, 0, "seed {seed}: the base is admitted");
-    let (mut accepted, mut refused) = (0, 0);
+    let mut told = Told::default();
     for _ in 0..1000 {
-        let call = match d.below(5) {
-            0 => Call::Coarsen(n0, (0..g.n).map(|_| d.once_in(2) as u8).collect()),
-            1 => Call::Refine(d.below(g.n + 5), (0..g.t + d.below(3)).map(|_| d.below(3) as u8).collect()),
-            _ => Call::Refine(n0, (0..g.t).map(|_| d.once_in(20) as u8).collect()),
-        };
-        let mine = match &call {
-            Call::Refine(k, _) | Call::Coarsen(k, _) => *k == n0,
-            _ => true,
+        let call = random_call(&mut d, &g, n0);
+        let (called_with, kind) = match &call {
+            Call::Refine(k, _) => (*k, &mut told.refined),
+            Call::Quarter(k, _) => (*k, &mut told.quartered),
+            Call::Coarsen(k, _) => (*k, &mut told.coarsened),
+            _ => unreachable!("no such call is made here"),
         };
         let mut next = g.clone();
         let a = proved(&call, &mut next);
-        if a.number == 0 && mine {
-            accepted += 1;
+        if a.number == 0 && called_with == n0 {
+            *kind += 1;
             g = next;
         } else if a.number != 0 {
-            refused += 1;
+            told.refused += 1;
             assert!(next.nodes == g.nodes && next.rows == g.rows, "seed {seed}: a refusal changed a table");
         }
     }
@@ -41,7 +60,8 @@ fn walk(seed: u64) -> (usize, usize, usize) {
     assert_eq!((a.number, a.n, a.t), (0, n0, base.t), "seed {seed}");
     assert!(a.passes <= added, "seed {seed}: {} passes for {added} nodes", a.passes);
     assert!(same(&g, &base), "seed {seed}: restore did not give back the base");
-    (accepted, refused, a.passes)
+    told.passes = a.passes;
+    told
 }
 
 fn same(g: &Tables, base: &Tables) -> bool {
@@ -57,6 +77,7 @@ fn main() {
     let count: u64 = words.next().map_or(20, |w| w.parse().expect("a count"));
     let first: u64 = words.next().map_or(1, |w| w.parse().expect("a seed"));
     let told: Vec<_> = (first..first + count).map(walk).collect();
-    let sum = |f: fn(&(usize, usize, usize)) -> usize| told.iter().map(f).sum::<usize>();
-    println!("walks: {count} from seed {first}; {} calls accepted, {} refused, {} passes back to the base", sum(|w| w.0), sum(|w| w.1), sum(|w| w.2));
+    let sum = |f: fn(&Told) -> usize| told.iter().map(f).sum::<usize>();
+    let accepted = format!("{} refine, {} quarter and {} coarsen", sum(|w| w.refined), sum(|w| w.quartered), sum(|w| w.coarsened));
+    println!("walks: {count} from seed {first}; {accepted} accepted, {} refused, {} passes back to the base", sum(|w| w.refused), sum(|w| w.passes));
 }

@@ -64,6 +64,9 @@ abbrev pub ifRefines : {A : Type 0} → Refines → (Manner → A) → A → A
 ifRefines (In k) f a = f k
 ifRefines Never f a = a
 
+abbrev pub isRefining : ℕ → Bool
+isRefining kind = ifRefines (refinesIn kind) (λ _. true) false
+
 -- ---- which lines are taken
 
 -- digits alone, a kind byte at least and "at most 254 digits"
@@ -84,7 +87,7 @@ admits s kind fields =
     cases (eqb kind 1) (not (s .accepted) && eqb (length fields) 16 && ltb (s .n) 512)
     (cases (eqb kind 2) (not (s .accepted) && eqb (length fields) 12 && ltb (s .t) 1024)
     (cases (eqb kind 3) (not (s .accepted) && eqb (length fields) 0)
-    (ifRefines (refinesIn kind) (λ _. s .accepted && listsBelow (s .t) fields)
+    (cases (isRefining kind) (s .accepted && listsBelow (s .t) fields)
     (cases (eqb kind 5) (s .accepted && listsBelow (s .n) fields)
     (cases (eqb kind 6) (s .accepted && eqb (length fields) 0)
     (eqb kind 7 && eqb (length fields) 0))))))

@@ -1,31 +1,25 @@
 -- Frames and whole lines, in the form in which the code takes them. Assumes nothing.
-use mathlib.Core.Path.{_≡_, refl, sym, ap, _∙_}
-use mathlib.Core.Bool.{Bool, true, false, not, _&&_}
-use mathlib.Core.List.{List, [], _∷_}
-use Prim.Native.Nat.{ℕ, _+_, _-_, _*_, _/_, _≤_, _<_}
+use mathlib.Core.Path.{_≡_, sym, ap, _∙_}
+use mathlib.Core.Bool.{Bool, true, false, not}
+use mathlib.Core.List.{List}
+use Prim.Native.Nat.{ℕ, _+_, _-_, _*_, _≤_}
 use native.Mathlib.Omega.{arith}
-use borrow.Author.Tests.{eq-eqb, ne-eqb, not-true, not-false}
-use lib.Dec.{eqb}
-use lib.IntN.{ℤ, pos}
-use lib.ListN.{length, take, drop, replicate}
-use Rattle.lists.specs.Lists.{cases}
-use Rattle.lists.specs.Search.{items, itemsFrom, iter}
+use borrow.Author.Tests.{ne-eqb, not-true, not-false}
+use lib.IntN.{ℤ}
+use lib.ListN.{length, take, drop}
 use Rattle.meaning.specs.declared.Answer.{Answer}
 use Rattle.meaning.specs.declared.Place.{Place}
 use Rattle.meaning.specs.declared.Tri.{Tri}
-use Rattle.meaning.specs.Split.{newest}
-use Rattle.meaning.specs.Tables.{Given, given, Outcome, outcome, answer, placeAt, rowAt, flatNodes, flatRows, filled}
-use Rattle.meaning.specs.Calls.{checkOut, refineOut, coarsenOut, restoreOut}
+use Rattle.meaning.specs.Tables.{outcome}
 use Rattle.tables.specs.Put.{setPlace, setRow}
-use Rattle.text.specs.Digits.{number, listed}
+use Rattle.text.specs.Digits.{number}
 use Rattle.text.specs.Lines.{placeIn, rowIn, ffLine, answerLine, allLines}
 use Rattle.text.specs.Writing.{Wrote, wrote, writes}
 use Rattle.protocol.specs.declared.Session.{Session}
 use Rattle.frames.specs.declared.Answered.{Answered}
-use Rattle.protocol.specs.Frames.{Held, held, session, step, ff, admits, takes, addNode, addRow, orDropped, marksOf, called, sessionAfter, frame, lineStep}
+use Rattle.protocol.specs.Frames.{Held, held, session, admits, takes, addNode, addRow, called, sessionAfter, frame, lineStep}
 use Rattle.frames.specs.Answered.{Lent, lent, writing, whole, Whole, whole-is, lineLent}
-use Rattle.frames.specs.AdmitLaw.{node-room, row-room, rest-is}
-use Rattle.frames.specs.MarksLaw.{markOne, marked-are}
+use Rattle.admit.specs.AdmitLaw.{node-room, row-room, rest-is}
 
 abbrev answered : Session → ℕ → Answered
 answered s k = record { session = s; written = k }
@@ -33,53 +27,6 @@ answered s k = record { session = s; written = k }
 -- what is held, and what stands in the buffer
 abbrev with : Held → Wrote → Lent
 with h w = record { next = h; text = w }
-
--- ---- 03: the check's outcome, accepted or dropped
-
-module _ (a : Answer) (ns : List ℤ) (rs sc : List ℕ) (o : Outcome) (c : outcome a ns rs sc ≡ o) where
-  pub check-kept : a .number ≡ 0 → outcome a ns rs sc ≡ orDropped o
-  check-kept z = rw (← c, eq-eqb (a .number) 0 z)
-
-  pub check-dropped : (ns₁ : List ℤ) (rs₁ : List ℕ) → (a .number ≡ 0 → ⊥) → ns₁ ≡ filled (pos 0) (length ns) (flatNodes (items (placeAt ns) 0 0)) →
-      rs₁ ≡ filled 0 (length rs) (flatRows (items (rowAt rs) 0 0)) → outcome (answer (a .number) 0 0 0) ns₁ rs₁ sc ≡ orDropped o
-  unfolding items itemsFrom
-  check-dropped ns₁ rs₁ z f g = rw (← c, ne-eqb (a .number) 0 z, f, g)
-
--- ---- 03 to 06
-
-module _ (ns : List ℤ) (rs sc : List ℕ) (s : Session) (kind : ℕ) (f : List ℕ) (o : Outcome) where
-  pub called-check : kind ≡ 3 → o ≡ orDropped (checkOut (given ns rs sc (s .n) (s .t))) → o ≡ called (held ns rs sc s) kind f
-  unfolding called
-  called-check k e = e ∙ rw k
-
-  pub called-refine : kind ≡ 4 → o ≡ refineOut newest (given ns rs sc (s .n) (s .t)) (s .n0) (marksOf (s .t) (listed f)) → o ≡ called (held ns rs sc s) kind f
-  unfolding called
-  called-refine k e = e ∙ rw k
-
-  pub called-coarsen : kind ≡ 5 → o ≡ coarsenOut (given ns rs sc (s .n) (s .t)) (s .n0) (marksOf (s .n) (listed f)) → o ≡ called (held ns rs sc s) kind f
-  unfolding called
-  called-coarsen k e = e ∙ rw k
-
-  pub called-restore : (kind ≡ 3 → ⊥) → (kind ≡ 4 → ⊥) → (kind ≡ 5 → ⊥) → o ≡ restoreOut (given ns rs sc (s .n) (s .t)) (s .n0) → o ≡ called (held ns rs sc s) kind f
-  unfolding called
-  called-restore a b c e = e ∙ rw (ne-eqb kind 3 a, ne-eqb kind 4 b, ne-eqb kind 5 c)
-
--- what is listed, as the code marks it
-module _ (f : List ℕ) (k : ℕ) (m : List ℕ) (g : Given) (n0 : ℕ) (o : Outcome) where
-  pub refine-marked : k ≤ 1024 → m ≡ iter (markOne f) 0 (length f / 4) (replicate 1024 0) → o ≡ refineOut newest g n0 (take k m) → o ≡ refineOut newest g n0 (marksOf k (listed f))
-  refine-marked h e c = rw (← marked-are f k 1024 m h e) c
-
-  pub coarsen-marked : k ≤ 512 → m ≡ iter (markOne f) 0 (length f / 4) (replicate 512 0) → o ≡ coarsenOut g n0 (take k m) → o ≡ coarsenOut g n0 (marksOf k (listed f))
-  coarsen-marked h e c = rw (← marked-are f k 512 m h e) c
-
-module _ (s : Session) (kind : ℕ) (a : Answer) where
-  pub after-check : kind ≡ 3 → session (a .n) (a .t) (a .n) (eqb (a .number) 0) ≡ sessionAfter s kind a
-  unfolding sessionAfter
-  after-check k = rw k
-
-  pub after-work : (kind ≡ 3 → ⊥) → session (a .n) (a .t) (s .n0) (s .accepted) ≡ sessionAfter s kind a
-  unfolding sessionAfter
-  after-work k = rw (ne-eqb kind 3 k)
 
 -- ---- a frame
 

@@ -11,23 +11,26 @@ use lib.IntN.{pos}
 use lib.ListN.{length, length-replicate}
 use Rattle.lists.specs.Lists.{cases}
 use Rattle.lists.specs.ListsLaw.{and-right}
+use Rattle.meaning.specs.declared.Manner.{Manner}
 use Rattle.meaning.specs.Mesh.{Mesh}
 use Rattle.meaning.specs.Lawful.{refusal}
-use Rattle.meaning.specs.Split.{newest, refined}
+use Rattle.meaning.specs.Split.{wayOf, refined}
 use Rattle.meaning.specs.Coarsen.{coarsened, Restored, restored}
 use Rattle.meaning.specs.Tables.{Given, Outcome, meshOf, roomOf, filled}
 use Rattle.meaning.specs.Calls.{says, checkNo, refineNo, coarsenNo, refines, coarsens, restores, sizesFit, untouched, leaves, sized, checkOut, refineOut, coarsenOut, restoreOut}
 use Rattle.laws.specs.Coarsen.{coarsened-count, coarsened-rows}
-use Rattle.laws.specs.Refine.{newest-done}
+use Rattle.laws.specs.Refine.{manner-done}
 use Rattle.laws.specs.Restore.{restored-fewer, restored-rows}
 use Rattle.laws.specs.TableMesh.{nodes-count, rows-count, filled-length, done-nodes, done-rows}
 use Rattle.tables.specs.PutLaw.{length-setPlace, length-setRow}
 use Rattle.text.specs.Digits.{listed}
 use Rattle.text.specs.Lines.{placeIn, rowIn, answerLine}
 use Rattle.text.specs.LinesAre.{answer-length, all-length}
-use Rattle.protocol.specs.Frames.{Held, held, session, givenBy, Step, step, ff, wellFormed, admits, takes, kindOf, fieldsOf, addNode, addRow, orDropped, marksOf, called, sessionAfter, answering, frame, lineStep}
+use Rattle.protocol.specs.declared.Refines.{Refines}
+use Rattle.protocol.specs.declared.Refines.the-variants.{In, Never}
+use Rattle.protocol.specs.Frames.{Held, held, session, givenBy, Step, step, ff, refinesIn, ifRefines, wellFormed, admits, takes, kindOf, fieldsOf, addNode, addRow, orDropped, marksOf, called, sessionAfter, answering, frame, lineStep}
 use Rattle.frames.specs.Answered.{Whole, WholeHeld}
-use Rattle.frames.specs.AdmitLaw.{node-room, row-room}
+use Rattle.admit.specs.AdmitLaw.{node-room, row-room}
 
 -- ---- what a call leaves: lengths as they were, counts within them
 
@@ -41,6 +44,10 @@ record Sound (g : Given) (o : Outcome) : Type 0 where
 pick-sound : (g : Given) (b : Bool) {o p : Outcome} → Sound g o → Sound g p → Sound g (cases b o p)
 pick-sound g true x y = x
 pick-sound g false x y = y
+
+refining-sound : (g : Given) (r : Refines) {f : Manner → Outcome} {p : Outcome} → ((k : Manner) → Sound g (f k)) → Sound g p → Sound g (ifRefines r f p)
+refining-sound g (In k) x y = x k
+refining-sound g Never x y = y
 
 record Counted (g : Given) (m : Mesh) : Type 0 where
   nodes : 2 * length (m .nodes) ≤ length (g .nodes)
@@ -84,11 +91,11 @@ module _ (g : Given) (a : 2 * g .n ≤ length (g .nodes)) (b : 3 * g .t ≤ leng
   unfolding checkOut
   sound-check = pick-sound g (sizesFit g 0) (sound-untouched (checkNo (meshOf g))) (sound-untouched 1)
 
-  sound-refine : (n0 : ℕ) (marks : List ℕ) → Sound g (refineOut newest g n0 marks)
+  sound-refine : (k : Manner) (n0 : ℕ) (marks : List ℕ) → Sound g (refineOut (wayOf k) g n0 marks)
   unfolding refineOut refines
-  sound-refine n0 marks =
-      sound-sized n0 (refineNo newest (roomOf g) (meshOf g) marks) (meshOf g) (refined newest (meshOf g) marks) 0
-      (λ e. let f = newest-done (roomOf g) (meshOf g) marks e .fit in record { nodes = omega (arith, f .nodes-fit); rows = omega (arith, f .rows-fit) })
+  sound-refine k n0 marks =
+      sound-sized n0 (refineNo (wayOf k) (roomOf g) (meshOf g) marks) (meshOf g) (refined (wayOf k) (meshOf g) marks) 0
+      (λ e. let f = manner-done k (roomOf g) (meshOf g) marks e .fit in record { nodes = omega (arith, f .nodes-fit); rows = omega (arith, f .rows-fit) })
 
   sound-coarsen : (n0 : ℕ) (marks : List ℕ) → Sound g (coarsenOut g n0 marks)
   unfolding coarsenOut coarsens
@@ -121,7 +128,7 @@ module _ (h : Held) (ol : ℕ) (w : WholeHeld h ol) where
       let a : 2 * g .n ≤ length (g .nodes) = omega (arith, w .nodes, w .few-nodes) in
       let b : 3 * g .t ≤ length (g .rows) = omega (arith, w .rows, w .few-rows) in
       pick-sound g (eqb kind 3) (sound-dropped g a b (checkOut g) (sound-check g a b))
-      (pick-sound g (eqb kind 4) (sound-refine g a b (h .session .n0) (marksOf (h .session .t) (listed fields)))
+      (refining-sound g (refinesIn kind) (λ k. sound-refine g a b k (h .session .n0) (marksOf (h .session .t) (listed fields)))
       (pick-sound g (eqb kind 5) (sound-coarsen g a b (h .session .n0) (marksOf (h .session .n) (listed fields)))
       (sound-restore g a b (h .session .n0))))
 

@@ -1,7 +1,4 @@
 // The line program of document 01: what one line does to the tables, and what it writes.
-mod admit;
-mod call;
-
 ghost use mathlib.Core.Path.{_≡_};
 ghost use mathlib.Core.Bool.{Bool, true};
 ghost use Prim.Native.Nat.{ℕ};
@@ -60,10 +57,10 @@ fn frame(
         let written = write::put_all(out, nodes, rows, session.n, session.t);
         return Answered { session, written };
     }
-    let a = call::call(kind, fields, nodes, rows, scratch, session);
+    let a = calls::call(kind, fields, nodes, rows, scratch, session);
     let written = write::put_answer(out, kind, a);
     Answered {
-        session: call::session_after(session, kind, a),
+        session: calls::session_after(session, kind, a),
         written,
     }
 }

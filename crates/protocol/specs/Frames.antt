@@ -1,5 +1,5 @@
--- Document 01, 'The line program': what one line does to what the program holds, and what it writes. Every definition takes any
--- tables and any bytes. Assumes nothing.
+-- Document 01, 'The line program', and W1's `09`: what one line does to what the program holds, and what it writes. Every definition
+-- takes any tables and any bytes. Assumes nothing.
 use mathlib.Core.Bool.{Bool, true, false, not, _&&_}
 use mathlib.Core.List.{List, [], _∷_}
 use Prim.Native.Nat.{ℕ, _+_, _*_, _%_}
@@ -9,13 +9,17 @@ use lib.ListN.{length, drop}
 use Rattle.lists.specs.Lists.{all, any, cases}
 use Rattle.lists.specs.Search.{items}
 use Rattle.meaning.specs.declared.Answer.{Answer}
-use Rattle.meaning.specs.Split.{newest}
+use Rattle.meaning.specs.declared.Manner.{Manner}
+use Rattle.meaning.specs.declared.Manner.the-variants.{Newest, AllThree}
+use Rattle.meaning.specs.Split.{wayOf}
 use Rattle.meaning.specs.Tables.{Given, given, Outcome, outcome, answer, filled}
 use Rattle.meaning.specs.Calls.{checkOut, refineOut, coarsenOut, restoreOut}
 use Rattle.tables.specs.Put.{setPlace, setRow}
 use Rattle.text.specs.Digits.{isDigit, number, listed}
 use Rattle.text.specs.Lines.{placeIn, rowIn, ffLine, answerLine, allLines}
 use Rattle.protocol.specs.declared.Session.{Session}
+use Rattle.protocol.specs.declared.Refines.{Refines}
+use Rattle.protocol.specs.declared.Refines.the-variants.{In, Never}
 
 -- ---- what the program holds, and what a line makes of it
 
@@ -47,6 +51,22 @@ step h text = record { next = h; text = text }
 abbrev pub ff : Held → Step
 ff h = step h ffLine
 
+-- ---- the kinds that refine
+
+-- each in its manner. 01: "`04` refines the triangles listed"; W1: "The line program gets `09`, laid out and answered like `04`."
+unfoldable pub refinesIn : ℕ → Refines
+refinesIn kind =
+    cases (eqb kind 4) (In Newest)
+    (cases (eqb kind 9) (In AllThree)
+    Never)
+
+abbrev pub ifRefines : {A : Type 0} → Refines → (Manner → A) → A → A
+ifRefines (In k) f a = f k
+ifRefines Never f a = a
+
+abbrev pub isRefining : ℕ → Bool
+isRefining kind = ifRefines (refinesIn kind) (λ _. true) false
+
 -- ---- which lines are taken
 
 -- digits alone, a kind byte at least and "at most 254 digits"
@@ -61,13 +81,13 @@ unfoldable pub listsBelow : ℕ → List ℕ → Bool
 listsBelow end fields = eqb (length fields % 4) 0 && allBelow end (listed fields)
 
 -- The other reasons for `ff`: fields of another length, "a number listed in `04` not below t or in `05` not below n, a row past 512 nodes
--- or 1,024 triangles, 01 to 03 after an accepted 03, or 04 to 06 before one". `03`, `06` and `07` have no fields.
+-- or 1,024 triangles, 01 to 03 after an accepted 03, or 04 to 06 before one". `03`, `06` and `07` have no fields; `09` is "laid out .. like `04`".
 unfoldable pub admits : Session → ℕ → List ℕ → Bool
 admits s kind fields =
     cases (eqb kind 1) (not (s .accepted) && eqb (length fields) 16 && ltb (s .n) 512)
     (cases (eqb kind 2) (not (s .accepted) && eqb (length fields) 12 && ltb (s .t) 1024)
     (cases (eqb kind 3) (not (s .accepted) && eqb (length fields) 0)
-    (cases (eqb kind 4) (s .accepted && listsBelow (s .t) fields)
+    (cases (isRefining kind) (s .accepted && listsBelow (s .t) fields)
     (cases (eqb kind 5) (s .accepted && listsBelow (s .n) fields)
     (cases (eqb kind 6) (s .accepted && eqb (length fields) 0)
     (eqb kind 7 && eqb (length fields) 0))))))
@@ -96,7 +116,7 @@ addRow h fields =
     held (h .nodes) (setRow (h .rows) (h .session .t) (rowIn fields)) (h .scratch)
     (session (h .session .n) (h .session .t + 1) (h .session .n0) (h .session .accepted))
 
--- ---- 03 to 06
+-- ---- the calls: 03 to 06, and 09
 
 -- "A refused 03 drops all rows and shows zero counts."
 abbrev pub orDropped : Outcome → Outcome
@@ -108,11 +128,11 @@ orDropped o =
 unfoldable pub marksOf : ℕ → List ℕ → List ℕ
 marksOf k l = items (λ i. cases (any (eqb i) l) 1 0) 0 k
 
--- "`03` ends the base and checks it; `04` refines the triangles listed; `05` coarsens the nodes listed; `06` restores"
+-- "`03` ends the base and checks it; `04` refines the triangles listed; `05` coarsens the nodes listed; `06` restores"; `09` refines like `04`
 unfoldable pub called : Held → ℕ → List ℕ → Outcome
 called h kind fields =
     cases (eqb kind 3) (orDropped (checkOut (givenBy h)))
-    (cases (eqb kind 4) (refineOut newest (givenBy h) (h .session .n0) (marksOf (h .session .t) (listed fields)))
+    (ifRefines (refinesIn kind) (λ k. refineOut (wayOf k) (givenBy h) (h .session .n0) (marksOf (h .session .t) (listed fields)))
     (cases (eqb kind 5) (coarsenOut (givenBy h) (h .session .n0) (marksOf (h .session .n) (listed fields)))
     (restoreOut (givenBy h) (h .session .n0))))
 

@@ -1,5 +1,5 @@
--- Sentences of document 01 about a line, as theorems. Assumes nothing.
-use mathlib.Core.Path.{_≡_, ap}
+-- Sentences of documents 01 and 02 about a line, as theorems. Assumes nothing.
+use mathlib.Core.Path.{_≡_, refl, ap}
 use mathlib.Core.Bool.{Bool, true, false}
 use mathlib.Core.List.{List, []}
 use Prim.Native.Nat.{ℕ, _+_, _*_, _≤_, _<_}
@@ -8,10 +8,14 @@ use lib.Dec.{eqb}
 use lib.ListN.{length}
 use Rattle.lists.specs.Lists.{any, once}
 use Rattle.lists.specs.AnyLaw.{any-once}
+use Rattle.meaning.specs.Split.{newest, allThree}
 use Rattle.meaning.specs.Tables.{placeAt, rowAt}
+use Rattle.meaning.specs.Calls.{refineOut}
 use Rattle.tables.specs.PutLaw.{place-set-same, row-set-same}
+use Rattle.text.specs.Digits.{listed}
 use Rattle.text.specs.Lines.{placeIn, rowIn}
-use Rattle.protocol.specs.Frames.{Held, step, wellFormed, admits, takes, kindOf, fieldsOf, addNode, addRow, marksOf, frame, lineStep}
+use Rattle.protocol.specs.declared.Session.{Session}
+use Rattle.protocol.specs.Frames.{Held, step, givenBy, refinesIn, wellFormed, admits, takes, kindOf, fieldsOf, addNode, addRow, marksOf, called, answering, frame, lineStep}
 
 -- "Values in `01` and `02` are judged only by `03`." With room and no accepted base, a 01 of 16 digits is taken whatever they say: it
 -- answers nothing and stores them; and so is a 02 of 12. (What 03 then says: the rows of `talks` on values, in Worked.)
@@ -39,3 +43,18 @@ unfolding marksOf
 marks-once k l =
     let e : (i : ℕ) → any (eqb i) (once eqb l) ≡ any (eqb i) l = λ i. any-once eqb (eqb i) (λ x y q. ap (eqb i) (eqb-true x y q)) l in
     simp e
+
+-- W1: "The line program gets `09`, laid out .. like `04`": with the same fields both are taken, or neither is
+pub nine-laid-out : (s : Session) (fields : List ℕ) → admits s 9 fields ≡ admits s 4 fields
+unfolding admits refinesIn
+nine-laid-out s fields = refl
+
+-- ".. and answered like `04`": kind, number, counts and passes, of the refinement of the triangles listed, each by its own way
+module _ (h : Held) (fields : List ℕ) where
+  pub four-answered : frame h 4 fields ≡ answering h 4 (refineOut newest (givenBy h) (h .session .n0) (marksOf (h .session .t) (listed fields)))
+  unfolding frame called refinesIn
+  four-answered = refl
+
+  pub nine-answered : frame h 9 fields ≡ answering h 9 (refineOut allThree (givenBy h) (h .session .n0) (marksOf (h .session .t) (listed fields)))
+  unfolding frame called refinesIn
+  nine-answered = refl

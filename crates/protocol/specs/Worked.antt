@@ -9,7 +9,7 @@ use lib.ListN.{replicate}
 use Rattle.lists.specs.Search.{lowest, lowestFrom, items, itemsFrom}
 use Rattle.meaning.specs.Mesh.{twiceArea}
 use Rattle.meaning.specs.Lawful.{refusal, compatible, faultOf, firstOutside, firstMisnamed, firstRepeat, firstFlat, firstUnused, firstClash}
-use Rattle.meaning.specs.Split.{newest, closure, splitEdges, splitAt, split, refined}
+use Rattle.meaning.specs.Split.{closure, splitEdges, splitAt, split, refined}
 use Rattle.meaning.specs.Good.{pairs, span, G1-4, good}
 use Rattle.meaning.specs.Coarsen.{taken, without, coarsened, goodNodes, pass, restored}
 use Rattle.meaning.specs.Tables.{placeAt, rowAt, meshOf}
@@ -17,7 +17,7 @@ use Rattle.meaning.specs.Calls.{checkNo, refineNo, coarsenNo, checks, refines, 
 use Rattle.tables.specs.Put.{setPlace, setRow}
 use Rattle.text.specs.Digits.{bytes, isDigit, worth, number, listed, signed, unsigned, hexDigit, hex}
 use Rattle.text.specs.Lines.{placeIn, rowIn, answerLine, nodeLine, rowLine, allLines}
-use Rattle.protocol.specs.Frames.{wellFormed, listsBelow, admits, takes, addNode, addRow, marksOf, called, sessionAfter, frame, lineStep, Held, held, session, Step, step}
+use Rattle.protocol.specs.Frames.{refinesIn, wellFormed, listsBelow, admits, takes, addNode, addRow, marksOf, called, sessionAfter, frame, lineStep, Held, held, session, Step, step}
 use Rattle.protocol.specs.Program.{program, start}
 
 -- ---- whole texts
@@ -65,10 +65,10 @@ talks =
     talk "0300\n030\n" "ff\nff\n" ∷
     -- 03 accepts the empty mesh, once; 01 and 02 after it
     talk "03\n03\n010000000000000000\n02000000010002\n07\n" "0300000000000000\nff\nff\nff\n" ∷
-    -- 04 to 06 before an accepted 03
-    talk "04\n05\n06\n040000\n" "ff\nff\nff\nff\n" ∷
-    -- a refused 03 (x = 1,048,577 is 3; R is 10) drops all rows; another base may follow; 04 is still too early
-    talk "010010000100000000\n03\n07\n04\n03\n" "0303000000000000\nff\n0300000000000000\n" ∷
+    -- 04 to 06 and 09 before an accepted 03
+    talk "04\n05\n06\n09\n040000\n090000\n" "ff\nff\nff\nff\nff\nff\n" ∷
+    -- a refused 03 (x = 1,048,577 is 3; R is 10) drops all rows; another base may follow; 04 and 09 are still too early
+    talk "010010000100000000\n03\n07\n04\n09\n03\n" "0303000000000000\nff\nff\n0300000000000000\n" ∷
     talk
     "010000000000000000\n010000001000000000\n010000000000000010\n010000000400000004\n02000000010003\n02000100020003\n02000200000003\n03\n07\n"
     "030a000000000000\n" ∷
@@ -79,6 +79,17 @@ talks =
     on "0400000000\n" "0400000500040000\n" ∷
     on "0400010000\n07\n" "0400000500040000\n010000000000000000\n010000000800000000\n010000000800000008\n010000000000000008\n010000000400000004\n02000400010002\n02000400030000\n02000400000001\n02000400020003\n" ∷
     on "040002\n0400000002\n04000\n0400000\n04ffff\n" "ff\nff\nff\nff\nff\n" ∷
+    -- 09, W1: row 0 cut in four, with the row across its refinement edge; 06 takes 2 passes back to S
+    on "090000\n07\n06\n07\n" "0900000700060000\n010000000000000000\n010000000800000000\n010000000800000008\n010000000000000008\n010000000400000004\n010000000800000004\n010000000400000000\n02000500040001\n02000400030000\n02000600040000\n02000500020004\n02000600010004\n02000400020003\n0600000400020002\n010000000000000000\n010000000800000000\n010000000800000008\n010000000000000008\n02000100020000\n02000300000002\n" ∷
+    -- none listed, one twice, all; t itself, a number and a half
+    on "09\n07\n" "0900000400020000\n010000000000000000\n010000000800000000\n010000000800000008\n010000000000000008\n02000100020000\n02000300000002\n" ∷
+    on "0900000000\n" "0900000700060000\n" ∷
+    on "0900010000\n07\n" "0900000900080000\n010000000000000000\n010000000800000000\n010000000800000008\n010000000000000008\n010000000400000004\n010000000800000004\n010000000400000000\n010000000000000004\n010000000400000008\n02000500040001\n02000700040003\n02000600040000\n02000500020004\n02000600010004\n02000800040002\n02000700000004\n02000800030004\n" ∷
+    on "090002\n0900000002\n09000\n0900000\n09ffff\n" "ff\nff\nff\nff\nff\n" ∷
+    -- 04 and 09 mixed: the closure reaches rows across the other two edges
+    on "040000\n090000\n07\n040002\n06\n" "0400000500040000\n0900000a000b0000\n010000000000000000\n010000000800000000\n010000000800000008\n010000000000000008\n010000000400000004\n010000000800000004\n010000000600000002\n010000000600000006\n010000000400000000\n010000000400000008\n02000600050004\n02000400030000\n02000800040000\n02000700090004\n02000700050002\n02000600010005\n02000700040005\n02000600080001\n02000600040008\n02000900030004\n02000700020009\n0400000c000e0000\n0600000400020003\n" ∷
+    -- an odd sum on a side is 8 for 09 and nothing to 04
+    talk "010000000100000001\n010000000000000000\n010000000200000000\n02000000010002\n03\n090000\n040000\n06\n" "0300000300010000\n0908000300010000\n0400000400020000\n0600000300010001\n" ∷
     -- 05: base nodes do not go; node 4 does, listed twice; n itself
     on "050000\n040000\n050000000100020003\n05\n05000400040000\n050003\n050004\n" "0500000400020000\n0400000500040000\n0500000500040000\n0500000500040000\n0500000400020000\n0500000400020000\nff\n" ∷
     on "050004\n05ffff\n" "ff\nff\n" ∷
@@ -95,7 +106,7 @@ talks =
     []
 
 talks-heard : map (λ t. program (t .says)) talks ≡ map (λ t. t .hears) talks
-unfolding talks said talk square on lowest lowestFrom items itemsFrom twiceArea refusal compatible faultOf firstOutside firstMisnamed firstRepeat firstFlat firstUnused firstClash closure splitEdges splitAt split refined pairs span G1-4 good taken without coarsened goodNodes pass restored placeAt rowAt meshOf checkNo refineNo coarsenNo checks refines coarsens restores sizesFit checkOut refineOut coarsenOut restoreOut setPlace setRow isDigit worth number listed signed unsigned hexDigit hex placeIn rowIn answerLine nodeLine rowLine allLines wellFormed listsBelow admits takes addNode addRow marksOf called sessionAfter frame lineStep program
+unfolding talks said talk square on lowest lowestFrom items itemsFrom twiceArea refusal compatible faultOf firstOutside firstMisnamed firstRepeat firstFlat firstUnused firstClash closure splitEdges splitAt split refined pairs span G1-4 good taken without coarsened goodNodes pass restored placeAt rowAt meshOf checkNo refineNo coarsenNo checks refines coarsens restores sizesFit checkOut refineOut coarsenOut restoreOut setPlace setRow isDigit worth number listed signed unsigned hexDigit hex placeIn rowIn answerLine nodeLine rowLine allLines refinesIn wellFormed listsBelow admits takes addNode addRow marksOf called sessionAfter frame lineStep program
 talks-heard = refl
 
 -- ---- single lines, on tables of any size
@@ -135,6 +146,7 @@ rows =
     } ∷
     -- growth past the rooms is 9
     only tight "040000" "0409000400020000\n" ∷
+    only tight "090000" "0909000400020000\n" ∷
     -- a refused 03 leaves zeros, an accepted one the rows as they are
     record {
       got = lineStep (held (pos 5 ∷ negsuc 5 ∷ pos 1 ∷ pos 1 ∷ []) (9 ∷ 9 ∷ 9 ∷ 9 ∷ 9 ∷ 9 ∷ []) (replicate 16 3) (session 1 1 0 false)) (bytes "03");
@@ -147,5 +159,5 @@ rows =
     []
 
 lines-stepped : map (λ r. r .got) rows ≡ map (λ r. r .expected) rows
-unfolding rows only full tight lowest lowestFrom items itemsFrom twiceArea refusal compatible faultOf firstOutside firstMisnamed firstRepeat firstFlat firstUnused firstClash closure splitEdges splitAt split refined pairs span G1-4 good taken without coarsened goodNodes pass restored placeAt rowAt meshOf checkNo refineNo coarsenNo checks refines coarsens restores sizesFit checkOut refineOut coarsenOut restoreOut setPlace setRow isDigit worth number listed signed unsigned hexDigit hex placeIn rowIn answerLine nodeLine rowLine allLines wellFormed listsBelow admits takes addNode addRow marksOf called sessionAfter frame lineStep
+unfolding rows only full tight lowest lowestFrom items itemsFrom twiceArea refusal compatible faultOf firstOutside firstMisnamed firstRepeat firstFlat firstUnused firstClash closure splitEdges splitAt split refined pairs span G1-4 good taken without coarsened goodNodes pass restored placeAt rowAt meshOf checkNo refineNo coarsenNo checks refines coarsens restores sizesFit checkOut refineOut coarsenOut restoreOut setPlace setRow isDigit worth number listed signed unsigned hexDigit hex placeIn rowIn answerLine nodeLine rowLine allLines refinesIn wellFormed listsBelow admits takes addNode addRow marksOf called sessionAfter frame lineStep
 lines-stepped = refl

@@ -1,9 +1,17 @@
 // The line program of document 01: what it knows between lines. What each line does is in specs/.
 
+use meaning::Manner;
+
 // What the program knows beside its tables: how many nodes and rows they hold, whether a base is accepted, and its node count.
 pub struct Session {
     pub n: usize,
     pub t: usize,
     pub n0: usize,
     pub accepted: bool,
+}
+
+// Whether a frame of a kind refines, and in which manner.
+pub enum Refines {
+    In(Manner),
+    Never,
 }

@@ -4,7 +4,7 @@ use mathlib.Core.Path.{_≡_, sym, subst, ap, _∙_}
 use Prim.Native.Nat.{ℕ}
 use lib.IntN.{ℤ}
 use Rattle.meaning.specs.declared.Answer.{Answer}
-use Rattle.meaning.specs.Split.{newest}
+use Rattle.meaning.specs.Split.{Way}
 use Rattle.meaning.specs.Tables.{Given, Outcome, outcome, answer}
 use Rattle.meaning.specs.Calls.{checkOut, refineOut, coarsenOut}
 use Rattle.laws.specs.CallLaw.{AsGiven, check-leaves, refine-no-passes, coarsen-no-passes}
@@ -19,9 +19,10 @@ module _ (a : Answer) (nodes : List ℤ) (rows scratch : List ℕ) where
   without-passes : (o : Outcome) → o .answer .passes ≡ 0 → outcome a nodes rows scratch ≡ o → outcome (answer (a .number) (a .n) (a .t) 0) nodes rows scratch ≡ o
   without-passes o z e = (λ i. outcome (answer (a .number) (a .n) (a .t) (sym (ap (λ (x : Outcome). x .answer .passes) e ∙ z) i)) nodes rows scratch) ∙ e
 
-  pub refine-answer : (marks : List ℕ) (g : Given) (n0 : ℕ) → outcome a nodes rows scratch ≡ refineOut newest g n0 marks →
-      outcome (answer (a .number) (a .n) (a .t) 0) nodes rows scratch ≡ refineOut newest g n0 marks
-  refine-answer marks g n0 e = without-passes _ (refine-no-passes newest g n0 marks) e
+  -- by whatever way
+  pub refine-answer : (w : Way) (marks : List ℕ) (g : Given) (n0 : ℕ) → outcome a nodes rows scratch ≡ refineOut w g n0 marks →
+      outcome (answer (a .number) (a .n) (a .t) 0) nodes rows scratch ≡ refineOut w g n0 marks
+  refine-answer w marks g n0 e = without-passes _ (refine-no-passes w g n0 marks) e
 
   pub coarsen-answer : (marks : List ℕ) (g : Given) (n0 : ℕ) → outcome a nodes rows scratch ≡ coarsenOut g n0 marks →
       outcome (answer (a .number) (a .n) (a .t) 0) nodes rows scratch ≡ coarsenOut g n0 marks

@@ -1,6 +1,6 @@
 // The calls for programs in other languages. A slice passes as a pointer and a length; counts pass by reference and are the new ones after.
 ghost use mathlib.Core.Path.{_≡_};
-ghost use Rattle.meaning.specs.Split.{newest};
+ghost use Rattle.meaning.specs.Split.{newest, allThree};
 ghost use Rattle.meaning.specs.Tables.{given, outcome, answer};
 ghost use Rattle.meaning.specs.Calls.{checkOut, refineOut, coarsenOut, restoreOut};
 
@@ -33,6 +33,25 @@ pub extern "C" fn spoutbeetle_refine(
     ensures { λ r. ⌜ outcome (answer r (now (n .exit)) (now (t .exit)) 0) (now (nodes .exit)) (now (rows .exit)) (now (scratch .exit)) ≡ refineOut newest (given (now (nodes .entry)) (now (rows .entry)) (now (scratch .entry)) (now (n .entry)) (now (t .entry))) n0 (now (marks .entry)) ⌝ }
 {
     let a = mesh::refine(nodes, rows, scratch, marks, n0, *n, *t);
+    *n = a.n;
+    *t = a.t;
+    a.number
+}
+
+// Quarter's number: refine, with all three edges of a marked triangle split.
+#[no_mangle]
+pub extern "C" fn spoutbeetle_quarter(
+    nodes: &mut [i32],
+    rows: &mut [u32],
+    scratch: &mut [u32],
+    marks: &[u8],
+    n0: usize,
+    n: &mut usize,
+    t: &mut usize,
+) -> u32
+    ensures { λ r. ⌜ outcome (answer r (now (n .exit)) (now (t .exit)) 0) (now (nodes .exit)) (now (rows .exit)) (now (scratch .exit)) ≡ refineOut allThree (given (now (nodes .entry)) (now (rows .entry)) (now (scratch .entry)) (now (n .entry)) (now (t .entry))) n0 (now (marks .entry)) ⌝ }
+{
+    let a = mesh::quarter(nodes, rows, scratch, marks, n0, *n, *t);
     *n = a.n;
     *t = a.t;
     a.number

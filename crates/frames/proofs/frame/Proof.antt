@@ -1,4 +1,4 @@
-use Rattle.frames.specs.AdmitLaw.{node-fields, row-fields}
+use Rattle.admit.specs.AdmitLaw.{node-fields, row-fields}
 use Rattle.frames.specs.FrameLaw.{place-room, tri-room, frame-node, frame-row, frame-all, frame-called}
 use borrow.Author.Needs.{needs}
 use Rattle.frames.proofs.frame.Statement.{statement}

@@ -1,4 +1,4 @@
-use Rattle.frames.specs.AdmitLaw.{taken-two, taken-admits}
+use Rattle.admit.specs.AdmitLaw.{taken-two, taken-admits}
 use Rattle.frames.specs.FrameLaw.{line-ff, line-frame}
 use borrow.Author.Needs.{needs}
 use Rattle.frames.proofs.plain_line.Statement.{statement}

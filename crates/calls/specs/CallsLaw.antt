@@ -1,0 +1,69 @@
+-- The calls of frames 03 to 06 and 09, in the form in which the code makes them. Assumes nothing.
+use mathlib.Core.Path.{_≡_, _∙_}
+use mathlib.Core.List.{List}
+use Prim.Native.Nat.{ℕ, _/_, _≤_}
+use borrow.Author.Tests.{eq-eqb, ne-eqb}
+use lib.Dec.{eqb}
+use lib.IntN.{ℤ, pos}
+use lib.ListN.{length, take, replicate}
+use Rattle.lists.specs.Search.{items, itemsFrom, iter}
+use Rattle.meaning.specs.declared.Answer.{Answer}
+use Rattle.meaning.specs.declared.Manner.{Manner}
+use Rattle.meaning.specs.Split.{Way, wayOf}
+use Rattle.meaning.specs.Tables.{Given, given, Outcome, outcome, answer, placeAt, rowAt, flatNodes, flatRows, filled}
+use Rattle.meaning.specs.Calls.{checkOut, refineOut, coarsenOut, restoreOut}
+use Rattle.text.specs.Digits.{listed}
+use Rattle.protocol.specs.declared.Refines.{Refines}
+use Rattle.protocol.specs.declared.Refines.the-variants.{In, Never}
+use Rattle.protocol.specs.declared.Session.{Session}
+use Rattle.protocol.specs.Frames.{held, session, refinesIn, orDropped, marksOf, called, sessionAfter}
+use Rattle.calls.specs.MarksLaw.{markOne, marked-are}
+
+-- ---- 03: the check's outcome, accepted or dropped
+
+module _ (a : Answer) (ns : List ℤ) (rs sc : List ℕ) (o : Outcome) (c : outcome a ns rs sc ≡ o) where
+  pub check-kept : a .number ≡ 0 → outcome a ns rs sc ≡ orDropped o
+  check-kept z = rw (← c, eq-eqb (a .number) 0 z)
+
+  pub check-dropped : (ns₁ : List ℤ) (rs₁ : List ℕ) → (a .number ≡ 0 → ⊥) → ns₁ ≡ filled (pos 0) (length ns) (flatNodes (items (placeAt ns) 0 0)) →
+      rs₁ ≡ filled 0 (length rs) (flatRows (items (rowAt rs) 0 0)) → outcome (answer (a .number) 0 0 0) ns₁ rs₁ sc ≡ orDropped o
+  unfolding items itemsFrom
+  check-dropped ns₁ rs₁ z f g = rw (← c, ne-eqb (a .number) 0 z, f, g)
+
+-- ---- 03 to 06 and 09
+
+module _ (ns : List ℤ) (rs sc : List ℕ) (s : Session) (kind : ℕ) (f : List ℕ) (o : Outcome) where
+  pub called-check : kind ≡ 3 → o ≡ orDropped (checkOut (given ns rs sc (s .n) (s .t))) → o ≡ called (held ns rs sc s) kind f
+  unfolding called
+  called-check k e = e ∙ rw k
+
+  pub called-coarsen : kind ≡ 5 → o ≡ coarsenOut (given ns rs sc (s .n) (s .t)) (s .n0) (marksOf (s .n) (listed f)) → o ≡ called (held ns rs sc s) kind f
+  unfolding called refinesIn
+  called-coarsen k e = e ∙ rw k
+
+  -- r is what the code found of the kind
+  module _ (r : Refines) (g : r ≡ refinesIn kind) (x : kind ≡ 3 → ⊥) where
+    pub called-refine : (k : Manner) → r ≡ In k → o ≡ refineOut (wayOf k) (given ns rs sc (s .n) (s .t)) (s .n0) (marksOf (s .t) (listed f)) → o ≡ called (held ns rs sc s) kind f
+    unfolding called
+    called-refine k h e = e ∙ rw (ne-eqb kind 3 x, ← g, h)
+
+    pub called-restore : r ≡ Never → (kind ≡ 5 → ⊥) → o ≡ restoreOut (given ns rs sc (s .n) (s .t)) (s .n0) → o ≡ called (held ns rs sc s) kind f
+    unfolding called
+    called-restore h c e = e ∙ rw (ne-eqb kind 3 x, ← g, h, ne-eqb kind 5 c)
+
+-- what is listed, as the code marks it
+module _ (f : List ℕ) (k : ℕ) (m : List ℕ) (g : Given) (n0 : ℕ) (o : Outcome) where
+  pub refine-marked : (w : Way) → k ≤ 1024 → m ≡ iter (markOne f) 0 (length f / 4) (replicate 1024 0) → o ≡ refineOut w g n0 (take k m) → o ≡ refineOut w g n0 (marksOf k (listed f))
+  refine-marked w h e c = rw (← marked-are f k 1024 m h e) c
+
+  pub coarsen-marked : k ≤ 512 → m ≡ iter (markOne f) 0 (length f / 4) (replicate 512 0) → o ≡ coarsenOut g n0 (take k m) → o ≡ coarsenOut g n0 (marksOf k (listed f))
+  coarsen-marked h e c = rw (← marked-are f k 512 m h e) c
+
+module _ (s : Session) (kind : ℕ) (a : Answer) where
+  pub after-check : kind ≡ 3 → session (a .n) (a .t) (a .n) (eqb (a .number) 0) ≡ sessionAfter s kind a
+  unfolding sessionAfter
+  after-check k = rw k
+
+  pub after-work : (kind ≡ 3 → ⊥) → session (a .n) (a .t) (s .n0) (s .accepted) ≡ sessionAfter s kind a
+  unfolding sessionAfter
+  after-work k = rw (ne-eqb kind 3 k)

@@ -1,0 +1,152 @@
+// Frames 03 to 06 and 09: the calls. Numbers listed have four digits each.
+ghost use mathlib.Core.Path.{_≡_};
+ghost use mathlib.Core.List.{List};
+ghost use Prim.Native.Nat.{ℕ, _+_, _*_, _/_, _≤_};
+ghost use lib.ListN.{length, set};
+ghost use Rattle.lists.specs.Search.{iter};
+ghost use Rattle.meaning.specs.Split.{wayOf};
+ghost use Rattle.meaning.specs.Tables.{given, outcome};
+ghost use Rattle.meaning.specs.Calls.{checkOut, refineOut, coarsenOut};
+ghost use Rattle.text.specs.Digits.{listed};
+ghost use Rattle.protocol.specs.Frames as f;
+ghost use Rattle.calls.specs.MarksLaw.{markOne};
+use meaning::Answer;
+use meaning::Manner;
+use protocol::Refines;
+use protocol::Session;
+use text::read;
+
+fn mark(marks: &mut [u8], fields: &[u8], i: usize)
+    requires { ⌜ 4 * i + 4 ≤ length (now fields) ⌝ }
+    ensures { λ _. ⌜ now (marks .exit) ≡ markOne (now (fields .entry)) i (now (marks .entry)) ⌝ }
+{
+    let k = read::four(fields, 4 * i) as usize;
+    if k < marks.len() {
+        marks[k] = 1;
+    }
+}
+
+// Marks what is listed.
+fn mark_listed(marks: &mut [u8], fields: &[u8])
+    ensures { λ _. ⌜ now (marks .exit) ≡ iter (markOne (now (fields .entry))) 0 (length (now (fields .entry)) / 4) (now (marks .entry)) ⌝ }
+{
+    let count = fields.len() / 4;
+    let mut i = 0;
+    while i < count {
+        mark(marks, fields, i);
+        i += 1;
+    }
+}
+
+// 03: the end of the base, and its check. A refusal drops all rows.
+fn check_base(
+    nodes: &mut [i32],
+    rows: &mut [u32],
+    scratch: &mut [u32],
+    n: usize,
+    t: usize,
+) -> Answer
+    ensures { λ a. ⌜ outcome a (now (nodes .exit)) (now (rows .exit)) (now (scratch .exit)) ≡ f.orDropped (checkOut (given (now (nodes .entry)) (now (rows .entry)) (now (scratch .entry)) n t)) ⌝ }
+{
+    let a = mesh::check(nodes, rows, scratch, n, t);
+    if a.number == 0 {
+        return a;
+    }
+    tables::clear_places_from(nodes, 0);
+    tables::clear_rows_from(rows, 0);
+    Answer {
+        number: a.number,
+        n: 0,
+        t: 0,
+        passes: 0,
+    }
+}
+
+// 04 and 09: refine, in the frame's manner.
+fn refine_listed(
+    fields: &[u8],
+    nodes: &mut [i32],
+    rows: &mut [u32],
+    scratch: &mut [u32],
+    session: Session,
+    manner: Manner,
+) -> Answer
+    requires { ⌜ session .t ≤ 1024 ⌝ }
+    ensures { λ a. ⌜ outcome a (now (nodes .exit)) (now (rows .exit)) (now (scratch .exit)) ≡ refineOut (wayOf manner) (given (now (nodes .entry)) (now (rows .entry)) (now (scratch .entry)) (session .n) (session .t)) (session .n0) (f.marksOf (session .t) (listed (now (fields .entry)))) ⌝ }
+{
+    let mut marks = [0u8; 1024];
+    mark_listed(&mut marks, fields);
+    let t = session.t;
+    mesh::refine_by(
+        nodes,
+        rows,
+        scratch,
+        &marks[..t],
+        session.n0,
+        session.n,
+        t,
+        manner,
+    )
+}
+
+// 05: coarsen.
+fn coarsen_listed(
+    fields: &[u8],
+    nodes: &mut [i32],
+    rows: &mut [u32],
+    scratch: &mut [u32],
+    session: Session,
+) -> Answer
+    requires { ⌜ session .n ≤ 512 ⌝ }
+    ensures { λ a. ⌜ outcome a (now (nodes .exit)) (now (rows .exit)) (now (scratch .exit)) ≡ coarsenOut (given (now (nodes .entry)) (now (rows .entry)) (now (scratch .entry)) (session .n) (session .t)) (session .n0) (f.marksOf (session .n) (listed (now (fields .entry)))) ⌝ }
+{
+    let mut marks = [0u8; 512];
+    mark_listed(&mut marks, fields);
+    let n = session.n;
+    mesh::coarsen(nodes, rows, scratch, &marks[..n], session.n0, n, session.t)
+}
+
+// 03 to 06 and 09.
+pub fn call(
+    kind: u32,
+    fields: &[u8],
+    nodes: &mut [i32],
+    rows: &mut [u32],
+    scratch: &mut [u32],
+    session: Session,
+) -> Answer
+    requires { ⌜ session .n ≤ 512 ⌝ }
+    requires { ⌜ session .t ≤ 1024 ⌝ }
+    ensures { λ a. ⌜ outcome a (now (nodes .exit)) (now (rows .exit)) (now (scratch .exit)) ≡ f.called (f.held (now (nodes .entry)) (now (rows .entry)) (now (scratch .entry)) session) kind (now (fields .entry)) ⌝ }
+{
+    if kind == 3 {
+        return check_base(nodes, rows, scratch, session.n, session.t);
+    }
+    if let Refines::In(manner) = admit::refines_in(kind) {
+        return refine_listed(fields, nodes, rows, scratch, session, manner);
+    }
+    if kind == 5 {
+        return coarsen_listed(fields, nodes, rows, scratch, session);
+    }
+    job::restore(nodes, rows, scratch, session.n0, session.n, session.t)
+}
+
+// The counts are the answer's; a 03 that says 0 is accepted.
+pub fn session_after(session: Session, kind: u32, a: Answer) -> Session
+    ensures { λ r. ⌜ r ≡ f.sessionAfter session kind a ⌝ }
+{
+    if kind == 3 {
+        return Session {
+            n: a.n,
+            t: a.t,
+            n0: a.n,
+            accepted: a.number == 0,
+        };
+    }
+    Session {
+        n: a.n,
+        t: a.t,
+        n0: session.n0,
+        accepted: session.accepted,
+    }
+}

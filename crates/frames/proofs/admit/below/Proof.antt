@@ -1,8 +1,0 @@
-use Rattle.frames.specs.AdmitLaw.{below-tested}
-use borrow.Author.Needs.{needs}
-use Rattle.frames.proofs.admit.below.Statement.{statement}
-use Rattle.frames.proofs.admit.below.Tie as tie
-
-pub below-spec : {M : Type 1} → statement M
-below-spec = tie.close (tie.spec
-    (λ c. search needs) (λ c κs. search needs) (λ c. search needs) (λ c. search (needs, below-tested)))

@@ -1,8 +1,0 @@
-use Rattle.frames.specs.AdmitLaw.{formed-made}
-use borrow.Author.Needs.{needs}
-use Rattle.frames.proofs.admit.well_formed.Statement.{statement}
-use Rattle.frames.proofs.admit.well_formed.Tie as tie
-
-pub well-formed-spec : {M : Type 1} → statement M
-well-formed-spec = tie.close (tie.spec
-    (λ c κs. search needs) (λ c. search (needs, formed-made)))

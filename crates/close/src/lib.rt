@@ -108,14 +108,7 @@ fn draw_marked(
 }
 
 // The note of a row is 1 where the row is split.
-fn draw_all(
-    rows: &[u32],
-    scratch: &mut [u32],
-    nc: usize,
-    t: usize,
-    marks: &[u8],
-    manner: Manner,
-)
+fn draw_all(rows: &[u32], scratch: &mut [u32], nc: usize, t: usize, marks: &[u8], manner: Manner)
     requires { ⌜ 3 * t ≤ length (now rows) ⌝ }
     requires { ⌜ t ≤ length (now scratch) ⌝ }
     requires { ⌜ t ≤ length (now marks) ⌝ }
@@ -165,14 +158,7 @@ fn note_starts(scratch: &mut [u32], t: usize, marks: &[u8], manner: Manner)
 
 // The first t notes are zero at first. After it bit 0 of the note of a row says that the row is split; bits 1 and 2 that its sides p-q and
 // r-p start the split set.
-pub fn close(
-    rows: &[u32],
-    scratch: &mut [u32],
-    nc: usize,
-    t: usize,
-    marks: &[u8],
-    manner: Manner,
-)
+pub fn close(rows: &[u32], scratch: &mut [u32], nc: usize, t: usize, marks: &[u8], manner: Manner)
     requires { ⌜ 3 * t ≤ length (now rows) ⌝ }
     requires { ⌜ t ≤ length (now scratch) ⌝ }
     requires { ⌜ t ≤ length (now marks) ⌝ }

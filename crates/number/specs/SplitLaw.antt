@@ -158,9 +158,15 @@ module _ (k : Manner) (ns : List Place) (l : List ℕ) (t : ℕ) (law : Lawful (
           (j, h, x, y, o, q, split-as j h (starred k) (note-starred j h m) o ∙ one)
 
       from-base : (e : Edge) → (j : ℕ) × (j < t) × (member (base (rowAt l j)) ≡ true) × (base (rowAt l j) ≡ e) → Told e
-      from-base e (j, h, m, q) =
-          (j, h, rowAt l j .q, rowAt l j .r, side-m, sym q,
-          on-side (rowAt l j) (rows-named j h) side-m _ _ _ ∙ base-bit j h (ℕ-discrete (getD marks j 0) 1) ∙ ap bit m)
+      from-base e (j, h, m, q) = (
+        j,
+        h,
+        rowAt l j .q,
+        rowAt l j .r,
+        side-m,
+        sym q,
+        on-side (rowAt l j) (rows-named j h) side-m _ _ _ ∙ base-bit j h (ℕ-discrete (getD marks j 0) 1) ∙ ap bit m,
+      )
 
   -- ---- the notes that number leaves
 

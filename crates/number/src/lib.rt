@@ -59,7 +59,10 @@ fn met_on(
             let c = notes::note_at(scratch, j);
             met_by(either(own, notes::split_on(w, c, y, x)), j, i)
         }
-        Found::Nothing => Met { on: own, first: own },
+        Found::Nothing => Met {
+            on: own,
+            first: own,
+        },
     }
 }
 

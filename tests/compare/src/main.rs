@@ -1,6 +1,6 @@
 //! Drives the proved library and the rival with the same random calls and compares answers and every table entry.
 //! Usage: compare COUNT [SEED]. The first difference is made smaller by taking rows away, shown with its seed, and the run fails.
-//! The last line names each number that a call may answer and did not.
+//! A run in which a call never gave one of the numbers that it may answer fails too: it is to be longer.
 use compare::{proved, rival as other, Call};
 use rival::calls::Tables;
 use rival::random::{damage, mesh, Dice};
@@ -92,6 +92,9 @@ fn main() {
         println!("{kind} said {}", given.map(|(key, times)| format!("{} {times} times", key.1)).collect::<Vec<_>>().join(", "));
         missed.extend(numbers.iter().filter(|&&k| !seen.contains_key(&(kind, k))).map(|k| format!("{kind} {k}")));
     }
-    let reached = if missed.is_empty() { "every number was given".to_string() } else { format!("never given: {}", missed.join(", ")) };
-    println!("compare: {count} calls from seed {first} agree; {reached}");
+    if !missed.is_empty() {
+        println!("compare: {count} calls from seed {first} agree, but were never answered: {}", missed.join(", "));
+        std::process::exit(1);
+    }
+    println!("compare: {count} calls from seed {first} agree; every number was given");
 }

@@ -29,10 +29,17 @@ use Rattle.meaning.specs.Tables.{rowAt}
 use Rattle.laws.specs.Edges.{memEdge-in, memEdge-at}
 use Rattle.laws.specs.Closure.{closure-least, closure-closed, started-marked, started-only}
 use Rattle.tables.specs.Arrow.{arrowAt}
-use Rattle.close.specs.Drawn.{acrossRow, draws, drawAcross, drawSides, drawFrom, whenMarked, drawMarked, startNote, noteStart, closed}
+use Rattle.close.specs.Drawn.{acrossRow, draws, drawAcross, drawSides, drawFrom, whenMarked, drawMarked, startNote, noteStart, closedNotes}
 use Rattle.close.specs.DrawLaw.{drawn-all-kept}
 use Rattle.close.specs.ChainLaw.{Up, Raised, raised-none, raised-as, raised-more, raised-across}
 use Rattle.close.specs.EdgeLaw.{OnceAt, Side, side-m, side-u, side-v, side-edge, edge-side, beside, adjacent, found-has, across-has}
+
+-- the starting edges of the marked rows of a table, and whether an edge is to be split
+abbrev pub startEdges : Manner → List ℕ → ℕ → List ℕ → List Edge
+startEdges k l t marks = started (wayOf k) marks (items (rowAt l) 0 t)
+
+abbrev pub isSplit : Manner → List ℕ → ℕ → List ℕ → Edge → Bool
+isSplit k l t marks e = memEdge e (closure (items (rowAt l) 0 t) (startEdges k l t marks))
 
 -- ---- any starting rows and edges
 
@@ -227,9 +234,6 @@ module _ (l : List ℕ) (t : ℕ) (once : OnceAt l t) where
       abbrev F : List ℕ
       F = iter (drawMarked k l t marks) 0 t s
 
-      abbrev starting : List Edge
-      starting = started (wayOf k) marks (items (rowAt l) 0 t)
-
       raised : Raised l t (Touched t) F
       raised = iter-reach (drawMarked k l t marks) (λ i r. Raised l t (Touched i) r) t s marked-step (raised-none l t (Touched 0) s long clear (λ x w. let b = w .1 in omega arith))
 
@@ -237,38 +241,38 @@ module _ (l : List ℕ) (t : ℕ) (once : OnceAt l t) where
       item-row x h = getD-items (rowAt l) t x (tri 0 0 0) h
 
       -- the starting edges of a marked row are in the closure
-      pub start-in : (a : ℕ) (e : Edge) → a < t → getD marks a 0 ≡ 1 → List·Memᴰ e (startsOf k (rowAt l a)) → memEdge e (closure (items (rowAt l) 0 t) starting) ≡ true
+      pub start-in : (a : ℕ) (e : Edge) → a < t → getD marks a 0 ≡ 1 → List·Memᴰ e (startsOf k (rowAt l a)) → isSplit k l t marks e ≡ true
       start-in a e h m i =
           let b = started-marked (wayOf k) marks (items (rowAt l) 0 t) a (rw (length-items (rowAt l) t) h) m in
-          All-at (closure-closed (items (rowAt l) 0 t) starting .holds) (All-at b (rw (item-row a h) i))
+          All-at (closure-closed (items (rowAt l) 0 t) (startEdges k l t marks) .holds) (All-at b (rw (item-row a h) i))
 
-      touched-in : (x : ℕ) → x < t → Touched t x → memEdge (base (rowAt l x)) (closure (items (rowAt l) 0 t) starting) ≡ true
+      touched-in : (x : ℕ) → x < t → Touched t x → isSplit k l t marks (base (rowAt l x)) ≡ true
       touched-in x h (a, b, m, (e, i, j)) =
-          All-at (All-at (closure-closed (items (rowAt l) 0 t) starting .pull) (items-in (rowAt l) t x h)) j (start-in a e b m i)
+          All-at (All-at (closure-closed (items (rowAt l) 0 t) (startEdges k l t marks) .pull) (items-in (rowAt l) t x h)) j (start-in a e b m i)
 
       -- e is a starting edge of a marked row
       abbrev pub Starts : Edge → Type 0
       Starts e = (a : ℕ) × (a < t) × (getD marks a 0 ≡ 1) × List·Memᴰ e (startsOf k (rowAt l a))
 
-      start-of : (e : Edge) → memEdge e starting ≡ true → Starts e
+      start-of : (e : Edge) → memEdge e (startEdges k l t marks) ≡ true → Starts e
       start-of e q =
           memEdge-at {S = Starts} e
           (All-imp (λ d (a, b, m, i). let h : a < t = rw (length-items (rowAt l) t) at b in (a, h, m, rw (item-row a h) at i)) (started-only (wayOf k) marks (items (rowAt l) 0 t))) q
 
-      touched-up : (i : ℕ) (e : Edge) → i < t → List·Memᴰ e (edges (rowAt l i)) → memEdge e starting ≡ true → Up F i
+      touched-up : (i : ℕ) (e : Edge) → i < t → List·Memᴰ e (edges (rowAt l i)) → memEdge e (startEdges k l t marks) ≡ true → Up F i
       touched-up i e h j q = let (a, b, m, w) = start-of e q in raised .begun i h (a, b, m, (e, w, j))
 
       -- the note of a row is 1 exactly where its refinement edge is to be split
-      pub drawn-note : (i : ℕ) → i < t → getD F i 0 ≡ bit (memEdge (base (rowAt l i)) (closure (items (rowAt l) 0 t) starting))
-      drawn-note = note-in-closure l t once (Touched t) F raised starting touched-in touched-up
+      pub drawn-note : (i : ℕ) → i < t → getD F i 0 ≡ bit (isSplit k l t marks (base (rowAt l i)))
+      drawn-note = note-in-closure l t once (Touched t) F raised (startEdges k l t marks) touched-in touched-up
 
       -- an edge to be split is a starting edge of a marked row, or the refinement edge of a row that is split
-      pub closed-held : (e : Edge) → memEdge e (closure (items (rowAt l) 0 t) starting) ≡ true →
-          Starts e ⊎ ((j : ℕ) × (j < t) × (memEdge (base (rowAt l j)) (closure (items (rowAt l) 0 t) starting) ≡ true) × (base (rowAt l j) ≡ e))
-      closed-held e m = ⊎-map (start-of e) (λ (j, h, u, q). (j, h, up-in l t once (Touched t) F raised starting touched-in touched-up j h u, q)) (in-held l t once (Touched t) F raised starting touched-in touched-up e m)
+      pub closed-held : (e : Edge) → isSplit k l t marks e ≡ true →
+          Starts e ⊎ ((j : ℕ) × (j < t) × (isSplit k l t marks (base (rowAt l j)) ≡ true) × (base (rowAt l j) ≡ e))
+      closed-held e m = ⊎-map (start-of e) (λ (j, h, u, q). (j, h, up-in l t once (Touched t) F raised (startEdges k l t marks) touched-in touched-up j h u, q)) (in-held l t once (Touched t) F raised (startEdges k l t marks) touched-in touched-up e m)
 
       -- ---- the notes in the end
 
-      pub closed-note : (i : ℕ) → i < t → getD (closed k l t marks s) i 0 ≡ cases (eqb (getD marks i 0) 1) (startNote k) (getD F i 0)
-      unfolding closed
+      pub closed-note : (i : ℕ) → i < t → getD (closedNotes k l t marks s) i 0 ≡ cases (eqb (getD marks i 0) 1) (startNote k) (getD F i 0)
+      unfolding closedNotes
       closed-note i h = noted-start k marks t F (let a = drawn-all-kept l t t (omega arith) k marks s .0 in omega arith) i h

@@ -21,7 +21,7 @@ use Rattle.meaning.specs.Tables.{rowAt}
 use Rattle.tables.specs.Arrow.{arrowAt}
 use Rattle.tables.specs.Sized.{indexAt}
 use Rattle.tables.specs.Ready.{Ready, ready-kept}
-use Rattle.close.specs.Drawn.{onFound, acrossRow, zeros, drawn, draws, drawAcross, drawSides, drawFrom, whenMarked, drawMarked, startNote, noteStart, closed}
+use Rattle.close.specs.Drawn.{onFound, acrossRow, zeros, drawn, draws, drawAcross, drawSides, drawFrom, whenMarked, drawMarked, startNote, noteStart, closedNotes}
 
 -- a note that is put
 pub zeros-set : (s : List ℕ) (j : ℕ) → j < length s → getD s j 0 ≡ 0 → zeros s ≡ suc (zeros (set s j 1))
@@ -75,13 +75,13 @@ pub start-yes : (k : Manner) (marks : List ℕ) (i v : ℕ) (s m : List ℕ) →
 start-yes k marks i v s m e f g = marked-yes marks i (set s i (startNote k)) s m e (rw (← f) g)
 
 module _ (l : List ℕ) (t x y : ℕ) (s m : List ℕ) (w : Found) (e : w ≡ lowest (arrowAt l y x) 0 t) where
-  pub across-found : (j : ℕ) → w ≡ At j → m ≡ draws l t j s → m ≡ drawAcross l t x y s
+  pub drawn-across : (j : ℕ) → w ≡ At j → m ≡ draws l t j s → m ≡ drawAcross l t x y s
   unfolding drawAcross
-  across-found j a f = rw (← e, a) f
+  drawn-across j a f = rw (← e, a) f
 
-  pub across-none : w ≡ Nothing → m ≡ s → m ≡ drawAcross l t x y s
+  pub none-across : w ≡ Nothing → m ≡ s → m ≡ drawAcross l t x y s
   unfolding drawAcross
-  across-none a f = rw (← e, a) f
+  none-across a f = rw (← e, a) f
 
   pub found-below : (j : ℕ) → w ≡ At j → j < t
   found-below j a = lowest-below (arrowAt l y x) t j (sym e ∙ a)
@@ -107,8 +107,8 @@ pub note-all : (k : Manner) → k ≡ AllThree → 7 ≡ startNote k
 unfolding startNote
 note-all k e = rw e
 
-pub closed-is : (k : Manner) (l : List ℕ) (t : ℕ) (marks s a b : List ℕ) → a ≡ iter (drawMarked k l t marks) 0 t s → b ≡ iter (noteStart k marks) 0 t a → b ≡ closed k l t marks s
-unfolding closed
+pub closed-is : (k : Manner) (l : List ℕ) (t : ℕ) (marks s a b : List ℕ) → a ≡ iter (drawMarked k l t marks) 0 t s → b ≡ iter (noteStart k marks) 0 t a → b ≡ closedNotes k l t marks s
+unfolding closedNotes
 closed-is k l t marks s a b e f = rw (← e) f
 
 -- ---- only the first t notes change
@@ -175,8 +175,8 @@ module _ (l : List ℕ) (t b : ℕ) (u : t ≤ b) where
   pub drawn-all-kept : (k : Manner) (marks s : List ℕ) → SameFrom b s (iter (drawMarked k l t marks) 0 t s)
   drawn-all-kept k marks s = loop-kept marks (drawFrom k l t) (λ i s. from-kept k i s) s
 
-  pub closed-kept : (k : Manner) (marks s : List ℕ) → SameFrom b s (closed k l t marks s)
-  unfolding closed
+  pub closed-kept : (k : Manner) (marks s : List ℕ) → SameFrom b s (closedNotes k l t marks s)
+  unfolding closedNotes
   closed-kept k marks s = same-more b s (iter (drawMarked k l t marks) 0 t s) _ (drawn-all-kept k marks s) (loop-kept marks (λ i s. set s i (startNote k)) (λ i s. put-kept i (startNote k) s) _)
 
 -- ---- so the index stays
@@ -197,5 +197,5 @@ module _ (l s m : List ℕ) (nc t : ℕ) (fits : 3 * t ≤ length l) (r : Ready 
   pub ready-marked : (k : Manner) (marks : List ℕ) (i : ℕ) → i < t → m ≡ drawMarked k l t marks i s → Ready m nc l t
   ready-marked k marks i h e = still-ready _ e (λ u. marked-kept l t (indexAt nc (length l)) u marks i s (drawFrom k l t i s) (from-kept l t (indexAt nc (length l)) u k i s h))
 
-  pub ready-closed : (k : Manner) (marks : List ℕ) → m ≡ closed k l t marks s → Ready m nc l t
+  pub ready-closed : (k : Manner) (marks : List ℕ) → m ≡ closedNotes k l t marks s → Ready m nc l t
   ready-closed k marks e = still-ready _ e (λ u. closed-kept l t (indexAt nc (length l)) u k marks s)

@@ -67,5 +67,5 @@ abbrev pub noteStart : Manner → List ℕ → ℕ → List ℕ → List ℕ
 noteStart k marks i s = whenMarked marks i (set s i (startNote k)) s
 
 -- all notes: bit 0 where a row is split; then bits 1 and 2 where its sides start
-unfoldable pub closed : Manner → List ℕ → ℕ → List ℕ → List ℕ → List ℕ
-closed k l t marks s = iter (noteStart k marks) 0 t (iter (drawMarked k l t marks) 0 t s)
+unfoldable pub closedNotes : Manner → List ℕ → ℕ → List ℕ → List ℕ → List ℕ
+closedNotes k l t marks s = iter (noteStart k marks) 0 t (iter (drawMarked k l t marks) 0 t s)

@@ -5,7 +5,7 @@ ghost use Prim.Native.Nat.{_*_, _≤_, _<_};
 ghost use lib.ListN.{length};
 ghost use Rattle.lists.specs.Search.{iter};
 ghost use Rattle.tables.specs.Ready.{Ready};
-ghost use Rattle.close.specs.Drawn.{acrossRow, draws, drawAcross, drawSides, drawFrom, drawMarked, startNote, noteStart, closed};
+ghost use Rattle.close.specs.Drawn.{acrossRow, draws, drawAcross, drawSides, drawFrom, drawMarked, startNote, noteStart, closedNotes};
 use lists::Found;
 use meaning::Manner;
 use meaning::Tri;
@@ -163,7 +163,7 @@ pub fn close(rows: &[u32], scratch: &mut [u32], nc: usize, t: usize, marks: &[u8
     requires { ⌜ t ≤ length (now scratch) ⌝ }
     requires { ⌜ t ≤ length (now marks) ⌝ }
     requires { ⌜ Ready (now scratch) nc (now rows) t ⌝ }
-    ensures { λ _. ⌜ now (scratch .exit) ≡ closed manner (now (rows .entry)) t (now (marks .entry)) (now (scratch .entry)) ⌝ }
+    ensures { λ _. ⌜ now (scratch .exit) ≡ closedNotes manner (now (rows .entry)) t (now (marks .entry)) (now (scratch .entry)) ⌝ }
 {
     draw_all(rows, scratch, nc, t, marks, manner);
     note_starts(scratch, t, marks, manner);

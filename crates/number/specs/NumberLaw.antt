@@ -131,13 +131,17 @@ on-side w d side-m a b c = rw (eq-eqb (w .q) (w .q) refl, eq-eqb (w .r) (w .r) r
 on-side w d side-u a b c = rw (ne-eqb (w .q) (w .p) (λ e. d .p≢q (sym e)), eq-eqb (w .p) (w .p) refl, eq-eqb (w .q) (w .q) refl)
 on-side w d side-v a b c = rw (ne-eqb (w .q) (w .r) (d .q≢r), ne-eqb (w .p) (w .r) (λ e. d .r≢p (sym e)))
 
+-- 1 where the note of row j says that its arrow x→y is split
+abbrev pub saidAt : List ℕ → List ℕ → ℕ → ℕ → ℕ → ℕ
+saidAt l s j x y = splitOn (rowAt l j) (noteAt s j) x y
+
 -- what notes tell at first of a set of edges: bit 0 says that a row's refinement edge is in it; an edge with its bit is in it; and every
 -- edge of it has its bit in one of its rows
 pub record Tells (l : List ℕ) (t : ℕ) (mem : Edge → Bool) (s : List ℕ) : Type 0 where
   pub base-told : (j : ℕ) → j < t → noteAt s j .m ≡ bit (mem (base (rowAt l j)))
-  pub sound : (j : ℕ) → j < t → {x y : ℕ} → Side (rowAt l j) x y → splitOn (rowAt l j) (noteAt s j) x y ≡ 1 → mem (edge x y) ≡ true
+  pub sound : (j : ℕ) → j < t → {x y : ℕ} → Side (rowAt l j) x y → saidAt l s j x y ≡ 1 → mem (edge x y) ≡ true
   pub told : (e : Edge) → mem e ≡ true →
-      (j : ℕ) × (j < t) × (x : ℕ) × (y : ℕ) × Side (rowAt l j) x y × (e ≡ edge x y) × (splitOn (rowAt l j) (noteAt s j) x y ≡ 1)
+      (j : ℕ) × (j < t) × (x : ℕ) × (y : ℕ) × Side (rowAt l j) x y × (e ≡ edge x y) × (saidAt l s j x y ≡ 1)
 
 -- where the rows lie in a table, no directed edge occurs twice, the corners of a row differ; a set of edges that with an edge of a row
 -- holds its refinement edge, and notes G that tell of it
@@ -230,7 +234,7 @@ module _ (l : List ℕ) (t n : ℕ) (only-one : OnceAt l t) (named : (i : ℕ) �
 
   module _ (s : List ℕ) (i : ℕ) (h : i < t) (H : Halfway i s) where
     -- a bit of any note: its edge is in the set
-    bit-sound : (j : ℕ) → j < t → {x y : ℕ} → Side (rowAt l j) x y → splitOn (rowAt l j) (noteAt s j) x y ≡ 1 → mem (edge x y) ≡ true
+    bit-sound : (j : ℕ) → j < t → {x y : ℕ} → Side (rowAt l j) x y → saidAt l s j x y ≡ 1 → mem (edge x y) ≡ true
     bit-sound j g {x} {y} side e = go (decLt j i)
       where
         go : Dec (j < i) → mem (edge x y) ≡ true
@@ -238,27 +242,27 @@ module _ (l : List ℕ) (t n : ℕ) (only-one : OnceAt l t) (named : (i : ℕ) �
         go (no a) = tells .sound j g side (ap (λ (c : Note). splitOn (rowAt l j) c x y) (sym (H .still-first j (omega arith) g)) ∙ e)
 
     -- a bit that was there at first is still there
-    bit-stays : (j : ℕ) → j < t → {x y : ℕ} → Side (rowAt l j) x y → splitOn (rowAt l j) (noteAt G j) x y ≡ 1 → splitOn (rowAt l j) (noteAt s j) x y ≡ 1
+    bit-stays : (j : ℕ) → j < t → {x y : ℕ} → Side (rowAt l j) x y → saidAt l G j x y ≡ 1 → saidAt l s j x y ≡ 1
     bit-stays j g {x} {y} side e = go (decLt j i)
       where
-        go : Dec (j < i) → splitOn (rowAt l j) (noteAt s j) x y ≡ 1
+        go : Dec (j < i) → saidAt l s j x y ≡ 1
         go (yes a) = ap (λ (c : Note). splitOn (rowAt l j) c x y) (H .below-noted j a) ∙ said-is j g side ∙ ap bit (tells .sound j g side e)
         go (no a) = ap (λ (c : Note). splitOn (rowAt l j) c x y) (H .still-first j (omega arith) g) ∙ e
 
     -- an edge of row i and of the set has its bit in row i, or in the row across
     two-rows : {x y : ℕ} → Side (rowAt l i) x y → mem (edge x y) ≡ true →
-        (splitOn (rowAt l i) (noteAt s i) x y ≡ 1) ⊎ ((j : ℕ) × (lowest (arrowAt l y x) 0 t ≡ At j) × (splitOn (rowAt l j) (noteAt s j) y x ≡ 1))
+        (saidAt l s i x y ≡ 1) ⊎ ((j : ℕ) × (lowest (arrowAt l y x) 0 t ≡ At j) × (saidAt l s j y x ≡ 1))
     two-rows {x} {y} side m = by (tells .told (edge x y) m)
       where
-        by : (j : ℕ) × (j < t) × (a : ℕ) × (b : ℕ) × Side (rowAt l j) a b × (edge x y ≡ edge a b) × (splitOn (rowAt l j) (noteAt G j) a b ≡ 1) →
-            (splitOn (rowAt l i) (noteAt s i) x y ≡ 1) ⊎ ((j : ℕ) × (lowest (arrowAt l y x) 0 t ≡ At j) × (splitOn (rowAt l j) (noteAt s j) y x ≡ 1))
+        by : (j : ℕ) × (j < t) × (a : ℕ) × (b : ℕ) × Side (rowAt l j) a b × (edge x y ≡ edge a b) × (saidAt l G j a b ≡ 1) →
+            (saidAt l s i x y ≡ 1) ⊎ ((j : ℕ) × (lowest (arrowAt l y x) 0 t ≡ At j) × (saidAt l s j y x ≡ 1))
         by (j, g, a, b, o, e, one) = ends (edge-ends x y a b e)
           where
-            up : splitOn (rowAt l j) (noteAt s j) a b ≡ 1
+            up : saidAt l s j a b ≡ 1
             up = bit-stays j g o one
 
             ends : ((x ≡ a) × (y ≡ b)) ⊎ ((x ≡ b) × (y ≡ a)) →
-                (splitOn (rowAt l i) (noteAt s i) x y ≡ 1) ⊎ ((j : ℕ) × (lowest (arrowAt l y x) 0 t ≡ At j) × (splitOn (rowAt l j) (noteAt s j) y x ≡ 1))
+                (saidAt l s i x y ≡ 1) ⊎ ((j : ℕ) × (lowest (arrowAt l y x) 0 t ≡ At j) × (saidAt l s j y x ≡ 1))
             ends (inl (c, d)) =
                 let q : i ≡ j = only-one i j x y h g (side-at l i side) (rw (c, d) (side-at l j o)) in
                 inl (rw (q, c, d) up)
@@ -266,27 +270,27 @@ module _ (l : List ℕ) (t n : ℕ) (only-one : OnceAt l t) (named : (i : ℕ) �
 
     -- so what the two rows of an edge say is whether it is in the set
     either-is : {x y : ℕ} → Side (rowAt l i) x y → (j : ℕ) → lowest (arrowAt l y x) 0 t ≡ At j →
-        either (splitOn (rowAt l i) (noteAt s i) x y) (splitOn (rowAt l j) (noteAt s j) y x) ≡ bit (mem (edge x y))
+        either (saidAt l s i x y) (saidAt l s j y x) ≡ bit (mem (edge x y))
     either-is {x} {y} side j e = go (mem (edge x y)) refl
       where
         f : (j < t) × Side (rowAt l j) y x
         f = found-side l t only-one j y x e
 
-        go : (b : Bool) → mem (edge x y) ≡ b → either (splitOn (rowAt l i) (noteAt s i) x y) (splitOn (rowAt l j) (noteAt s j) y x) ≡ bit b
+        go : (b : Bool) → mem (edge x y) ≡ b → either (saidAt l s i x y) (saidAt l s j y x) ≡ bit b
         go true m = either-one _ _ (⊎-map (λ a. a) (λ (k, q, a). same k (sym q ∙ e) a) (two-rows side m))
           where
-            same : (k : ℕ) → At k ≡ At j → splitOn (rowAt l k) (noteAt s k) y x ≡ 1 → splitOn (rowAt l j) (noteAt s j) y x ≡ 1
-            same k g a = let z : k ≡ j = cc in subst (λ (n : ℕ). splitOn (rowAt l n) (noteAt s n) y x ≡ 1) z a
+            same : (k : ℕ) → At k ≡ At j → saidAt l s k y x ≡ 1 → saidAt l s j y x ≡ 1
+            same k g a = let z : k ≡ j = cc in subst (λ (n : ℕ). saidAt l s n y x ≡ 1) z a
         go false m =
             either-none _ _
             (no-bit _ (split-le (rowAt l i) s i x y) (λ a. clash (sym (bit-sound i h side a) ∙ m)))
             (no-bit _ (split-le (rowAt l j) s j y x) (λ a. clash (sym (bit-sound j (f .0) (f .1) a) ∙ ap mem (edge-comm y x) ∙ m)))
 
     -- and where there is no row across, row i says it alone
-    alone-is : {x y : ℕ} → Side (rowAt l i) x y → lowest (arrowAt l y x) 0 t ≡ Nothing → splitOn (rowAt l i) (noteAt s i) x y ≡ bit (mem (edge x y))
+    alone-is : {x y : ℕ} → Side (rowAt l i) x y → lowest (arrowAt l y x) 0 t ≡ Nothing → saidAt l s i x y ≡ bit (mem (edge x y))
     alone-is {x} {y} side e = go (mem (edge x y)) refl
       where
-        go : (b : Bool) → mem (edge x y) ≡ b → splitOn (rowAt l i) (noteAt s i) x y ≡ bit b
+        go : (b : Bool) → mem (edge x y) ≡ b → saidAt l s i x y ≡ bit b
         go true m = ⊎-elim (λ a. a) (λ (k, q, a). (let c : At k ≡ Nothing = sym q ∙ e in let z : _≡_ {A = ℕ} 0 1 = cc in absurd (omega arith))) (two-rows side m)
         go false m = no-bit _ (split-le (rowAt l i) s i x y) (λ a. clash (sym (bit-sound i h side a) ∙ m))
 
@@ -295,12 +299,9 @@ module _ (l : List ℕ) (t n : ℕ) (only-one : OnceAt l t) (named : (i : ℕ) �
     unfolding metOn
     met-is {x} {y} side = ap (λ (k : ℕ). metOn l t s i k x y) (sym (on-side (rowAt l i) (named i h) side _ _ _)) ∙ go (lowest (arrowAt l y x) 0 t) refl
       where
-        own : ℕ
-        own = splitOn (rowAt l i) (noteAt s i) x y
-
         go : (w : Found) → lowest (arrowAt l y x) 0 t ≡ w →
-            onFound w (λ j. metBy (either (splitOn (rowAt l i) (noteAt s i) x y) (splitOn (rowAt l j) (noteAt s j) y x)) j i)
-            (met (splitOn (rowAt l i) (noteAt s i) x y) (splitOn (rowAt l i) (noteAt s i) x y)) ≡ met (bit (mem (edge x y))) (bit (news i (edge x y)))
+            onFound w (λ j. metBy (either (saidAt l s i x y) (saidAt l s j y x)) j i)
+            (met (saidAt l s i x y) (saidAt l s i x y)) ≡ met (bit (mem (edge x y))) (bit (news i (edge x y)))
         go (At j) e = ap (λ (b : ℕ). metBy b j i) (either-is side j e) ∙ by-is i j x y h side e
         go Nothing e =
             let f = met-new i x y h side (lowest-none-below (arrowAt l y x) t i e (omega arith)) in

@@ -21,7 +21,7 @@ use Rattle.meaning.specs.declared.Place.{Place}
 use Rattle.meaning.specs.declared.Answer.{Answer}
 use Rattle.meaning.specs.Mesh.{Mesh, Edge, at, origin}
 use Rattle.meaning.specs.Lawful.{InRange, Named}
-use Rattle.meaning.specs.Split.{bisected, splitEdges, splitAt, split, Way, wayOf, refined, halves, memEdge, closure, started}
+use Rattle.meaning.specs.Split.{bisected, splitEdges, splitAt, split, Way, wayOf, refined, halves}
 use Rattle.meaning.specs.Tables.{given, outcome, answer, roomOf, meshOf, rowAt, placeAt, flatNodes, flatRows, filled}
 use Rattle.meaning.specs.Calls.{unless, refineNo, refines, leavesBy, refineOut}
 use Rattle.tables.specs.Sized.{Corners, indexAt}
@@ -31,8 +31,9 @@ use Rattle.notes.specs.Met.{after}
 use Rattle.nodes.specs.Nodes.{Standing, oddAt, placeRow}
 use Rattle.nodes.specs.OddLaw.{standing-at, odd-found}
 use Rattle.nodes.specs.PlacedLaw.{placed-mesh, rooms}
-use Rattle.close.specs.Drawn.{closed}
+use Rattle.close.specs.Drawn.{closedNotes}
 use Rattle.close.specs.EdgeLaw.{lawful-named}
+use Rattle.close.specs.CloseLaw.{isSplit}
 use Rattle.close.specs.DrawLaw.{closed-kept, ready-closed}
 use Rattle.number.specs.Numbered.{numbers, numberRow}
 use Rattle.number.specs.NumberStep.{ready-numbered}
@@ -111,14 +112,11 @@ module _ (how : Manner) (nodes : List ℤ) (rows s₀ marks : List ℕ) (n t : �
   rows-standing i h = standing-at nodes n (rowAt rows i) (R .nodes-fit) nodes-near (corners i h)
 
   -- s₁ after close, s₂ and k after number
-  module _ (s₁ s₂ : List ℕ) (k : ℕ) (e₁ : s₁ ≡ closed how rows t marks s₀) (e₂ : numbers s₂ k ≡ iter (numberRow rows t) 0 t (numbers s₁ 0)) where
+  module _ (s₁ s₂ : List ℕ) (k : ℕ) (e₁ : s₁ ≡ closedNotes how rows t marks s₀) (e₂ : numbers s₂ k ≡ iter (numberRow rows t) 0 t (numbers s₁ 0)) where
     abbrev es : List Edge
     es = splitIn how nodes rows marks n t
 
-    abbrev isSplit : Edge → Bool
-    isSplit e = memEdge e (closure (items (rowAt rows) 0 t) (started (wayOf how) marks (items (rowAt rows) 0 t)))
-
-    N : SplitNotes n rows t es isSplit s₂ k
+    N : SplitNotes n rows t es (isSplit how rows t marks) s₂ k
     N = split-notes how ns rows t (R .law) marks s₀ notes-fit clear few-numbers s₁ s₂ n k e₁ e₂ nodes-in-table
 
     same-length : length s₂ ≡ length s₀
@@ -127,7 +125,7 @@ module _ (how : Manner) (nodes : List ℤ) (rows s₀ marks : List ℕ) (n t : �
     -- 8
     odd-as-said : isFound (lowest (oddAt nodes rows s₂) 0 t) ≡ not (all (halves m) es)
     unfolding splitEdges
-    odd-as-said = odd-found nodes n m place-same isSplit rows s₂ t corners (N .member-said)
+    odd-as-said = odd-found nodes n m place-same (isSplit how rows t marks) rows s₂ t corners (N .member-said)
 
     -- the counts after
     after-nodes : length (afterIn how nodes rows marks n t .nodes) ≡ n + k
@@ -217,10 +215,10 @@ module _ (how : Manner) (nodes : List ℤ) (rows s₀ marks : List ℕ) (n t : �
         let f = N .few in
         record { rows-fit = R .rows-fit; notes-fit = omega arith; few-rows = omega arith; few-nodes = omega arith; standing = rows-standing }
 
-  pub closed-ready : (s₁ : List ℕ) → s₁ ≡ closed how rows t marks s₀ → Ready s₁ (length nodes / 2) rows t
+  pub closed-ready : (s₁ : List ℕ) → s₁ ≡ closedNotes how rows t marks s₀ → Ready s₁ (length nodes / 2) rows t
   closed-ready s₁ e = ready-closed rows s₀ s₁ (length nodes / 2) t (R .rows-fit) (R .ready) how marks e
 
-  pub closed-fit : (s₁ : List ℕ) → s₁ ≡ closed how rows t marks s₀ → t ≤ length s₁
+  pub closed-fit : (s₁ : List ℕ) → s₁ ≡ closedNotes how rows t marks s₀ → t ≤ length s₁
   closed-fit s₁ e = let a = notes-fit in let b = ap length e ∙ closed-kept rows t t (omega arith) how marks s₀ .0 in omega arith
 
   pub marks-long : t ≤ length marks

@@ -1,4 +1,4 @@
-use Rattle.close.specs.DrawLaw.{across-found, across-none, found-below}
+use Rattle.close.specs.DrawLaw.{drawn-across, none-across, found-below}
 use borrow.Author.Needs.{needs}
 use Rattle.close.proofs.draw_across.Statement.{statement}
 use Rattle.close.proofs.draw_across.Tie as tie
@@ -7,10 +7,10 @@ draw-requires : tie.Need-draw-requires
 draw-requires c κs = search (needs, found-below)
 
 returns : tie.Need-returns
-returns c = search (needs, across-found)
+returns c = search (needs, drawn-across)
 
 returns-2 : tie.Need-returns-2
-returns-2 c = search (needs, across-none)
+returns-2 c = search (needs, none-across)
 
 pub draw-across-spec : {M : Type 1} → statement M
 draw-across-spec =

@@ -1,6 +1,6 @@
 // Which lines are taken, and which refine. A line that is not taken answers `ff` and changes nothing.
 ghost use mathlib.Core.Path.{_≡_};
-ghost use Prim.Native.Nat.{ℕ, _+_, _*_, _≤_};
+ghost use Prim.Native.Nat.{_+_, _*_, _≤_};
 ghost use lib.Dec.{ltb};
 ghost use lib.ListN.{length};
 ghost use Rattle.text.specs.Digits.{field, listed};

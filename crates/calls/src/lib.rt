@@ -1,8 +1,7 @@
 // Frames 03 to 06 and 09: the calls. Numbers listed have four digits each.
 ghost use mathlib.Core.Path.{_≡_};
-ghost use mathlib.Core.List.{List};
-ghost use Prim.Native.Nat.{ℕ, _+_, _*_, _/_, _≤_};
-ghost use lib.ListN.{length, set};
+ghost use Prim.Native.Nat.{_+_, _*_, _/_, _≤_};
+ghost use lib.ListN.{length};
 ghost use Rattle.lists.specs.Search.{iter};
 ghost use Rattle.meaning.specs.Split.{wayOf};
 ghost use Rattle.meaning.specs.Tables.{given, outcome};

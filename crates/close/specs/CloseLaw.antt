@@ -1,6 +1,6 @@
 -- Where chains were drawn from the rows that hold the starting edges, the note of a row is 1 exactly where its refinement edge is in
 -- the least closed set of document 01. Assumes nothing.
-use mathlib.Core.Path.{_≡_, refl, sym, ap, _∙_, subst}
+use mathlib.Core.Path.{_≡_, refl, sym, _∙_, subst}
 use mathlib.Core.Logic.{_⊎_, inl, inr, ⊎-elim, ⊎-map}
 use mathlib.Core.Bool.{Bool, true, false}
 use mathlib.Core.List.{List, List·Memᴰ, List·Memᴰ·head, List·Memᴰ·eq-of-singleton}
@@ -12,7 +12,7 @@ use lib.Dec.{eqb}
 use lib.ListN.{length, getD, set, length-set}
 use lib.Seq.{getD-set-same, getD-set-other}
 use Rattle.lists.specs.declared.Found.the-variants.{At}
-use Rattle.lists.specs.Lists.{All, cases}
+use Rattle.lists.specs.Lists.{cases}
 use Rattle.lists.specs.ListsLaw.{clash, All-at, All-of, All-imp}
 use Rattle.lists.specs.Search.{lowest, items, iter}
 use Rattle.lists.specs.IterLaw.{length-items, getD-items}

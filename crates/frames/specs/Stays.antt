@@ -2,8 +2,8 @@
 -- the buffer. Assumes nothing.
 use mathlib.Core.Path.{_≡_, refl, _∙_}
 use mathlib.Core.Bool.{Bool, true, false}
-use mathlib.Core.List.{List, [], _∷_, _++_}
-use Prim.Native.Nat.{ℕ, zero, suc, _+_, _*_, _/_, _≤_}
+use mathlib.Core.List.{List, []}
+use Prim.Native.Nat.{ℕ, zero, suc, _*_, _≤_}
 use native.Mathlib.Omega.{arith}
 use borrow.Author.Tests.{eqb-true}
 use lib.Dec.{eqb}
@@ -16,7 +16,7 @@ use Rattle.meaning.specs.Mesh.{Mesh}
 use Rattle.meaning.specs.Lawful.{refusal}
 use Rattle.meaning.specs.Split.{wayOf, refined}
 use Rattle.meaning.specs.Coarsen.{coarsened, Restored, restored}
-use Rattle.meaning.specs.Tables.{Given, Outcome, meshOf, roomOf, filled}
+use Rattle.meaning.specs.Tables.{Given, Outcome, meshOf, roomOf}
 use Rattle.meaning.specs.Calls.{says, checkNo, refineNo, coarsenNo, refines, coarsens, restores, sizesFit, untouched, leaves, sized, checkOut, refineOut, coarsenOut, restoreOut}
 use Rattle.laws.specs.Coarsen.{coarsened-count, coarsened-rows}
 use Rattle.laws.specs.Refine.{manner-done}
@@ -24,12 +24,12 @@ use Rattle.laws.specs.Restore.{restored-fewer, restored-rows}
 use Rattle.laws.specs.TableMesh.{nodes-count, rows-count, filled-length, done-nodes, done-rows}
 use Rattle.tables.specs.PutLaw.{length-setPlace, length-setRow}
 use Rattle.text.specs.Digits.{listed}
-use Rattle.text.specs.Lines.{placeIn, rowIn, answerLine}
+use Rattle.text.specs.Lines.{placeIn, rowIn}
 use Rattle.text.specs.LinesAre.{answer-length, all-length}
 use Rattle.protocol.specs.declared.Refines.{Refines}
 use Rattle.protocol.specs.declared.Refines.the-variants.{In, Never}
-use Rattle.protocol.specs.Frames.{Held, held, session, givenBy, Step, step, ff, refinesIn, ifRefines, wellFormed, admits, takes, kindOf, fieldsOf, addNode, addRow, orDropped, marksOf, called, sessionAfter, answering, frame, lineStep}
-use Rattle.frames.specs.Answered.{Whole, WholeHeld}
+use Rattle.protocol.specs.Frames.{Held, held, session, givenBy, Step, step, refinesIn, ifRefines, wellFormed, admits, takes, kindOf, fieldsOf, addNode, addRow, orDropped, marksOf, called, sessionAfter, answering, frame, lineStep}
+use Rattle.frames.specs.Answered.{WholeHeld}
 use Rattle.admit.specs.AdmitLaw.{node-room, row-room}
 
 -- ---- what a call leaves: lengths as they were, counts within them

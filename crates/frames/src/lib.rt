@@ -1,7 +1,6 @@
 // The line program of document 01: what one line does to the tables, and what it writes.
 ghost use mathlib.Core.Path.{_≡_};
-ghost use mathlib.Core.Bool.{Bool, true};
-ghost use Prim.Native.Nat.{ℕ};
+ghost use mathlib.Core.Bool.{true};
 ghost use lib.ListN.{length};
 ghost use Rattle.protocol.specs.Frames as f;
 ghost use Rattle.frames.specs.Answered as l;

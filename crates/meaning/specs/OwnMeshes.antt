@@ -7,13 +7,12 @@ use lib.IntN.{pos, negsuc}
 use Rattle.lists.specs.Search.{lowest, lowestFrom}
 use Rattle.meaning.specs.Mesh.{Place, Mesh, place, tri, mesh, total, twiceArea}
 use Rattle.meaning.specs.Lawful.{refusal, compatible, faultOf, fault, firstOutside, firstMisnamed, firstRepeat, firstFlat, firstUnused, firstClash}
-use Rattle.meaning.specs.declared.Fault.{Fault}
 use Rattle.meaning.specs.Split.{closure, splitEdges, splitAt, split, refined}
 use Rattle.meaning.specs.Good.{pairs, span, G1-4, good}
 use Rattle.meaning.specs.Coarsen.{taken, without, coarsened, goodNodes, pass, restored}
 use Rattle.meaning.specs.Calls.{checkNo, refineNo, coarsenNo, checks, refines, coarsens, restores}
 use Rattle.meaning.specs.HandCase.{Case, check, refine, coarsen, restore, computed, says, case, within, at}
-use Rattle.meaning.specs.HandMeshes.{square, S, after2, unit}
+use Rattle.meaning.specs.HandMeshes.{square, S, after2}
 
 -- 12: the ends (−3,0) and (1,0), and the midpoint (−1,0)
 abbrev across : Mesh

@@ -1,6 +1,6 @@
 -- Document 01, 'Splitting': the split edges, the numbers of the new nodes, the rows of one triangle, the refined mesh.
 -- A way to refine says which edges of a marked triangle start the split set, and how one triangle is cut. Assumes nothing.
-use mathlib.Core.Bool.{Bool, true, false, not, _&&_, _||_}
+use mathlib.Core.Bool.{Bool, true, false, not, _&&_}
 use mathlib.Core.List.{List, [], _∷_, _++_, map}
 use mathlib.Core.Option.{Option, none, some}
 use Prim.Native.Nat.{ℕ, zero, suc, _+_, _%_}

@@ -4,21 +4,21 @@ use mathlib.Core.Path.{_≡_, refl, sym, ap, _∙_, subst}
 use mathlib.Core.Logic.{_⊎_, inl, inr, ⊎-elim, ⊎-map}
 use mathlib.Core.Bool.{Bool, true, false, not, _&&_}
 use mathlib.Core.List.{List, [], _∷_, _++_, append-assoc, append-nil, List·Memᴰ}
-use Prim.Native.Nat.{ℕ, zero, suc, _+_, _*_, _%_, _≤_, _<_}
+use Prim.Native.Nat.{ℕ, zero, suc, _+_, _*_, _≤_, _<_}
 use native.Mathlib.Omega.{arith}
 use native.Mathlib.Decide.{ℕ-discrete, decLt}
-use borrow.Author.Tests.{eqb-true, eq-eqb, ne-eqb, lt-ltb, le-ltb}
+use borrow.Author.Tests.{eq-eqb, ne-eqb, lt-ltb, le-ltb}
 use lib.Dec.{eqb, ltb}
 use lib.ListN.{length, getD, set, length-set, length-append}
 use lib.Seq.{getD-set-same, getD-set-other}
 use Rattle.lists.specs.declared.Found.{Found}
 use Rattle.lists.specs.declared.Found.the-variants.{At, Nothing}
 use Rattle.lists.specs.Lists.{nil, cons, any, only, consIf, once, joined, upTo, cases}
-use Rattle.lists.specs.ListsLaw.{clash, and-both, and-left, and-right, or-no, any-at, any-row, both-ways}
+use Rattle.lists.specs.ListsLaw.{clash, and-both, and-left, and-right, or-no, any-at, any-row}
 use Rattle.lists.specs.MembersLaw.{only-in, joined-in}
 use Rattle.lists.specs.Tally.{bit, bit-one}
 use Rattle.lists.specs.Search.{lowest, items, iter}
-use Rattle.lists.specs.SearchLaw.{lowest-below, lowest-nothing}
+use Rattle.lists.specs.SearchLaw.{lowest-nothing}
 use Rattle.lists.specs.ItemsLaw.{joined-append, items-snoc, items-none, iter-carries}
 use Rattle.lists.specs.ByNumberLaw.{items-in, items-of, items-around, lowest-no, lowest-cut, lowest-past, lowest-none-below}
 use Rattle.lists.specs.AnyLaw.{any-append}

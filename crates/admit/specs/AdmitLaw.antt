@@ -100,25 +100,27 @@ module _ (s : Session) (kind : ℕ) (f : List ℕ) where
 
   -- what an admitted 01 or 02 relies on
   module _ (y : admits s kind f ≡ true) where
+    fit : (k n most : ℕ) → not (s .accepted) && eqb (length f) k && ltb n most ≡ true → (length f ≡ k) × (n < most)
+    fit k n most e = (
+      eqb-true (length f) k (and-right (not (s .accepted)) (eqb (length f) k) (and-left (not (s .accepted) && eqb (length f) k) (ltb n most) e)),
+      ltb-true n most (and-right (not (s .accepted) && eqb (length f) k) (ltb n most) e),
+    )
+
     pub node-fields : kind ≡ 1 → length f ≡ 16
     unfolding admits
-    node-fields e =
-        eqb-true (length f) 16
-        (and-right (not (s .accepted)) (eqb (length f) 16) (and-left (not (s .accepted) && eqb (length f) 16) (ltb (s .n) 512) (rw e at y)))
+    node-fields e = fit 16 (s .n) 512 (rw e at y) .0
 
     pub node-room : kind ≡ 1 → s .n < 512
     unfolding admits
-    node-room e = ltb-true (s .n) 512 (and-right (not (s .accepted) && eqb (length f) 16) (ltb (s .n) 512) (rw e at y))
+    node-room e = fit 16 (s .n) 512 (rw e at y) .1
 
     pub row-fields : kind ≡ 2 → length f ≡ 12
     unfolding admits
-    row-fields e =
-        eqb-true (length f) 12
-        (and-right (not (s .accepted)) (eqb (length f) 12) (and-left (not (s .accepted) && eqb (length f) 12) (ltb (s .t) 1024) (rw e at y)))
+    row-fields e = fit 12 (s .t) 1024 (rw e at y) .0
 
     pub row-room : kind ≡ 2 → s .t < 1024
     unfolding admits
-    row-room e = ltb-true (s .t) 1024 (and-right (not (s .accepted) && eqb (length f) 12) (ltb (s .t) 1024) (rw e at y))
+    row-room e = fit 12 (s .t) 1024 (rw e at y) .1
 
 -- ---- a line
 

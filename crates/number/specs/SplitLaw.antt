@@ -26,7 +26,8 @@ use Rattle.close.specs.DrawLaw.{closed-kept}
 use Rattle.close.specs.EdgeLaw.{OnceAt, lawful-once, lawful-named, Side, side-m, side-u, side-v, side-edge}
 use Rattle.close.specs.CloseLaw.{startEdges, isSplit}
 use Rattle.number.specs.Numbered.{Numbers, numbers, numberRow}
-use Rattle.number.specs.NumberLaw.{Tells, scanOf, noteIn, Reached, reach-all, mids-num, scan-met}
+use Rattle.number.specs.ScanLaw.{scanOf, noteIn, mids-num, scan-met}
+use Rattle.number.specs.NumberLaw.{Tells, Reached, reach-all}
 use Rattle.number.specs.TellsLaw.{closed-tells}
 
 -- what the notes in a table of scratch say of the split edges es of t rows, and how many new nodes there are; n nodes stand before.
@@ -103,11 +104,11 @@ module _ (k : Manner) (ns : List Place) (l : List ℕ) (t : ℕ) (law : Lawful (
     counted = reached .counted ∙ ap length scan-is-split;
     few = reached .few;
     mids = λ i h.
-        mids-num l t (length ns) once-each rows-named member pull (closedNotes k l t marks s) tells (numberedNotes .table) i h (λ j k. notes-say j (omega arith)) ∙ ap (λ es. numbersOf (length ns) es (rowAt l i)) scan-is-split;
-    met = scan-met l t (length ns) once-each rows-named member pull (closedNotes k l t marks s) tells (numberedNotes .table) t (omega arith) notes-say ∙ scan-is-split;
+        mids-num l t (length ns) once-each rows-named member (numberedNotes .table) i h (λ j k. notes-say j (omega arith)) ∙ ap (λ es. numbersOf (length ns) es (rowAt l i)) scan-is-split;
+    met = scan-met l t (length ns) once-each rows-named member (numberedNotes .table) t (omega arith) notes-say ∙ scan-is-split;
     before = λ i h.
         ap (λ (c : Note). c .before) (notes-say i h)
-        ∙ ap length (sym (scan-met l t (length ns) once-each rows-named member pull (closedNotes k l t marks s) tells (numberedNotes .table) i (omega arith) (λ j k. notes-say j (omega arith))));
+        ∙ ap length (sym (scan-met l t (length ns) once-each rows-named member (numberedNotes .table) i (omega arith) (λ j k. notes-say j (omega arith))));
     member-said = bits-said;
     split-said = λ i h.
         let d = bits-said i h in

@@ -25,7 +25,8 @@ use Rattle.notes.specs.Notes.{note, unpacked, noteAt, splitOn}
 use Rattle.close.specs.Drawn.{startNote, closedNotes}
 use Rattle.close.specs.EdgeLaw.{OnceAt, lawful-once, lawful-named, Side, side-m, side-u, side-v, side-edge, edge-side}
 use Rattle.close.specs.CloseLaw.{isSplit, start-in, drawn-note, Starts, closed-held, closed-note}
-use Rattle.number.specs.NumberLaw.{sidePick, on-side, saidAt, Tells}
+use Rattle.number.specs.ScanLaw.{sidePick, on-side}
+use Rattle.number.specs.NumberLaw.{saidAt, Tells}
 
 -- the first t notes of s are 0
 module _ (k : Manner) (ns : List Place) (l : List ℕ) (t : ℕ) (law : Lawful (mesh ns (items (rowAt l) 0 t))) (marks s : List ℕ) (long : t ≤ length s)

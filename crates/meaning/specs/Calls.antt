@@ -1,4 +1,4 @@
--- Document 01, 'What a call says': for each call, what it says of a mesh, and one outcome for any tables. Assumes nothing.
+-- Document 01, 'What a call says', and W2: for each call, what it says of a mesh, and one outcome for any tables. Assumes nothing.
 use mathlib.Core.Bool.{Bool, true, false, _&&_}
 use mathlib.Core.List.{List, [], _∷_}
 use Prim.Native.Nat.{ℕ, zero, suc, _+_, _*_, _%_}
@@ -7,23 +7,29 @@ use lib.IntN.{pos}
 use lib.ListN.{length}
 use Rattle.lists.specs.Lists.{all, cases}
 use Rattle.meaning.specs.Mesh.{Mesh}
-use Rattle.meaning.specs.Lawful.{refusal, compatible}
+use Rattle.meaning.specs.Lawful.{faultOf, refusal, compatible}
 use Rattle.meaning.specs.Split.{Way, splitEdges, started, refined, halves}
 use Rattle.meaning.specs.Coarsen.{coarsened, restored}
 use Rattle.meaning.specs.Tables.{Given, Outcome, Room, outcome, answer, nodeForm, rowForm, meshOf, roomOf, flatNodes, flatRows, filled, cleared}
 
 -- ---- of a mesh
 
--- the number, the mesh after the call, and the passes
+-- the number, the mesh after the call, the passes, and the culprit
 pub record Reply : Type 0 where
   pub number : ℕ
   pub after : Mesh
   pub passes : ℕ
+  pub culprit : ℕ
+
+-- W2: "Refusals 3 to 7 are to carry the lowest offending number as well .. All other answers, later numbers too, carry 0 there." So the
+-- number that the mesh itself draws carries its fault's node or row, and every other number 0.
+unfoldable pub carried : Mesh → ℕ → ℕ
+carried m k = cases (eqb k (refusal m)) (faultOf m .at) 0
 
 -- done, with the new mesh and the passes; or refused, with "0 passes": "It changes no node, triangle or mark."
 abbrev pub says : ℕ → Mesh → Mesh → ℕ → Reply
-says zero old new k = record { number = 0; after = new; passes = k }
-says (suc j) old new k = record { number = suc j; after = old; passes = 0 }
+says zero old new k = record { number = 0; after = new; passes = k; culprit = 0 }
+says (suc j) old new k = record { number = suc j; after = old; passes = 0; culprit = carried old (suc j) }
 
 -- number k unless a test says yes
 abbrev pub unless : Bool → ℕ → ℕ → ℕ
@@ -82,33 +88,33 @@ sizesFit g n0 =
     leb (g .n) (roomOf g .nodes) && leb (g .t) (roomOf g .rows) && leb n0 (g .n) &&
     leb (4 * (roomOf g .nodes + roomOf g .rows)) (length (g .scratch))
 
--- "A refusal returns its number, the counts it was given and 0 passes"; no table but scratch is written
-abbrev pub untouched : Given → ℕ → Outcome
-untouched g k = outcome (answer k (g .n) (g .t) 0) (g .nodes) (g .rows) (cleared (g .scratch))
+-- "A refusal returns its number, the counts it was given and 0 passes", and the culprit c; no table but scratch is written
+abbrev pub untouched : Given → ℕ → ℕ → Outcome
+untouched g k c = outcome (answer k (g .n) (g .t) 0 c) (g .nodes) (g .rows) (cleared (g .scratch))
 
 -- "After 0, node and triangle entries past the new counts are zero"
 abbrev pub done : Given → Mesh → ℕ → Outcome
 done g m k =
-    outcome (answer 0 (length (m .nodes)) (length (m .tris)) k)
+    outcome (answer 0 (length (m .nodes)) (length (m .tris)) k 0)
     (filled (pos 0) (length (g .nodes)) (flatNodes (m .nodes)))
     (filled 0 (length (g .rows)) (flatRows (m .tris)))
     (cleared (g .scratch))
 
 -- what a reply leaves in the tables
-abbrev pub leavesBy : Given → ℕ → Mesh → ℕ → Outcome
-leavesBy g zero m k = done g m k
-leavesBy g (suc j) m k = untouched g (suc j)
+abbrev pub leavesBy : Given → ℕ → Mesh → ℕ → ℕ → Outcome
+leavesBy g zero m k c = done g m k
+leavesBy g (suc j) m k c = untouched g (suc j) c
 
 abbrev pub leaves : Given → Reply → Outcome
-leaves g r = leavesBy g (r .number) (r .after) (r .passes)
+leaves g r = leavesBy g (r .number) (r .after) (r .passes) (r .culprit)
 
 -- 1 comes first
 abbrev pub sized : Given → ℕ → Outcome → Outcome
-sized g n0 o = cases (sizesFit g n0) o (untouched g 1)
+sized g n0 o = cases (sizesFit g n0) o (untouched g 1 0)
 
 -- "The base check takes no n0": as with 0. "the base check writes no table but scratch"
 unfoldable pub checkOut : Given → Outcome
-checkOut g = sized g 0 (untouched g (checkNo (meshOf g)))
+checkOut g = sized g 0 (untouched g (checkNo (meshOf g)) (carried (meshOf g) (checkNo (meshOf g))))
 
 unfoldable pub refineOut : Way → Given → ℕ → List ℕ → Outcome
 refineOut w g n0 marks = sized g n0 (leaves g (refines w (roomOf g) (meshOf g) marks))

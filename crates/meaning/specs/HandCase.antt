@@ -14,11 +14,12 @@ pub data Call : Type 0 where
   coarsen : List ℕ → Call
   restore : Call
 
--- what a call says: its number, the mesh after it, the passes; and the total twice-area of that mesh
+-- what a call says: its number, the mesh after it, the passes, the culprit; and the total twice-area of that mesh
 pub record Said : Type 0 where
   pub number : ℕ
   pub after : Mesh
   pub passes : ℕ
+  pub culprit : ℕ
   pub twice : ℤ
 
 pub record Case : Type 0 where
@@ -36,10 +37,15 @@ call r n0 m (coarsen marks) = coarsens n0 m marks
 call r n0 m restore = restores n0 m
 
 abbrev pub said : Reply → Said
-said a = record { number = a .number; after = a .after; passes = a .passes; twice = total (a .after) }
+said a = record { number = a .number; after = a .after; passes = a .passes; culprit = a .culprit; twice = total (a .after) }
 
+-- no node and no row is named
 abbrev pub says : ℕ → Mesh → ℕ → ℕ → Said
-says k m passes twice = record { number = k; after = m; passes = passes; twice = pos twice }
+says k m passes twice = record { number = k; after = m; passes = passes; culprit = 0; twice = pos twice }
+
+-- refused, and node or row z is named
+abbrev pub blames : ℕ → ℕ → Mesh → ℤ → Said
+blames k z m twice = record { number = k; after = m; passes = 0; culprit = z; twice = twice }
 
 -- the answer that the definitions give
 abbrev pub computed : Case → Said

@@ -12,7 +12,7 @@ use Rattle.meaning.specs.Split.{newest, allThree, closure, splitEdges, s
 use Rattle.meaning.specs.Good.{pairs, span, G1-4, good}
 use Rattle.meaning.specs.Coarsen.{taken, without, coarsened, goodNodes, pass, restored}
 use Rattle.meaning.specs.Tables.{Given, Outcome, given, outcome, answer, placeAt, rowAt, meshOf}
-use Rattle.meaning.specs.Calls.{checkNo, refineNo, coarsenNo, checks, refines, coarsens, restores, sizesFit, checkOut, refineOut, coarsenOut, restoreOut}
+use Rattle.meaning.specs.Calls.{carried, checkNo, refineNo, coarsenNo, checks, refines, coarsens, restores, sizesFit, checkOut, refineOut, coarsenOut, restoreOut}
 
 record Row : Type 0 where
   got : Outcome
@@ -27,7 +27,7 @@ lent : List ℕ → List ℕ → ℕ → ℕ → ℕ → Given
 lent ns rs k n t = given (map pos ns) rs (replicate k 7) n t
 
 said : ℕ → ℕ → ℕ → ℕ → List ℕ → List ℕ → ℕ → Outcome
-said j n t k ns rs c = outcome (answer j n t k) (map pos ns) rs (replicate c 0)
+said j n t k ns rs c = outcome (answer j n t k 0) (map pos ns) rs (replicate c 0)
 
 square : List ℕ
 square = 0 ∷ 0 ∷ 8 ∷ 0 ∷ 8 ∷ 8 ∷ 0 ∷ 8 ∷ []
@@ -82,5 +82,5 @@ outcomes =
     []
 
 hand-tables : map (λ r. r .got) outcomes ≡ map (λ r. r .expected) outcomes
-unfolding outcomes wrong lent said square spare two wide four six _is_ lowest lowestFrom items itemsFrom placeAt rowAt meshOf twiceArea firstOutside firstMisnamed firstRepeat firstFlat firstUnused firstClash faultOf refusal compatible closure splitEdges splitAt split refined pairs span G1-4 good taken without coarsened goodNodes pass restored checkNo refineNo coarsenNo checks refines coarsens restores sizesFit checkOut refineOut coarsenOut restoreOut
+unfolding outcomes wrong lent said square spare two wide four six _is_ lowest lowestFrom items itemsFrom placeAt rowAt meshOf twiceArea firstOutside firstMisnamed firstRepeat firstFlat firstUnused firstClash faultOf refusal compatible closure splitEdges splitAt split refined pairs span G1-4 good taken without coarsened goodNodes pass restored carried checkNo refineNo coarsenNo checks refines coarsens restores sizesFit checkOut refineOut coarsenOut restoreOut
 hand-tables = refl

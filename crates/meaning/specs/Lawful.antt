@@ -1,9 +1,9 @@
--- Document 01, 'What a call says': lawful meshes and compatible labellings, as named facts, and as what is computed: the number
+-- Document 01, 'What a call says', and W2: lawful meshes and compatible labellings, as named facts, and as what is computed: the number
 -- of the refusal and the lowest node or row at fault. Assumes nothing.
 use mathlib.Core.Bool.{Bool, true, false, not, _&&_, _||_}
-use mathlib.Core.List.{List, [], _∷_}
+use mathlib.Core.List.{List, [], _∷_, List·Memᴰ}
 use mathlib.Core.Path.{_≡_}
-use mathlib.Core.Logic.{_≢_}
+use mathlib.Core.Logic.{_≢_, _⊎_}
 use Prim.Native.Nat.{ℕ, zero, suc, _≤_, _<_}
 use lib.Dec.{leb, eqb}
 use lib.IntN.{ℤ, pos, natAbs}
@@ -66,6 +66,31 @@ pub data Applies (m : Mesh) : ℕ → Type 0 where
 pub record Lowest (m : Mesh) (k : ℕ) : Type 0 where
   pub applies : 0 < k → Applies m k
   pub no-lower : (j : ℕ) → Applies m j → (0 < k) × (k ≤ j)
+
+-- z is the lowest of 0 to end − 1 at fault, all below it being sound
+pub record First (end : ℕ) (Faulty Sound : ℕ → Type 0) (z : ℕ) : Type 0 where
+  pub below : z < end
+  pub at-fault : Faulty z
+  pub sound-below : (j : ℕ) → j < z → Sound j
+
+-- row i has "a directed edge that a lower row already has"
+pub record Repeats (ts : List Tri) (i : ℕ) : Type 0 where
+  pub edge : Arrow
+  pub other : ℕ
+  pub other-lower : other < i
+  pub here : List·Memᴰ edge (arrows (rowOf ts i))
+  pub there : List·Memᴰ edge (arrows (rowOf ts other))
+
+-- W2: what an answer with the number k names in z. "Refusals 3 to 7 are to carry the lowest offending number as well: a node for 3 and 7, a
+-- triangle for 4 and 6, and for 5 the lowest triangle with a directed edge that a lower row already has .. All other answers, later numbers
+-- too, carry 0 there."
+pub record Names (m : Mesh) (k z : ℕ) : Type 0 where
+  pub names-3 : k ≡ 3 → First (length (m .nodes)) (λ j. ¬ InRange (at m j)) (λ j. InRange (at m j)) z
+  pub names-4 : k ≡ 4 → First (length (m .tris)) (λ i. ¬ Named (length (m .nodes)) (rowOf (m .tris) i)) (λ i. Named (length (m .nodes)) (rowOf (m .tris) i)) z
+  pub names-5 : k ≡ 5 → First (length (m .tris)) (Repeats (m .tris)) (λ i. ¬ Repeats (m .tris) i) z
+  pub names-6 : k ≡ 6 → First (length (m .tris)) (λ i. ¬ (pos 0 <ℤ twiceArea m (rowOf (m .tris) i))) (λ i. pos 0 <ℤ twiceArea m (rowOf (m .tris) i)) z
+  pub names-7 : k ≡ 7 → First (length (m .nodes)) (λ j. count (holdsNode j) (m .tris) ≡ 0) (λ j. 1 ≤ count (holdsNode j) (m .tris)) z
+  pub names-none : (k < 3) ⊎ (7 < k) → z ≡ 0
 
 -- "Compatible: wherever another triangle holds a triangle's refinement edge, it is that one's refinement edge too."
 abbrev pub Compatible : Mesh → Type 0

@@ -10,8 +10,8 @@ use Rattle.meaning.specs.Lawful.{refusal, compatible, faultOf, fault, fi
 use Rattle.meaning.specs.Split.{closure, splitEdges, splitAt, split, refined}
 use Rattle.meaning.specs.Good.{pairs, span, G1-4, good}
 use Rattle.meaning.specs.Coarsen.{taken, without, coarsened, goodNodes, pass, restored}
-use Rattle.meaning.specs.Calls.{checkNo, refineNo, coarsenNo, checks, refines, coarsens, restores}
-use Rattle.meaning.specs.HandCase.{Case, check, refine, coarsen, restore, computed, says, case, within, at}
+use Rattle.meaning.specs.Calls.{carried, checkNo, refineNo, coarsenNo, checks, refines, coarsens, restores}
+use Rattle.meaning.specs.HandCase.{Case, check, refine, coarsen, restore, computed, says, blames, case, within, at}
 use Rattle.meaning.specs.HandMeshes.{square, S, after2}
 
 -- 12: the ends (−3,0) and (1,0), and the midpoint (−1,0)
@@ -110,7 +110,7 @@ ownCases =
     -- 12. "Ends (−3,0) and (1,0): midpoint (−1,0). x = 1,048,576 passes; 1,048,577 gives 3."
     case 3 across (refine (1 ∷ [])) (says 0 crossed 0 16) ∷
     case 3 (reaching 1_048_576) check (says 0 (reaching 1_048_576) 0 1_048_576) ∷
-    case 3 (reaching 1_048_577) check (says 3 (reaching 1_048_577) 0 1_048_577) ∷
+    case 3 (reaching 1_048_577) check (blames 3 1 (reaching 1_048_577) (pos 1_048_577)) ∷
     -- the four cuts
     case 5 winged (refine (1 ∷ 0 ∷ 0 ∷ [])) (says 0 cut-m 0 512) ∷
     case 5 winged (refine (0 ∷ 1 ∷ 0 ∷ [])) (says 0 cut-mu 0 512) ∷
@@ -132,11 +132,11 @@ ownCases =
     case 4 S (refine (1 ∷ [])) (says 2 S 0 128) ∷
     case 4 S (refine (1 ∷ 2 ∷ [])) (says 2 S 0 128) ∷
     case 4 S (coarsen (1 ∷ 0 ∷ [])) (says 2 S 0 128) ∷
-    case 0 (named 0 2 3) check (says 4 (named 0 2 3) 0 64) ∷
+    case 0 (named 0 2 3) check (blames 4 1 (named 0 2 3) (pos 64)) ∷
     []
 
 pub own-meshes : map computed ownCases ≡ map (λ c. c .expected) ownCases
-unfolding total twiceArea lowest lowestFrom firstOutside firstMisnamed firstRepeat firstFlat firstUnused firstClash faultOf refusal compatible closure splitEdges splitAt split refined pairs span G1-4 good taken without coarsened goodNodes pass restored checkNo refineNo coarsenNo checks refines coarsens restores
+unfolding total twiceArea lowest lowestFrom firstOutside firstMisnamed firstRepeat firstFlat firstUnused firstClash faultOf refusal compatible closure splitEdges splitAt split refined pairs span G1-4 good taken without coarsened goodNodes pass restored carried checkNo refineNo coarsenNo checks refines coarsens restores
 own-meshes = refl
 
 -- ---- the lowest node or row at fault

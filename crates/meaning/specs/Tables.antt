@@ -33,8 +33,8 @@ pub record Outcome : Type 0 where
 abbrev pub outcome : Answer → List ℤ → List ℕ → List ℕ → Outcome
 outcome a ns rs s = record { answer = a; nodes = ns; rows = rs; scratch = s }
 
-abbrev pub answer : ℕ → ℕ → ℕ → ℕ → Answer
-answer k n t p = record { number = k; n = n; t = t; passes = p }
+abbrev pub answer : ℕ → ℕ → ℕ → ℕ → ℕ → Answer
+answer k n t p c = record { number = k; n = n; t = t; passes = p; culprit = c }
 
 -- ---- how a node and a row stand in their tables
 

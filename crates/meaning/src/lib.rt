@@ -39,10 +39,12 @@ pub struct Fault {
     pub at: usize,
 }
 
-// What a call says: its number, the counts after it, and the passes it made.
+// What a call says: its number, the counts after it, the passes it made, and the culprit: with 3 and 7 the lowest node at fault, with 4, 5
+// and 6 the lowest row at fault, with every other number 0.
 pub struct Answer {
     pub number: u32,
     pub n: usize,
     pub t: usize,
     pub passes: usize,
+    pub culprit: usize,
 }

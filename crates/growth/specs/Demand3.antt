@@ -128,7 +128,7 @@ fullPass g n0 = coarsenOut g n0 (replicate (g .n) 1)
 -- the base row for row, its counts, zeros past them, scratch zero, and the passes made
 abbrev pub baseAgain : Given → Given → Outcome
 baseAgain g₀ g =
-    outcome (answer 0 (g₀ .n) (g₀ .t) (restored (g₀ .n) (meshOf g) .passes))
+    outcome (answer 0 (g₀ .n) (g₀ .t) (restored (g₀ .n) (meshOf g) .passes) 0)
     (filled (pos 0) (length (g₀ .nodes)) (take (2 * g₀ .n) (g₀ .nodes)))
     (filled 0 (length (g₀ .rows)) (take (3 * g₀ .t) (g₀ .rows)))
     (cleared (g .scratch))

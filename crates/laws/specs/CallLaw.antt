@@ -17,7 +17,7 @@ use Rattle.meaning.specs.Tables.{Given, Outcome, nodeForm, rowForm, meshOf, roo
 use Rattle.meaning.specs.Lawful.{refusal}
 use Rattle.meaning.specs.Split.{Way, refined}
 use Rattle.meaning.specs.Coarsen.{coarsened, restored}
-use Rattle.meaning.specs.Calls.{says, checkNo, refineNo, coarsenNo, refines, coarsens, restores, sizesFit, untouched, done, leaves, sized, checkOut, refineOut, coarsenOut, restoreOut}
+use Rattle.meaning.specs.Calls.{carried, says, checkNo, refineNo, coarsenNo, refines, coarsens, restores, sizesFit, untouched, done, leaves, sized, checkOut, refineOut, coarsenOut, restoreOut}
 use Rattle.laws.specs.Exact.{unfit}
 use Rattle.laws.specs.TableMesh.{flat-nodes-length, flat-rows-length, tablesAfter, done-mesh, done-nodes, done-rows}
 
@@ -126,6 +126,7 @@ pub record Holds (g : Given) (new : Mesh) (o : Outcome) : Type 0 where
 -- a call's outcome, k being its number for the mesh, new the mesh that it makes, p its passes
 pub record CallLeaves (g : Given) (n0 k : ℕ) (new : Mesh) (p : ℕ) (o : Outcome) : Type 0 where
   pub number-said : o .answer .number ≡ cases (sizesFit g n0) k 1
+  pub culprit-said : o .answer .number ≢ 0 → o .answer .culprit ≡ cases (sizesFit g n0) (carried (meshOf g) k) 0
   pub sized-and-0 : o .answer .number ≡ 0 → Sizes g n0 × (k ≡ 0)
   pub done-is : o .answer .number ≡ 0 → o ≡ done g new p
   pub refusal-leaves : o .answer .number ≢ 0 → AsGiven g o
@@ -150,17 +151,27 @@ done-holds g m k a b = record {
   rows-past = λ i h. filled-past 0 (length (g .rows)) (flatRows (m .tris)) i (omega (arith, flat-rows-length (m .tris)));
 }
 
-untouched-as-given : (g : Given) (j : ℕ) → AsGiven g (untouched g j)
-untouched-as-given g j = record { nodes-same = refl; rows-same = refl; n-same = refl; t-same = refl; no-passes = refl }
+untouched-as-given : (g : Given) (j c : ℕ) → AsGiven g (untouched g j c)
+untouched-as-given g j c = record { nodes-same = refl; rows-same = refl; n-same = refl; t-same = refl; no-passes = refl }
 
 -- WHAT A CALL LEAVES, whatever it is given.
-pub call-leaves : (g : Given) (n0 k : ℕ) (old new : Mesh) (p : ℕ) → CallLeaves g n0 k new p (sized g n0 (leaves g (says k old new p)))
-call-leaves g n0 k old new p = go (sizesFit g n0) refl k
+pub call-leaves : (g : Given) (n0 k : ℕ) (new : Mesh) (p : ℕ) → CallLeaves g n0 k new p (sized g n0 (leaves g (says k (meshOf g) new p)))
+call-leaves g n0 k new p = go (sizesFit g n0) refl k
   where
-    go : (b : Bool) → sizesFit g n0 ≡ b → (k : ℕ) → CallLeaves g n0 k new p (cases b (leaves g (says k old new p)) (untouched g 1))
-    go true q zero = record { number-said = rw q; sized-and-0 = λ e. (sizes-exact g n0 .0 q, refl); done-is = λ e. refl; refusal-leaves = λ n. absurd (n refl); scratch-zero = refl }
-    go true q (suc k) = record { number-said = rw q; sized-and-0 = λ e. absurd (omega arith); done-is = λ e. absurd (omega arith); refusal-leaves = λ n. untouched-as-given g (suc k); scratch-zero = refl }
-    go false q k = record { number-said = rw q; sized-and-0 = λ e. absurd (omega arith); done-is = λ e. absurd (omega arith); refusal-leaves = λ n. untouched-as-given g 1; scratch-zero = refl }
+    refused : (b : Bool) → sizesFit g n0 ≡ b → (k j : ℕ) → suc j ≡ cases b k 1 → CallLeaves g n0 k new p (untouched g (suc j) (cases b (carried (meshOf g) k) 0))
+    refused b q k j e = record {
+      number-said = rw (q, e);
+      culprit-said = λ n. rw q;
+      sized-and-0 = λ e. absurd (omega arith);
+      done-is = λ e. absurd (omega arith);
+      refusal-leaves = λ n. untouched-as-given g (suc j) (cases b (carried (meshOf g) k) 0);
+      scratch-zero = refl;
+    }
+
+    go : (b : Bool) → sizesFit g n0 ≡ b → (k : ℕ) → CallLeaves g n0 k new p (cases b (leaves g (says k (meshOf g) new p)) (untouched g 1 0))
+    go true q zero = record { number-said = rw q; culprit-said = λ n. absurd (n refl); sized-and-0 = λ e. (sizes-exact g n0 .0 q, refl); done-is = λ e. refl; refusal-leaves = λ n. absurd (n refl); scratch-zero = refl }
+    go true q (suc k) = refused true q (suc k) k refl
+    go false q k = refused false q k 0 refl
 
 -- What every call says, and what a refusal leaves; Of k: the number k is due to the mesh.
 pub record Answers (g : Given) (n0 : ℕ) (Of : ℕ → Type 0) (o : Outcome) : Type 0 where
@@ -195,6 +206,7 @@ leaves-no-passes {o = o} c = go (o .answer .number) refl
 -- "the base check writes no table but scratch"
 pub record CheckLeaves (g : Given) (o : Outcome) : Type 0 where
   pub check-number : o .answer .number ≡ cases (sizesFit g 0) (checkNo (meshOf g)) 1
+  pub check-culprit : o .answer .culprit ≡ cases (sizesFit g 0) (carried (meshOf g) (checkNo (meshOf g))) 0
   pub all-as-given : AsGiven g o
   pub scratch-zero : o .scratch ≡ cleared (g .scratch)
 
@@ -202,22 +214,22 @@ pub check-leaves : (g : Given) → CheckLeaves g (checkOut g)
 unfolding checkOut
 check-leaves g = go (sizesFit g 0) refl
   where
-    go : (b : Bool) → sizesFit g 0 ≡ b → CheckLeaves g (cases b (untouched g (checkNo (meshOf g))) (untouched g 1))
-    go true q = record { check-number = rw q; all-as-given = untouched-as-given g (checkNo (meshOf g)); scratch-zero = refl }
-    go false q = record { check-number = rw q; all-as-given = untouched-as-given g 1; scratch-zero = refl }
+    go : (b : Bool) → sizesFit g 0 ≡ b → CheckLeaves g (cases b (untouched g (checkNo (meshOf g)) (carried (meshOf g) (checkNo (meshOf g)))) (untouched g 1 0))
+    go true q = record { check-number = rw q; check-culprit = rw q; all-as-given = untouched-as-given g (checkNo (meshOf g)) (carried (meshOf g) (checkNo (meshOf g))); scratch-zero = refl }
+    go false q = record { check-number = rw q; check-culprit = rw q; all-as-given = untouched-as-given g 1 0; scratch-zero = refl }
 
 module _ (g : Given) (n0 : ℕ) where
   pub refine-leaves : (w : Way) (marks : List ℕ) → CallLeaves g n0 (refineNo w (roomOf g) (meshOf g) marks) (refined w (meshOf g) marks) 0 (refineOut w g n0 marks)
   unfolding refineOut refines
-  refine-leaves w marks = call-leaves g n0 (refineNo w (roomOf g) (meshOf g) marks) (meshOf g) (refined w (meshOf g) marks) 0
+  refine-leaves w marks = call-leaves g n0 (refineNo w (roomOf g) (meshOf g) marks) (refined w (meshOf g) marks) 0
 
   pub coarsen-leaves : (marks : List ℕ) → CallLeaves g n0 (coarsenNo (meshOf g) marks) (coarsened n0 (meshOf g) marks) 0 (coarsenOut g n0 marks)
   unfolding coarsenOut coarsens
-  coarsen-leaves marks = call-leaves g n0 (coarsenNo (meshOf g) marks) (meshOf g) (coarsened n0 (meshOf g) marks) 0
+  coarsen-leaves marks = call-leaves g n0 (coarsenNo (meshOf g) marks) (coarsened n0 (meshOf g) marks) 0
 
   pub restore-leaves : CallLeaves g n0 (refusal (meshOf g)) (restored n0 (meshOf g) .end) (restored n0 (meshOf g) .passes) (restoreOut g n0)
   unfolding restoreOut restores
-  restore-leaves = call-leaves g n0 (refusal (meshOf g)) (meshOf g) (restored n0 (meshOf g) .end) (restored n0 (meshOf g) .passes)
+  restore-leaves = call-leaves g n0 (refusal (meshOf g)) (restored n0 (meshOf g) .end) (restored n0 (meshOf g) .passes)
 
 -- "Only restore reports passes; after 0 the other calls give 0 there." A refusal gives 0 too.
 pub check-no-passes : (g : Given) → checkOut g .answer .passes ≡ 0

@@ -1,5 +1,5 @@
 -- A contract that equates the answer and every table after a call with one function's value admits a single outcome: two runs that were
--- given the same show the same number, counts, passes and tables. Assumes nothing.
+-- given the same show the same number, counts, passes, culprit and tables. Assumes nothing.
 use mathlib.Core.List.{List}
 use mathlib.Core.Path.{_≡_, sym, ap, _∙_}
 use Prim.Native.Nat.{ℕ}
@@ -35,31 +35,39 @@ pub restore-one : (g : Given) (n0 : ℕ) {a b : Answer} {ns ns′ : List ℤ} {r
     outcome a ns rs s ≡ restoreOut g n0 → outcome b ns′ rs′ s′ ≡ restoreOut g n0 → (a ≡ b) × (ns ≡ ns′) × (rs ≡ rs′) × (s ≡ s′)
 restore-one g n0 = one-outcome
 
--- ---- the exported calls, whose answers come apart: r is the number returned; n, t and p are what the references hold after the call
+-- ---- the exported calls, whose answers come apart: r is the number returned; n, t, p and c are what the references hold after the call
 
-one-seen : {given-to : Outcome} {r r′ n n′ t t′ p p′ : ℕ} {ns ns′ : List ℤ} {rs rs′ s s′ : List ℕ} →
-    outcome (answer r n t p) ns rs s ≡ given-to → outcome (answer r′ n′ t′ p′) ns′ rs′ s′ ≡ given-to →
-    (r ≡ r′) × (n ≡ n′) × (t ≡ t′) × (p ≡ p′) × (ns ≡ ns′) × (rs ≡ rs′) × (s ≡ s′)
+one-seen : {given-to : Outcome} {r r′ n n′ t t′ p p′ c c′ : ℕ} {ns ns′ : List ℤ} {rs rs′ s s′ : List ℕ} →
+    outcome (answer r n t p c) ns rs s ≡ given-to → outcome (answer r′ n′ t′ p′ c′) ns′ rs′ s′ ≡ given-to →
+    (r ≡ r′) × (n ≡ n′) × (t ≡ t′) × (p ≡ p′) × (c ≡ c′) × (ns ≡ ns′) × (rs ≡ rs′) × (s ≡ s′)
 one-seen p q =
-    let (e, ns, rs, s) = one-outcome p q in
-    (ap (λ (a : Answer). a .number) e, ap (λ (a : Answer). a .n) e, ap (λ (a : Answer). a .t) e, ap (λ (a : Answer). a .passes) e, ns, rs, s)
+    let (e, ns, rs, s) = one-outcome p q in (
+      ap (λ (a : Answer). a .number) e,
+      ap (λ (a : Answer). a .n) e,
+      ap (λ (a : Answer). a .t) e,
+      ap (λ (a : Answer). a .passes) e,
+      ap (λ (a : Answer). a .culprit) e,
+      ns,
+      rs,
+      s,
+    )
 
-pub exported-check-one : (g : Given) {r r′ : ℕ} {ns ns′ : List ℤ} {rs rs′ s s′ : List ℕ} →
-    outcome (answer r (g .n) (g .t) 0) ns rs s ≡ checkOut g → outcome (answer r′ (g .n) (g .t) 0) ns′ rs′ s′ ≡ checkOut g →
-    (r ≡ r′) × (ns ≡ ns′) × (rs ≡ rs′) × (s ≡ s′)
-exported-check-one g p q = let (r, n, t, k, ns, rs, s) = one-seen p q in (r, ns, rs, s)
+pub exported-check-one : (g : Given) {r r′ c c′ : ℕ} {ns ns′ : List ℤ} {rs rs′ s s′ : List ℕ} →
+    outcome (answer r (g .n) (g .t) 0 c) ns rs s ≡ checkOut g → outcome (answer r′ (g .n) (g .t) 0 c′) ns′ rs′ s′ ≡ checkOut g →
+    (r ≡ r′) × (c ≡ c′) × (ns ≡ ns′) × (rs ≡ rs′) × (s ≡ s′)
+exported-check-one g p q = let (r, n, t, k, c, ns, rs, s) = one-seen p q in (r, c, ns, rs, s)
 
-pub exported-refine-one : (w : Way) (g : Given) (n0 : ℕ) (marks : List ℕ) {r r′ n n′ t t′ : ℕ} {ns ns′ : List ℤ} {rs rs′ s s′ : List ℕ} →
-    outcome (answer r n t 0) ns rs s ≡ refineOut w g n0 marks → outcome (answer r′ n′ t′ 0) ns′ rs′ s′ ≡ refineOut w g n0 marks →
-    (r ≡ r′) × (n ≡ n′) × (t ≡ t′) × (ns ≡ ns′) × (rs ≡ rs′) × (s ≡ s′)
-exported-refine-one w g n0 marks p q = let (r, n, t, k, ns, rs, s) = one-seen p q in (r, n, t, ns, rs, s)
+pub exported-refine-one : (w : Way) (g : Given) (n0 : ℕ) (marks : List ℕ) {r r′ n n′ t t′ c c′ : ℕ} {ns ns′ : List ℤ} {rs rs′ s s′ : List ℕ} →
+    outcome (answer r n t 0 c) ns rs s ≡ refineOut w g n0 marks → outcome (answer r′ n′ t′ 0 c′) ns′ rs′ s′ ≡ refineOut w g n0 marks →
+    (r ≡ r′) × (n ≡ n′) × (t ≡ t′) × (c ≡ c′) × (ns ≡ ns′) × (rs ≡ rs′) × (s ≡ s′)
+exported-refine-one w g n0 marks p q = let (r, n, t, k, c, ns, rs, s) = one-seen p q in (r, n, t, c, ns, rs, s)
 
-pub exported-coarsen-one : (g : Given) (n0 : ℕ) (marks : List ℕ) {r r′ n n′ t t′ : ℕ} {ns ns′ : List ℤ} {rs rs′ s s′ : List ℕ} →
-    outcome (answer r n t 0) ns rs s ≡ coarsenOut g n0 marks → outcome (answer r′ n′ t′ 0) ns′ rs′ s′ ≡ coarsenOut g n0 marks →
-    (r ≡ r′) × (n ≡ n′) × (t ≡ t′) × (ns ≡ ns′) × (rs ≡ rs′) × (s ≡ s′)
-exported-coarsen-one g n0 marks p q = let (r, n, t, k, ns, rs, s) = one-seen p q in (r, n, t, ns, rs, s)
+pub exported-coarsen-one : (g : Given) (n0 : ℕ) (marks : List ℕ) {r r′ n n′ t t′ c c′ : ℕ} {ns ns′ : List ℤ} {rs rs′ s s′ : List ℕ} →
+    outcome (answer r n t 0 c) ns rs s ≡ coarsenOut g n0 marks → outcome (answer r′ n′ t′ 0 c′) ns′ rs′ s′ ≡ coarsenOut g n0 marks →
+    (r ≡ r′) × (n ≡ n′) × (t ≡ t′) × (c ≡ c′) × (ns ≡ ns′) × (rs ≡ rs′) × (s ≡ s′)
+exported-coarsen-one g n0 marks p q = let (r, n, t, k, c, ns, rs, s) = one-seen p q in (r, n, t, c, ns, rs, s)
 
-pub exported-restore-one : (g : Given) (n0 : ℕ) {r r′ n n′ t t′ p p′ : ℕ} {ns ns′ : List ℤ} {rs rs′ s s′ : List ℕ} →
-    outcome (answer r n t p) ns rs s ≡ restoreOut g n0 → outcome (answer r′ n′ t′ p′) ns′ rs′ s′ ≡ restoreOut g n0 →
-    (r ≡ r′) × (n ≡ n′) × (t ≡ t′) × (p ≡ p′) × (ns ≡ ns′) × (rs ≡ rs′) × (s ≡ s′)
+pub exported-restore-one : (g : Given) (n0 : ℕ) {r r′ n n′ t t′ p p′ c c′ : ℕ} {ns ns′ : List ℤ} {rs rs′ s s′ : List ℕ} →
+    outcome (answer r n t p c) ns rs s ≡ restoreOut g n0 → outcome (answer r′ n′ t′ p′ c′) ns′ rs′ s′ ≡ restoreOut g n0 →
+    (r ≡ r′) × (n ≡ n′) × (t ≡ t′) × (p ≡ p′) × (c ≡ c′) × (ns ≡ ns′) × (rs ≡ rs′) × (s ≡ s′)
 exported-restore-one g n0 = one-seen

@@ -50,7 +50,7 @@ pub record Restorable (base m : Mesh) : Type 0 where
   -- while added nodes remain a full pass removes at least one node
   pub pass-takes-one : length (base .nodes) < length (m .nodes) → length (pass (length (base .nodes)) m .nodes) < length (m .nodes)
   -- restore is not refused, and ends with the base
-  pub back-to-base : restores (length (base .nodes)) m ≡ record { number = 0; after = base; passes = restored (length (base .nodes)) m .passes }
+  pub back-to-base : restores (length (base .nodes)) m ≡ record { number = 0; after = base; passes = restored (length (base .nodes)) m .passes; culprit = 0 }
   -- after no more passes than nodes were added
   pub passes-bounded : restored (length (base .nodes)) m .passes + length (base .nodes) ≤ length (m .nodes)
   -- each of which removed a node
@@ -86,7 +86,7 @@ demand3 base ok {m} r =
     record {
       pass-takes-one = pass-removes base G;
       back-to-base = ap (λ (k : ℕ). says k m (restored n₀ m .end) (restored n₀ m .passes)) (lawful-refusal m (G .lawful))
-          ∙ (λ i. record { number = 0; after = restored-base base G i; passes = restored n₀ m .passes });
+          ∙ (λ i. record { number = 0; after = restored-base base G i; passes = restored n₀ m .passes; culprit = 0 });
       passes-bounded = restored-passes n₀ m (G .lawful) (G .grown .enough);
       passes-remove = subst (Removals n₀ m (restored n₀ m .passes)) (restored-base base G) (removals (restored-is n₀ m));
     }

@@ -1,4 +1,4 @@
--- 1 to 7, which every call judges first: the number, and what its absence tells. Assumes nothing.
+-- 1 to 7, which every call judges first: the number and where, and what its absence tells. Assumes nothing.
 use mathlib.Core.Path.{_≡_, sym, _∙_}
 use mathlib.Core.Bool.{Bool, true, false, not}
 use mathlib.Core.List.{List}
@@ -13,9 +13,9 @@ use Rattle.lists.specs.ListsLaw.{and-left}
 use Rattle.lists.specs.Search.{items}
 use Rattle.meaning.specs.declared.Fault.{Fault}
 use Rattle.meaning.specs.Mesh.{Mesh, mesh}
-use Rattle.meaning.specs.Lawful.{Lawful, faultOf, refusal}
+use Rattle.meaning.specs.Lawful.{Lawful, fault, faultOf, refusal}
 use Rattle.meaning.specs.Tables.{Given, given, meshOf, rowAt, placeAt}
-use Rattle.meaning.specs.Calls.{unless, marksFit, sizesFit}
+use Rattle.meaning.specs.Calls.{marksFit, sizesFit}
 use Rattle.laws.specs.Lawful.{refusal-lawful}
 use Rattle.laws.specs.CallLaw.{Sizes, sizes-exact}
 use Rattle.tables.specs.Sized.{Sized, indexAt}
@@ -29,8 +29,8 @@ meshIn nodes rows n t = mesh (items (placeAt nodes) 0 n) (items (rowAt rows) 0 t
 
 -- ---- 1 to 7, where k marks are wanted
 
-unfoldable pub early : Given → ℕ → ℕ → List ℕ → ℕ
-early g n0 k marks = cases (sizesFit g n0) (unless (marksFit k marks) 2 (refusal (meshOf g))) 1
+unfoldable pub early : Given → ℕ → ℕ → List ℕ → Fault
+early g n0 k marks = cases (sizesFit g n0) (cases (marksFit k marks) (faultOf (meshOf g)) (fault 2 0)) (fault 1 0)
 
 -- after 0: the mesh is lawful, tables and marks fit, scratch holds notes of 0 and the index of all rows
 pub record Admitted (nodes : List ℤ) (rows scratch marks : List ℕ) (k n t : ℕ) : Type 0 where
@@ -48,7 +48,7 @@ module _ (nodes : List ℤ) (rows s marks : List ℕ) (k n0 n t : ℕ) (b : Bool
   fits-are : sizesFit (given nodes rows s n t) n0 ≡ b
   fits-are = sym (e ∙ fitting-is nodes rows s n0 n t)
 
-  pub early-one : not b ≡ true → 1 ≡ early (given nodes rows s n t) n0 k marks
+  pub early-one : not b ≡ true → fault 1 0 ≡ early (given nodes rows s n t) n0 k marks
   unfolding early
   early-one h = rw (fits-are, not-true b h)
 
@@ -66,11 +66,11 @@ module _ (nodes : List ℤ) (rows s marks : List ℕ) (k n0 n t : ℕ) (b : Bool
     fits-rows = omega (arith, all-fit .t-fits)
 
     module _ (c : Bool) (q : c ≡ marksFit k marks) where
-      early-on : early (given nodes rows s n t) n0 k marks ≡ unless c 2 (refusal (meshOf (given nodes rows s n t)))
+      early-on : early (given nodes rows s n t) n0 k marks ≡ cases c (faultOf (meshOf (given nodes rows s n t))) (fault 2 0)
       unfolding early
       early-on = rw (fits-are, not-false b h, ← q)
 
-      pub early-two : not c ≡ true → 2 ≡ early (given nodes rows s n t) n0 k marks
+      pub early-two : not c ≡ true → fault 2 0 ≡ early (given nodes rows s n t) n0 k marks
       early-two y = sym (early-on ∙ rw (not-true c y))
 
       module _ (y : not c ≡ false) (f : Fault) (d : f ≡ faultOf (meshOf (given nodes rows s n t))) where
@@ -78,8 +78,8 @@ module _ (nodes : List ℤ) (rows s marks : List ℕ) (k n0 n t : ℕ) (b : Bool
         unfolding refusal
         refusal-is = rw d
 
-        pub early-fault : f .number ≡ early (given nodes rows s n t) n0 k marks
-        early-fault = sym (early-on ∙ rw (not-false c y) refusal-is)
+        pub early-fault : f ≡ early (given nodes rows s n t) n0 k marks
+        early-fault = sym (early-on ∙ rw (not-false c y) (sym d))
 
         pub admitted : (s′ : List ℕ) → length s′ ≡ length s → Judged f s′ (length nodes / 2) rows t → f .number ≡ 0 → Admitted nodes rows s′ marks k n t
         unfolding meshOf

@@ -3,56 +3,104 @@
 use mathlib.Core.Path.{_≡_, refl, sym, ap, _∙_}
 use mathlib.Core.Bool.{Bool, true, false}
 use mathlib.Core.List.{List}
+use mathlib.Core.Logic.{_≢_}
 use Prim.Native.Nat.{ℕ, zero, suc}
+use native.Mathlib.Omega.{arith}
+use borrow.Author.Tests.{eq-eqb, ne-eqb}
 use lib.IntN.{ℤ, pos}
 use lib.ListN.{length, replicate, length-replicate}
 use Rattle.lists.specs.Lists.{cases}
 use Rattle.meaning.specs.declared.Answer.{Answer}
 use Rattle.meaning.specs.Mesh.{Mesh}
-use Rattle.meaning.specs.Lawful.{refusal}
+use Rattle.meaning.specs.declared.Fault.{Fault}
+use Rattle.meaning.specs.Lawful.{fault, faultOf, refusal}
 use Rattle.meaning.specs.Tables.{Given, given, Outcome, outcome, answer, meshOf, flatNodes, flatRows, filled}
-use Rattle.meaning.specs.Calls.{Reply, says, unless, orElse, marksFit, sizesFit, untouched, leavesBy, leaves, sized}
+use Rattle.meaning.specs.Calls.{Reply, carried, says, unless, orElse, marksFit, sizesFit, untouched, leavesBy, leaves, sized}
+use Rattle.laws.specs.Lawful.{applies-from-3}
 use Rattle.judging.specs.Sizes.{fitting, fitting-is}
 use Rattle.judging.specs.Judge.{early}
 
--- ---- the number of a call, and what it leaves
+-- ---- what a call says in the end, and what it leaves
 
--- the first of two that is not 0
-pub first-of : (j late : ℕ) → (j ≡ 0 → ⊥) → j ≡ orElse j late
-first-of zero late o = absurd (o refl)
-first-of (suc j) late o = refl
+-- what was judged first, or else the number of what is the call's own
+abbrev orLateBy : ℕ → Fault → ℕ → Fault
+orLateBy zero f late = fault late 0
+orLateBy (suc j) f late = f
 
-module _ (g : Given) (n0 k : ℕ) (marks : List ℕ) (late : ℕ) where
-  -- 1 comes first, and then 2
-  pub number-late : cases (sizesFit g n0) (unless (marksFit k marks) 2 (orElse (refusal (meshOf g)) late)) 1 ≡ orElse (early g n0 k marks) late
-  unfolding early
-  number-late = go (sizesFit g n0) (marksFit k marks)
+abbrev pub orLate : Fault → ℕ → Fault
+orLate f late = orLateBy (f .number) f late
+
+pub first-of : (f : Fault) (late : ℕ) → (f .number ≡ 0 → ⊥) → f ≡ orLate f late
+first-of f late o = go (f .number) refl
+  where
+    go : (j : ℕ) → f .number ≡ j → f ≡ orLateBy j f late
+    go zero e = absurd (o e)
+    go (suc j) e = refl
+
+-- the number that a mesh draws carries its node or row, and no other carries one
+culprit-own : (m : Mesh) (k : ℕ) → refusal m ≡ k → carried m k ≡ faultOf m .at
+unfolding carried
+culprit-own m k e = rw (e, eq-eqb k k refl)
+
+culprit-other : (m : Mesh) (k : ℕ) → k ≢ refusal m → carried m k ≡ 0
+unfolding carried
+culprit-other m k o = rw (ne-eqb k (refusal m) o)
+
+-- what a call leaves that wants k marks and judges `late` at last: 1 comes first, and then 2
+module _ (g : Given) (n0 k : ℕ) (marks : List ℕ) (late : ℕ) (after : Mesh) where
+  abbrev pub left : Outcome
+  left = sized g n0 (leaves g (says (unless (marksFit k marks) 2 (orElse (refusal (meshOf g)) late)) (meshOf g) after 0))
+
+  left-late : left ≡ leavesBy g (orLate (early g n0 k marks) late .number) after 0 (orLate (early g n0 k marks) late .at)
+  unfolding early refusal
+  left-late = go (sizesFit g n0) (marksFit k marks) (refusal (meshOf g)) refl
     where
-      go : (b c : Bool) → cases b (unless c 2 (orElse (refusal (meshOf g)) late)) 1 ≡ orElse (cases b (unless c 2 (refusal (meshOf g))) 1) late
-      go true true = refl
-      go true false = refl
-      go false c = refl
+      one-of : (b c : Bool) → Fault
+      one-of b c = cases b (cases c (faultOf (meshOf g)) (fault 2 0)) (fault 1 0)
 
-  pub leaves-late : (after : Mesh) → sized g n0 (leaves g (says (unless (marksFit k marks) 2 (orElse (refusal (meshOf g)) late)) (meshOf g) after 0)) ≡
-      leavesBy g (orElse (early g n0 k marks) late) after 0
-  leaves-late after = go (sizesFit g n0) (unless (marksFit k marks) 2 (orElse (refusal (meshOf g)) late)) ∙ ap (λ (j : ℕ). leavesBy g j after 0) number-late
-    where
-      go : (b : Bool) (j : ℕ) → cases b (leaves g (says j (meshOf g) after 0)) (untouched g 1) ≡ leavesBy g (cases b j 1) after 0
-      go true zero = refl
-      go true (suc j) = refl
-      go false j = refl
+      at-last : (late : ℕ) → refusal (meshOf g) ≡ 0 → leaves g (says late (meshOf g) after 0) ≡ leavesBy g late after 0 0
+      at-last zero q = refl
+      at-last (suc j) q = ap (untouched g (suc j)) (culprit-other (meshOf g) (suc j) (λ e. omega arith))
 
-module _ (nodes : List ℤ) (rows s : List ℕ) (n t : ℕ) (after : Mesh) (z : s ≡ replicate (length s) 0) where
+      go : (b c : Bool) (j : ℕ) → refusal (meshOf g) ≡ j →
+          cases b (leaves g (says (unless c 2 (orElse j late)) (meshOf g) after 0)) (untouched g 1 0) ≡ leavesBy g (orLate (one-of b c) late .number) after 0 (orLate (one-of b c) late .at)
+      go false c j q = refl
+      go true false j q = ap (untouched g 2) (culprit-other (meshOf g) 2 (λ e. omega (arith, applies-from-3 (meshOf g) 2 (sym e) (omega arith))))
+      go true true zero q = at-last late q ∙ rw q
+      go true true (suc j) q = ap (untouched g (suc j)) (culprit-own (meshOf g) (suc j) q) ∙ rw q
+
+-- f is what was judged first
+module _ (nodes : List ℤ) (rows s marks : List ℕ) (n0 n t k late : ℕ) (after : Mesh) (z : s ≡ replicate (length s) 0) (f : Fault) (e : f ≡ early (given nodes rows s n t) n0 k marks) where
+  abbrev end : Outcome
+  end = left (given nodes rows s n t) n0 k marks late after
+
   -- refused: nothing is written
-  pub leaves-refused : (j : ℕ) (r : Answer) → (j ≡ 0 → ⊥) → r ≡ answer j n t 0 → outcome r nodes rows s ≡ leavesBy (given nodes rows s n t) j after 0
-  leaves-refused zero r o e = absurd (o refl)
-  leaves-refused (suc j) r o e = rw e (ap (outcome (answer (suc j) n t 0) nodes rows) z)
+  untouched-is : (j c : ℕ) → (j ≡ 0 → ⊥) → outcome (answer j n t 0 c) nodes rows s ≡ leavesBy (given nodes rows s n t) j after 0 c
+  untouched-is zero c o = absurd (o refl)
+  untouched-is (suc j) c o = ap (outcome (answer (suc j) n t 0 c) nodes rows) z
 
-  -- done: both tables hold the mesh after
-  pub leaves-done : (r : Answer) (a : List ℤ) (b : List ℕ) (n1 t1 : ℕ) → n1 ≡ length (after .nodes) → t1 ≡ length (after .tris) →
-      a ≡ filled (pos 0) (length nodes) (flatNodes (after .nodes)) → b ≡ filled 0 (length rows) (flatRows (after .tris)) → r ≡ answer 0 n1 t1 0 →
-      outcome r a b s ≡ leavesBy (given nodes rows s n t) 0 after 0
-  leaves-done r a b n1 t1 p q x y e = rw (e, x, y, p, q) (ap (outcome _ _ _) z)
+  pub leaves-refused : (r : Answer) → (f .number ≡ 0 → ⊥) → r ≡ answer (f .number) n t 0 (f .at) → outcome r nodes rows s ≡ left (given nodes rows s n t) n0 k marks late after
+  leaves-refused r o h =
+      let g = given nodes rows s n t in
+      let v : f ≡ orLate (early g n0 k marks) late = first-of f late o ∙ ap (λ (x : Fault). orLate x late) e in
+      rw h (untouched-is (f .number) (f .at) o) ∙ ap (λ (x : Fault). leavesBy g (x .number) after 0 (x .at)) v ∙ sym (left-late g n0 k marks late after)
+
+  module _ (y : f .number ≡ 0) where
+    late-is : fault late 0 ≡ orLate (early (given nodes rows s n t) n0 k marks) late
+    late-is = rw (← e, y)
+
+    pub leaves-refused-late : (r : Answer) (j : ℕ) → j ≡ late → (j ≡ 0 → ⊥) → r ≡ answer j n t 0 0 → outcome r nodes rows s ≡ left (given nodes rows s n t) n0 k marks late after
+    leaves-refused-late r j d o h =
+        let g = given nodes rows s n t in
+        rw h (untouched-is j 0 o) ∙ ap (λ (i : ℕ). leavesBy g i after 0 0) d ∙ ap (λ (x : Fault). leavesBy g (x .number) after 0 (x .at)) late-is ∙ sym (left-late g n0 k marks late after)
+
+    -- done: both tables hold the mesh after
+    pub leaves-done : (r : Answer) (a : List ℤ) (b : List ℕ) (n1 t1 : ℕ) → late ≡ 0 → n1 ≡ length (after .nodes) → t1 ≡ length (after .tris) →
+        a ≡ filled (pos 0) (length nodes) (flatNodes (after .nodes)) → b ≡ filled 0 (length rows) (flatRows (after .tris)) → r ≡ answer 0 n1 t1 0 0 →
+        outcome r a b s ≡ left (given nodes rows s n t) n0 k marks late after
+    leaves-done r a b n1 t1 d p q x y h =
+        let g = given nodes rows s n t in
+        rw (h, x, y, p, q) (ap (outcome _ _ _) z) ∙ ap (λ (j : ℕ). leavesBy g j after 0 0) (sym d) ∙ ap (λ (x : Fault). leavesBy g (x .number) after 0 (x .at)) late-is ∙ sym (left-late g n0 k marks late after)
 
 -- ---- scratch before the call does not matter, but for its length
 
@@ -64,11 +112,11 @@ module _ (nodes : List ℤ) (rows s s′ : List ℕ) (n0 n t : ℕ) (e : length 
       rw (fits, f, e)
 
   pub leaves-same : (r : Reply) → sized (given nodes rows s′ n t) n0 (leaves (given nodes rows s′ n t) r) ≡ sized (given nodes rows s n t) n0 (leaves (given nodes rows s n t) r)
-  leaves-same r = sized-same _ _ (go (r .number) (r .after) (r .passes))
+  leaves-same r = sized-same _ _ (go (r .number) (r .after) (r .passes) (r .culprit))
     where
-      go : (k : ℕ) (m : Mesh) (p : ℕ) → leavesBy (given nodes rows s′ n t) k m p ≡ leavesBy (given nodes rows s n t) k m p
-      go zero m p = rw e
-      go (suc k) m p = rw e
+      go : (k : ℕ) (m : Mesh) (p c : ℕ) → leavesBy (given nodes rows s′ n t) k m p c ≡ leavesBy (given nodes rows s n t) k m p c
+      go zero m p c = rw e
+      go (suc k) m p c = rw e
 
 -- scratch is s before the call, s₁ before the work, and s₂ at the end; len is its length after the work
 module _ (s s₁ : List ℕ) (p : s₁ ≡ replicate (length s) 0) where

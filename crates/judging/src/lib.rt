@@ -5,6 +5,7 @@ ghost use Rattle.meaning.specs.Tables.{given, answer};
 ghost use Rattle.judging.specs.Sizes.{fitting};
 ghost use Rattle.judging.specs.Judge.{early, Admitted};
 use meaning::Answer;
+use meaning::Fault;
 
 mod marks; // marks.rt: 2
 
@@ -22,7 +23,7 @@ fn sizes_fit(nl: usize, tl: usize, sl: usize, n0: usize, n: usize, t: usize) -> 
         & (nl / 2 + tl / 3 <= sl / 4)
 }
 
-// The lowest of 1 to 7 that applies, or 0, where k marks are wanted. Scratch is all zero before.
+// The lowest of 1 to 7 that applies, and where; or 0 at 0. k marks are wanted. Scratch is all zero before.
 pub fn judge(
     nodes: &[i32],
     rows: &[u32],
@@ -32,29 +33,42 @@ pub fn judge(
     n0: usize,
     n: usize,
     t: usize,
-) -> u32
+) -> Fault
     requires { ⌜ now scratch ≡ replicate (length (now scratch)) 0 ⌝ }
-    ensures number { λ r. ⌜ r ≡ early (given (now (nodes .entry)) (now (rows .entry)) (now (scratch .entry)) n t) n0 k (now (marks .entry)) ⌝ }
-    ensures admitted { λ r. ⌜ (r ≡ 0 → Admitted (now (nodes .entry)) (now (rows .entry)) (now (scratch .exit)) (now (marks .entry)) k n t) ⌝ }
+    ensures verdict { λ r. ⌜ r ≡ early (given (now (nodes .entry)) (now (rows .entry)) (now (scratch .entry)) n t) n0 k (now (marks .entry)) ⌝ }
+    ensures admitted { λ r. ⌜ (r .number ≡ 0 → Admitted (now (nodes .entry)) (now (rows .entry)) (now (scratch .exit)) (now (marks .entry)) k n t) ⌝ }
 {
     if !sizes_fit(nodes.len(), rows.len(), scratch.len(), n0, n, t) {
-        return 1;
+        return Fault { number: 1, at: 0 };
     }
     if !marks::marks_fit(marks, k) {
-        return 2;
+        return Fault { number: 2, at: 0 };
     }
-    let f = lawful::lowest_fault(nodes, rows, scratch, n, t);
-    f.number
+    lawful::lowest_fault(nodes, rows, scratch, n, t)
 }
 
-// Only restore reports passes.
-pub fn said(number: u32, n: usize, t: usize) -> Answer
-    ensures { λ r. ⌜ r ≡ answer number n t 0 ⌝ }
+// What stands in the way, if anything, with the counts given. Only restore reports passes.
+pub fn said(f: Fault, n: usize, t: usize) -> Answer
+    ensures { λ r. ⌜ r ≡ answer (f .number) n t 0 (f .at) ⌝ }
 {
     Answer {
-        number,
+        number: f.number,
         n,
         t,
         passes: 0,
+        culprit: f.at,
+    }
+}
+
+// Done, with the new counts.
+pub fn done(n: usize, t: usize) -> Answer
+    ensures { λ r. ⌜ r ≡ answer 0 n t 0 0 ⌝ }
+{
+    Answer {
+        number: 0,
+        n,
+        t,
+        passes: 0,
+        culprit: 0,
     }
 }

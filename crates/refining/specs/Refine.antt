@@ -12,15 +12,15 @@ use Rattle.lists.specs.ItemsLaw.{sumTo}
 use Rattle.meaning.specs.declared.Manner.{Manner}
 use Rattle.meaning.specs.Mesh.{Mesh, Edge}
 use Rattle.meaning.specs.Split.{splitEdges, started, wayOf, refined, halves}
-use Rattle.meaning.specs.Tables.{Given, rowAt, placeAt, flatNodes, flatRows, filled}
-use Rattle.meaning.specs.Calls.{unless, orElse, fits}
+use Rattle.meaning.specs.Tables.{rowAt, placeAt, flatNodes, flatRows, filled}
+use Rattle.meaning.specs.Calls.{unless, fits}
 use Rattle.tables.specs.Ready.{Ready}
 use Rattle.notes.specs.Notes.{noteAt}
 use Rattle.notes.specs.Met.{after}
 use Rattle.nodes.specs.Nodes.{Standing, oddAt, placeRow}
 use Rattle.cut.specs.Cutting.{cutAt, addedAt, cutAll, splits}
 use Rattle.refining.specs.declared.Plan.{Plan}
-use Rattle.judging.specs.Judge.{meshIn, early}
+use Rattle.judging.specs.Judge.{meshIn}
 
 -- the split edges of the mesh in the tables
 abbrev pub splitIn : Manner → List ℤ → List ℕ → List ℕ → ℕ → ℕ → List Edge
@@ -59,10 +59,6 @@ lateNumber how nodes rows marks n t =
     unless (all (halves (meshIn nodes rows n t)) (splitIn how nodes rows marks n t)) 8
     (unless (fitsIn how nodes rows marks n t) 9
     0)
-
--- document 01's 1 to 9
-unfoldable pub refineNumber : Manner → Given → ℕ → List ℕ → ℕ
-refineNumber how g n0 marks = orElse (early g n0 (g .t) marks) (lateNumber how (g .nodes) (g .rows) marks (g .n) (g .t))
 
 -- ---- what is carried out
 

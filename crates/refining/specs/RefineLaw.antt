@@ -19,11 +19,12 @@ use Rattle.lists.specs.ItemsLaw.{sumTo}
 use Rattle.meaning.specs.declared.Manner.{Manner}
 use Rattle.meaning.specs.declared.Place.{Place}
 use Rattle.meaning.specs.declared.Answer.{Answer}
+use Rattle.meaning.specs.declared.Fault.{Fault}
 use Rattle.meaning.specs.Mesh.{Mesh, Edge, at, origin}
 use Rattle.meaning.specs.Lawful.{InRange, Named}
 use Rattle.meaning.specs.Split.{bisected, splitEdges, splitAt, split, Way, wayOf, refined, halves}
 use Rattle.meaning.specs.Tables.{given, outcome, answer, roomOf, meshOf, rowAt, placeAt, flatNodes, flatRows, filled}
-use Rattle.meaning.specs.Calls.{unless, refineNo, refines, leavesBy, refineOut}
+use Rattle.meaning.specs.Calls.{unless, refineNo, refines, refineOut}
 use Rattle.tables.specs.Sized.{Corners, indexAt}
 use Rattle.tables.specs.Ready.{Ready}
 use Rattle.notes.specs.Notes.{noteAt}
@@ -42,8 +43,8 @@ use Rattle.cut.specs.Cutting.{cutAt, cutAll, splits}
 use Rattle.cut.specs.MeshLaw.{cut-mesh, count-rows, count-mesh}
 use Rattle.refining.specs.declared.Plan.{Plan}
 use Rattle.judging.specs.Judge.{meshIn, early, Admitted}
-use Rattle.judging.specs.Leaving.{first-of, leaves-late, leaves-refused, leaves-done, leaves-same, call-out}
-use Rattle.refining.specs.Refine.{splitIn, afterIn, fitsIn, planOf, weighed, Weighty, lateNumber, refineNumber, Carry, Pair, bothTables, carried, Planned}
+use Rattle.judging.specs.Leaving.{left, leaves-refused, leaves-refused-late, leaves-done, leaves-same, call-out}
+use Rattle.refining.specs.Refine.{splitIn, afterIn, fitsIn, planOf, weighed, Weighty, lateNumber, Carry, Pair, bothTables, carried, Planned}
 
 -- ---- 8 and 9, by the notes: each test of `weigh` as the code has it
 
@@ -224,17 +225,6 @@ module _ (how : Manner) (nodes : List ℤ) (rows s₀ marks : List ℕ) (n t : �
   pub marks-long : t ≤ length marks
   marks-long = let a = R .marks-fit in omega arith
 
--- ---- 1 to 7, then 8 and 9
-
-module _ (how : Manner) (nodes : List ℤ) (rows s : List ℕ) (n0 n t : ℕ) (marks : List ℕ) (k : ℕ) (e : k ≡ early (given nodes rows s n t) n0 t marks) where
-  pub judge-early : (k ≡ 0 → ⊥) → k ≡ refineNumber how (given nodes rows s n t) n0 marks
-  unfolding refineNumber
-  judge-early o = rw (← e) (first-of k _ o)
-
-  pub judge-late : (r : ℕ) → k ≡ 0 → r ≡ lateNumber how nodes rows marks n t → r ≡ refineNumber how (given nodes rows s n t) n0 marks
-  unfolding refineNumber
-  judge-late r z d = rw (← e, z) d
-
 -- ---- the work: a, b after placing and cutting; c, d after the rest is cleared
 
 module _ (nodes a : List ℤ) (rows s : List ℕ) (n t n1 t1 : ℕ) (C : Carry nodes rows s n t n1 t1) where
@@ -255,23 +245,28 @@ carry-done nodes a c rows b d s n t n1 t1 p la q lb fc fd = rw (fc, fd, q, la, l
 
 -- ---- what the call leaves
 
-module _ (how : Manner) (nodes : List ℤ) (rows s marks : List ℕ) (n0 n t k : ℕ) (z : s ≡ replicate (length s) 0) (e : k ≡ refineNumber how (given nodes rows s n t) n0 marks) where
-  refine-out : leavesBy (given nodes rows s n t) k (afterIn how nodes rows marks n t) 0 ≡ refineOut (wayOf how) (given nodes rows s n t) n0 marks
-  unfolding refineOut refines refineNo refineNumber lateNumber meshOf
-  refine-out = rw (e, length-items (rowAt rows) t) (sym (leaves-late (given nodes rows s n t) n0 t marks (lateNumber how nodes rows marks n t) (afterIn how nodes rows marks n t)))
+-- f is what was judged first, k what was judged at last
+module _ (how : Manner) (nodes : List ℤ) (rows s marks : List ℕ) (n0 n t : ℕ) (z : s ≡ replicate (length s) 0) (f : Fault) (e : f ≡ early (given nodes rows s n t) n0 t marks) where
+  refine-out : left (given nodes rows s n t) n0 t marks (lateNumber how nodes rows marks n t) (afterIn how nodes rows marks n t) ≡ refineOut (wayOf how) (given nodes rows s n t) n0 marks
+  unfolding refineOut refines refineNo lateNumber meshOf
+  refine-out = rw (length-items (rowAt rows) t)
 
-  pub work-refused : (r : Answer) → (k ≡ 0 → ⊥) → r ≡ answer k n t 0 → outcome r nodes rows s ≡ refineOut (wayOf how) (given nodes rows s n t) n0 marks
-  work-refused r o f = leaves-refused nodes rows s n t _ z k r o f ∙ refine-out
+  pub work-refused : (r : Answer) → (f .number ≡ 0 → ⊥) → r ≡ answer (f .number) n t 0 (f .at) → outcome r nodes rows s ≡ refineOut (wayOf how) (given nodes rows s n t) n0 marks
+  work-refused r o h = leaves-refused nodes rows s marks n0 n t t _ _ z f e r o h ∙ refine-out
 
-  pub work-done : (r : Answer) (a : List ℤ) (b s′ : List ℕ) (n1 t1 : ℕ) → k ≡ 0 → (k ≡ 0 → Planned how nodes rows s′ marks n t n1 t1) →
-      bothTables a b ≡ carried nodes rows s′ n t n1 → r ≡ answer 0 n1 t1 0 → outcome r a b s ≡ refineOut (wayOf how) (given nodes rows s n t) n0 marks
-  unfolding carried
-  work-done r a b s′ n1 t1 q f g h =
-      let d = f q in
-      leaves-done nodes rows s n t (afterIn how nodes rows marks n t) z r a b n1 t1 (d .nodes-after) (d .rows-after)
-      (ap (λ (y : Pair). y .nodes) g ∙ ap (λ v. filled (pos 0) (length nodes) (flatNodes v)) (d .nodes-are))
-      (ap (λ (y : Pair). y .rows) g ∙ ap (λ v. filled 0 (length rows) (flatRows v)) (d .rows-are)) h
-      ∙ rw q at refine-out
+  module _ (y : f .number ≡ 0) (k : ℕ) (d : k ≡ lateNumber how nodes rows marks n t) where
+    pub work-refused-late : (r : Answer) → (k ≡ 0 → ⊥) → r ≡ answer k n t 0 0 → outcome r nodes rows s ≡ refineOut (wayOf how) (given nodes rows s n t) n0 marks
+    work-refused-late r o h = leaves-refused-late nodes rows s marks n0 n t t _ _ z f e y r k d o h ∙ refine-out
+
+    pub work-done : (r : Answer) (a : List ℤ) (b s′ : List ℕ) (n1 t1 : ℕ) → k ≡ 0 → (k ≡ 0 → Planned how nodes rows s′ marks n t n1 t1) →
+        bothTables a b ≡ carried nodes rows s′ n t n1 → r ≡ answer 0 n1 t1 0 0 → outcome r a b s ≡ refineOut (wayOf how) (given nodes rows s n t) n0 marks
+    unfolding carried
+    work-done r a b s′ n1 t1 q w g h =
+        let d′ = w q in
+        leaves-done nodes rows s marks n0 n t t _ (afterIn how nodes rows marks n t) z f e y r a b n1 t1 (sym d ∙ q) (d′ .nodes-after) (d′ .rows-after)
+        (ap (λ (y : Pair). y .nodes) g ∙ ap (λ v. filled (pos 0) (length nodes) (flatNodes v)) (d′ .nodes-are))
+        (ap (λ (y : Pair). y .rows) g ∙ ap (λ v. filled 0 (length rows) (flatRows v)) (d′ .rows-are)) h
+        ∙ refine-out
 
 -- by whatever way
 pub refined-call : (w : Way) (nodes a : List ℤ) (rows b s s₁ s₂ marks : List ℕ) (n0 n t len : ℕ) (r : Answer) → s₁ ≡ replicate (length s) 0 →

@@ -5,8 +5,9 @@ ghost use Rattle.meaning.specs.Split.{wayOf};
 ghost use Rattle.meaning.specs.Tables.{given, outcome};
 ghost use Rattle.meaning.specs.Calls.{refineOut};
 ghost use Rattle.judging.specs.Judge.{Admitted};
-ghost use Rattle.refining.specs.Refine.{weighed, Weighty, lateNumber, refineNumber, Planned, Carry, bothTables, carried};
+ghost use Rattle.refining.specs.Refine.{weighed, Weighty, lateNumber, Planned, Carry, bothTables, carried};
 use meaning::Answer;
+use meaning::Fault;
 use meaning::Manner;
 
 // What refine is to do: 0, and the counts of nodes and rows after; or the number of the refusal.
@@ -55,28 +56,6 @@ fn lay_out(
     weigh(nodes, rows, scratch, n, t, k as usize)
 }
 
-// The lowest number that applies, or 0 and what is to be done. Scratch is all zero before.
-fn judge(
-    nodes: &[i32],
-    rows: &[u32],
-    scratch: &mut [u32],
-    marks: &[u8],
-    n0: usize,
-    n: usize,
-    t: usize,
-    manner: Manner,
-) -> Plan
-    requires { ⌜ now scratch ≡ replicate (length (now scratch)) 0 ⌝ }
-    ensures number { λ r. ⌜ r .number ≡ refineNumber manner (given (now (nodes .entry)) (now (rows .entry)) (now (scratch .entry)) n t) n0 (now (marks .entry)) ⌝ }
-    ensures plan { λ r. ⌜ (r .number ≡ 0 → Planned manner (now (nodes .entry)) (now (rows .entry)) (now (scratch .exit)) (now (marks .entry)) n t (r .n) (r .t)) ⌝ }
-{
-    let k = judging::judge(nodes, rows, scratch, marks, t, n0, n, t);
-    if k != 0 {
-        return Plan { number: k, n, t };
-    }
-    lay_out(nodes, rows, scratch, marks, n, t, manner)
-}
-
 // ---- the work
 
 // The new nodes get their places, the rows are cut, and what lies past both counts is zero.
@@ -112,10 +91,21 @@ pub fn work(
     requires { ⌜ now scratch ≡ replicate (length (now scratch)) 0 ⌝ }
     ensures { λ r. ⌜ outcome r (now (nodes .exit)) (now (rows .exit)) (now (scratch .entry)) ≡ refineOut (wayOf manner) (given (now (nodes .entry)) (now (rows .entry)) (now (scratch .entry)) n t) n0 (now (marks .entry)) ⌝ }
 {
-    let p = judge(nodes, rows, scratch, marks, n0, n, t, manner);
+    let f = judging::judge(nodes, rows, scratch, marks, t, n0, n, t);
+    if f.number != 0 {
+        return judging::said(f, n, t);
+    }
+    let p = lay_out(nodes, rows, scratch, marks, n, t, manner);
     if p.number != 0 {
-        return judging::said(p.number, n, t);
+        return judging::said(
+            Fault {
+                number: p.number,
+                at: 0,
+            },
+            n,
+            t,
+        );
     }
     carry_out(nodes, rows, scratch, n, t, p.n, p.t);
-    judging::said(0, p.n, p.t)
+    judging::done(p.n, p.t)
 }

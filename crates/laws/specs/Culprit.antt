@@ -1,15 +1,24 @@
--- W2, "Name the bad row": what the fault of a mesh names is the lowest node or row at fault, and a number names one culprit.
--- Assumes nothing.
+-- W2, "Name the bad row": the fault of a mesh names the lowest node or row at fault; a mesh and a number name one culprit; what a call carries
+-- with its number is that culprit. Assumes nothing.
+use mathlib.Core.Bool.{Bool, true, false}
+use mathlib.Core.List.{List}
 use mathlib.Core.Logic.{_↔_, _⊎_, inl, inr}
 use mathlib.Core.Path.{_≡_, refl, sym, subst, _∙_}
-use Prim.Native.Nat.{ℕ, _≤_, _<_}
+use Prim.Native.Nat.{ℕ, zero, suc, _≤_, _<_}
 use native.Mathlib.Decide.{ℕ-discrete, decLt}
 use native.Mathlib.Omega.{arith}
+use lib.Dec.{eqb}
+use lib.ListN.{length}
+use borrow.Author.Tests.{eqb-true, eqb-false}
 use Rattle.lists.specs.declared.Found.{Found}
 use Rattle.lists.specs.declared.Found.the-variants.{At, Nothing}
+use Rattle.lists.specs.Lists.{all, cases}
 use Rattle.meaning.specs.declared.Fault.{Fault}
 use Rattle.meaning.specs.Mesh.{Mesh}
-use Rattle.meaning.specs.Lawful.{First, Names, firstOutside, firstMisnamed, firstRepeat, firstFlat, firstUnused, orLater, faultOf}
+use Rattle.meaning.specs.Lawful.{First, Names, firstOutside, firstMisnamed, firstRepeat, firstFlat, firstUnused, orLater, faultOf, refusal, compatible}
+use Rattle.meaning.specs.Split.{Way, splitEdges, started, halves, refined}
+use Rattle.meaning.specs.Tables.{Room}
+use Rattle.meaning.specs.Calls.{carried, unless, orElse, marksFit, fits, checkNo, refineNo, coarsenNo}
 use Rattle.laws.specs.Faults.{first-3, first-4, first-5, first-6, first-7}
 
 -- a number that names nobody
@@ -128,3 +137,58 @@ names-one {k = k} {y = y} {z = z} a b = go (ℕ-discrete k 3) (ℕ-discrete k 4)
 -- So what names a culprit names no other.
 pub names-exact : {m : Mesh} {k y : ℕ} → Names m k y → (z : ℕ) → (y ≡ z) ↔ Names m k z
 names-exact {m} {k} a z = (λ e. subst (Names m k) e a, λ b. names-one a b)
+
+-- ---- what a call carries
+
+-- the number is due to the mesh itself, or names nobody
+abbrev pub Due : Mesh → ℕ → Type 0
+Due m k = (k ≡ refusal m) ⊎ Other k
+
+-- WHAT A NUMBER CARRIES IS WHAT IT NAMES.
+pub carried-names : (m : Mesh) (k : ℕ) → Due m k → Names m k (carried m k)
+unfolding carried refusal
+carried-names m k due = go (eqb k (faultOf m .number)) refl due
+  where
+    go : (b : Bool) → eqb k (faultOf m .number) ≡ b → Due m k → Names m k (cases b (faultOf m .at) 0)
+    go true q d = subst (λ j. Names m j (faultOf m .at)) (sym (eqb-true k (faultOf m .number) q)) (fault-names m)
+    go false q (inl e) = absurd (eqb-false k (faultOf m .number) q e)
+    go false q (inr o) = names-nobody m k o
+
+-- "All other answers, later numbers too, carry 0 there."
+pub carried-0 : (m : Mesh) (k : ℕ) → Other k → carried m k ≡ 0
+carried-0 m k o = carried-names m k (inr o) .names-none o
+
+module _ (m : Mesh) where
+  unless-due : (b : Bool) (k later : ℕ) → Other k → Due m later → Due m (unless b k later)
+  unless-due true k later o d = d
+  unless-due false k later o d = inr o
+
+  or-else-due : (later : ℕ) → Due m later → Due m (orElse (refusal m) later)
+  or-else-due later d = go (refusal m) refl
+    where
+      go : (k : ℕ) → refusal m ≡ k → Due m (orElse k later)
+      go zero e = d
+      go (suc k) e = inl (sym e)
+
+  done-due : Due m 0
+  done-due = inr (inl (omega arith))
+
+  pub check-due : Due m (checkNo m)
+  unfolding checkNo
+  check-due = or-else-due _ (unless-due (compatible m) 10 0 (inr (omega arith)) done-due)
+
+  pub restore-due : Due m (refusal m)
+  restore-due = inl refl
+
+  pub coarsen-due : (marks : List ℕ) → Due m (coarsenNo m marks)
+  unfolding coarsenNo
+  coarsen-due marks = unless-due (marksFit (length (m .nodes)) marks) 2 _ (inl (omega arith)) restore-due
+
+  pub refine-due : (w : Way) (room : Room) (marks : List ℕ) → Due m (refineNo w room m marks)
+  unfolding refineNo
+  refine-due w room marks =
+      unless-due (marksFit (length (m .tris)) marks) 2 _ (inl (omega arith))
+      (or-else-due _
+      (unless-due (all (halves m) (splitEdges m (started w marks (m .tris)))) 8 _ (inr (omega arith))
+      (unless-due (fits room (refined w m marks)) 9 0 (inr (omega arith))
+      done-due)))

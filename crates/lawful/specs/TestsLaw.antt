@@ -14,7 +14,7 @@ use Rattle.meaning.specs.declared.Place.{Place}
 use Rattle.meaning.specs.declared.Tri.{Tri}
 use Rattle.meaning.specs.Lawful.{InRange, Named}
 use Rattle.meaning.specs.Tables.{placeAt, rowAt}
-use Rattle.laws.specs.Lawful.{in-range, named-yes}
+use Rattle.laws.specs.Faults.{in-range, named-yes}
 use Rattle.tables.specs.Arrow.{arrowAt}
 use Rattle.tables.specs.Sized.{Corners}
 use Rattle.lawful.specs.Tests.{outsideAt, misnamedAt, markStep, clashWith, clashAt}

@@ -1,163 +1,28 @@
 -- The number that refuses a mesh is the lowest of 3 to 7 that applies, and 0 exactly for lawful meshes; 10 is given exactly for
--- labellings that are not compatible. Each test is tied to its fact; the chain of tests to the lowest number. Assumes nothing.
+-- labellings that are not compatible. Assumes nothing.
 use mathlib.Core.Bool.{Bool, true, false, not, _&&_, _||_}
-use mathlib.Core.List.{List, [], _∷_, _++_, List·Memᴰ, List·Memᴰ·head, List·Memᴰ·tail}
-use mathlib.Core.Logic.{_↔_, _≢_}
+use mathlib.Core.List.{List, [], _∷_}
+use mathlib.Core.Logic.{_↔_}
 use mathlib.Core.Path.{_≡_, refl, sym, subst, subst⁻¹, ap, _∙_}
-use Prim.Native.Nat.{ℕ, zero, suc, _+_, _≤_, _<_}
+use Prim.Native.Nat.{ℕ, zero, suc, _≤_, _<_}
 use native.Mathlib.Decide.{ℕ-discrete}
 use native.Mathlib.Omega.{arith}
-use lib.Dec.{eqb, leb}
-use lib.IntN.{ℤ, pos, natAbs}
-use lib.Signed.{ltZ, _<ℤ_}
-use lib.ListN.{length, getD, take}
-use borrow.Author.Tests.{eqb-true, eqb-false, ne-eqb, eq-eqb, leb-true, leb-false, le-leb, lt-leb, not-false}
-use Rattle.whole.specs.Tests.{ltZ-true, ltZ-false, lt-ltZ}
-use Rattle.whole.specs.Order.{lt-not-le}
+use lib.IntN.{pos}
+use lib.Signed.{_<ℤ_}
+use lib.ListN.{length}
+use borrow.Author.Tests.{not-false}
 use Rattle.lists.specs.declared.Found.{Found}
 use Rattle.lists.specs.declared.Found.the-variants.{At, Nothing}
-use Rattle.lists.specs.Lists.{any, count, sucIf, joined, whereFirst, isFound, All, nil, cons}
-use Rattle.lists.specs.ListsLaw.{clash, and-left, and-right, or-left, or-right, or-no, All-imp, All-at, All-of, All-getD, any-at, any-row, any-none, where-found, where-none}
-use Rattle.lists.specs.MembersLaw.{mem-at, at-mem, any-count, count-some}
-use Rattle.lists.specs.Tally.{tally, tally-zero, tally-at}
-use Rattle.lists.specs.Search.{lowest}
-use Rattle.lists.specs.SearchLaw.{lowest-below, lowest-true, lowest-nothing, at-some}
-use Rattle.meaning.specs.declared.Place.{Place}
+use Rattle.lists.specs.Lists.{count, joined, whereFirst, isFound, All, nil, cons}
+use Rattle.lists.specs.ListsLaw.{clash, All-imp, All-getD, any-none, where-none}
+use Rattle.lists.specs.SearchLaw.{lowest-below, lowest-true}
+use Rattle.lists.specs.ByNumberLaw.{where-lowest}
 use Rattle.meaning.specs.declared.Tri.{Tri}
 use Rattle.meaning.specs.declared.Fault.{Fault}
-use Rattle.meaning.specs.Mesh.{Mesh, Arrow, Edge, tri, arrow, arrows, base, origin, at, sameArrow, sameEdge, holdsNode, holdsArrow, holdsEdge, twiceArea}
-use Rattle.meaning.specs.Lawful.{InRange, Named, Lawful, Compatible, Applies, out-of-range, misnames, occurs-twice, not-above, in-none, Lowest, far, outside, misnamed, rowOf, repeats, flat, unused, clashes, firstOutside, firstMisnamed, firstRepeat, firstFlat, firstUnused, firstClash, fault, orLater, faultOf, refusal, compatible}
-use Rattle.laws.specs.Edges.{sameEdge-eq, sameEdge-refl, sameArrow-eq, hit, hits, count-arrows, hit-no, arrow-eq, eq-arrow, not-held, held-hit}
-
--- ---- 3
-
-near : (z : ℤ) → far z ≡ false → natAbs z ≤ 1_048_576
-near z e = leb-true (natAbs z) 1_048_576 (not-false (leb (natAbs z) 1_048_576) e)
-
-pub in-range : (a : Place) → outside a ≡ false → InRange a
-in-range a e = let h = or-no (far (a .x)) (far (a .y)) e in record { x-near = near (a .x) (h .0); y-near = near (a .y) (h .1) }
-
-range-in : (a : Place) → InRange a → outside a ≡ false
-range-in a h = rw (le-leb _ _ (h .x-near), le-leb _ _ (h .y-near))
-
--- ---- 4
-
-pub named-yes : (n : ℕ) (t : Tri) → misnamed n t ≡ false → Named n t
-named-yes n t e =
-    let a = or-no (leb n (t .p) || leb n (t .q) || leb n (t .r) || eqb (t .p) (t .q) || eqb (t .q) (t .r)) (eqb (t .r) (t .p)) e in
-    let b = or-no (leb n (t .p) || leb n (t .q) || leb n (t .r) || eqb (t .p) (t .q)) (eqb (t .q) (t .r)) (a .0) in
-    let c = or-no (leb n (t .p) || leb n (t .q) || leb n (t .r)) (eqb (t .p) (t .q)) (b .0) in
-    let d = or-no (leb n (t .p) || leb n (t .q)) (leb n (t .r)) (c .0) in
-    let f = or-no (leb n (t .p)) (leb n (t .q)) (d .0) in
-    record {
-      p-below = leb-false n (t .p) (f .0);
-      q-below = leb-false n (t .q) (f .1);
-      r-below = leb-false n (t .r) (d .1);
-      p≢q = eqb-false (t .p) (t .q) (c .1);
-      q≢r = eqb-false (t .q) (t .r) (b .1);
-      r≢p = eqb-false (t .r) (t .p) (a .1);
-    }
-
-yes-named : (n : ℕ) (t : Tri) → Named n t → misnamed n t ≡ false
-yes-named n t h =
-    simp (lt-leb _ _ (h .p-below), lt-leb _ _ (h .q-below), lt-leb _ _ (h .r-below), ne-eqb _ _ (h .p≢q), ne-eqb _ _ (h .q≢r), ne-eqb _ _ (h .r≢p))
-
--- ---- 5
-
--- the three arrows of a row that names three nodes differ
-hit-most : (e : Arrow) (a b : ℕ) → hit e a b ≤ 1
-unfolding hit
-hit-most e a b = go (sameArrow e (arrow a b))
-  where
-    go : (b : Bool) → sucIf b 0 ≤ 1
-    go true = omega arith
-    go false = omega arith
-
-hit-once : (n : ℕ) (e : Arrow) (t : Tri) → Named n t → hits e t ≤ 1
-hit-once n e t h = go (eqb (e .from) (t .p)) refl (eqb (e .from) (t .q)) refl
-  where
-    go : (a : Bool) → eqb (e .from) (t .p) ≡ a → (b : Bool) → eqb (e .from) (t .q) ≡ b → hits e t ≤ 1
-    go true p b q =
-        let k = eqb-true (e .from) (t .p) p in
-        let x = hit-no e (t .q) (t .r) (λ w z. h .p≢q (sym k ∙ w)) in
-        let y = hit-no e (t .r) (t .p) (λ w z. h .r≢p (sym w ∙ k)) in
-        omega (arith, hit-most e (t .p) (t .q))
-    go false p true q =
-        let k = eqb-true (e .from) (t .q) q in
-        let x = hit-no e (t .p) (t .q) (λ w z. eqb-false (e .from) (t .p) p w) in
-        let y = hit-no e (t .r) (t .p) (λ w z. h .q≢r (sym k ∙ w)) in
-        omega (arith, hit-most e (t .q) (t .r))
-    go false p false q =
-        let x = hit-no e (t .p) (t .q) (λ w z. eqb-false (e .from) (t .p) p w) in
-        let y = hit-no e (t .q) (t .r) (λ w z. eqb-false (e .from) (t .q) q w) in
-        omega (arith, hit-most e (t .r) (t .p))
-
--- no row has an arrow that a lower row has
-NoRepeat : List Tri → Type 0
-NoRepeat ts = (i : ℕ) → i < length ts → repeats ts i ≡ false
-
--- an arrow of the first row is in no later row
-later-free : (t : Tri) (ts : List Tri) → NoRepeat (t ∷ ts) → (e : Arrow) → holdsArrow e t ≡ true → All (λ u. holdsArrow e u ≡ false) ts
-unfolding NoRepeat
-later-free t ts h e k = All-of ts λ u j.
-    let r = mem-at (tri 0 0 0) j in
-    let free = any-none (λ d. any (holdsArrow d) (take (suc (r .0)) (t ∷ ts))) (arrows (rowOf ts (r .0))) (h (suc (r .0)) (omega (arith, r .1))) in
-    subst (λ v. holdsArrow e v ≡ false) (r .2) (go (take (r .0) ts) (rowOf ts (r .0)) free (holdsArrow e (rowOf ts (r .0))) refl)
-  where
-    go : (us : List Tri) (v : Tri) → All (λ d. any (holdsArrow d) (t ∷ us) ≡ false) (arrows v) → (b : Bool) → holdsArrow e v ≡ b → b ≡ false
-    go us v free true q =
-        let s = any-row (sameArrow e) (arrows v) q in
-        let z = or-no (holdsArrow (s .0) t) (any (holdsArrow (s .0)) us) (All-at free (s .1)) .0 in
-        clash (sym k ∙ ap (λ d. holdsArrow d t) (sameArrow-eq e (s .0) (s .2)) ∙ z)
-    go us v free false q = refl
-
-rest-free : (t : Tri) (ts : List Tri) → NoRepeat (t ∷ ts) → NoRepeat ts
-unfolding NoRepeat
-rest-free t ts h i l =
-    any-all-false (arrows (rowOf ts i)) (any-none (λ d. any (holdsArrow d) (take (suc i) (t ∷ ts))) (arrows (rowOf ts i)) (h (suc i) (omega arith)))
-  where
-    any-all-false : (es : List Arrow) → All (λ d. holdsArrow d t || any (holdsArrow d) (take i ts) ≡ false) es → any (λ d. any (holdsArrow d) (take i ts)) es ≡ false
-    any-all-false [] nil = refl
-    any-all-false (d ∷ es) (cons p ps) = rw (or-no (holdsArrow d t) (any (holdsArrow d) (take i ts)) p .1, any-all-false es ps)
-
-once-hit : (n : ℕ) (ts : List Tri) → All (Named n) ts → NoRepeat ts → (e : Arrow) → tally (hits e) ts ≤ 1
-once-hit n [] named h e = omega arith
-once-hit n (t ∷ ts) (cons p ps) h e = go (holdsArrow e t) refl (once-hit n ts ps (rest-free t ts h) e)
-  where
-    go : (b : Bool) → holdsArrow e t ≡ b → tally (hits e) ts ≤ 1 → hits e t + tally (hits e) ts ≤ 1
-    go true q below =
-        let z = tally-zero (hits e) (All-imp (λ u f. not-held e u f) (later-free t ts h e q)) in
-        omega (arith, hit-once n e t p)
-    go false q below = omega (arith, not-held e t q)
-
--- a row with an arrow of a lower row: that arrow occurs twice
-take-tally : (f : Tri → ℕ) (ts : List Tri) (i : ℕ) → i < length ts → tally f (take i ts) + f (rowOf ts i) ≤ tally f ts
-take-tally f [] i h = absurd (omega arith)
-take-tally f (t ∷ ts) zero h = omega arith
-take-tally f (t ∷ ts) (suc i) h = omega (arith, take-tally f ts i (omega arith))
-
-repeat-twice : (ts : List Tri) (i : ℕ) → i < length ts → repeats ts i ≡ true → (e : Arrow) × (2 ≤ count (sameArrow e) (joined arrows ts))
-repeat-twice ts i h t =
-    let r = any-row (λ d. any (holdsArrow d) (take i ts)) (arrows (rowOf ts i)) t in
-    let e = r .0 in
-    let s = any-row (holdsArrow e) (take i ts) (r .2) in
-    let a = tally-at (hits e) (s .1) in
-    let b = held-hit e (s .0) (s .2) in
-    let c = held-hit e (rowOf ts i) (any-at (sameArrow e) (same-self e) (r .1)) in
-    let d = take-tally (hits e) ts i h in
-    let f = count-arrows e ts in
-    (e, omega arith)
-  where
-    same-self : (e : Arrow) → sameArrow e e ≡ true
-    same-self e = eq-arrow e (e .from) (e .to) refl refl
-
--- ---- 7
-
-used-some : (ts : List Tri) (z : ℕ) → unused ts z ≡ false → 1 ≤ count (holdsNode z) ts
-used-some ts z e = any-count (holdsNode z) ts (not-false (any (holdsNode z) ts) e)
-
-some-used : (ts : List Tri) (z : ℕ) → 1 ≤ count (holdsNode z) ts → unused ts z ≡ false
-some-used ts z h = let r = count-some (holdsNode z) ts h in ap not (any-at (holdsNode z) (r .2) (r .1))
+use Rattle.meaning.specs.Mesh.{Mesh, Arrow, tri, arrows, base, origin, at, sameArrow, sameEdge, holdsNode, holdsEdge, twiceArea}
+use Rattle.meaning.specs.Lawful.{InRange, Named, Lawful, Compatible, Applies, out-of-range, misnames, occurs-twice, not-above, in-none, Lowest, rowOf, clashes, firstOutside, firstMisnamed, firstRepeat, firstFlat, firstUnused, firstClash, orLater, faultOf, refusal, compatible}
+use Rattle.laws.specs.Edges.{sameEdge-eq, sameEdge-refl}
+use Rattle.laws.specs.Faults.{first-3, first-4, first-5, first-6, first-7, none-3, none-4, none-5, none-6, none-7, repeat-twice}
 
 -- ---- the chain
 
@@ -189,60 +54,23 @@ at-most-7 (occurs-twice e h) = omega arith
 at-most-7 (not-above i l f) = omega arith
 at-most-7 (in-none z l f) = omega arith
 
--- ---- each search found something exactly if its number applies
+-- ---- what is found applies
 
 module _ (m : Mesh) where
   found-3 : (i : ℕ) → firstOutside m ≡ At i → Applies m 3
-  unfolding firstOutside
-  found-3 i e = let h = where-found outside (m .nodes) origin i e in out-of-range i (h .0) (λ r. clash (sym (h .1) ∙ range-in (at m i) r))
-
-  none-3 : firstOutside m ≡ Nothing → All InRange (m .nodes)
-  unfolding firstOutside
-  none-3 e = All-imp in-range (where-none outside (m .nodes) e)
+  found-3 i e = let h = first-3 m i e in out-of-range i (h .below) (h .at-fault)
 
   found-4 : (i : ℕ) → firstMisnamed m ≡ At i → Applies m 4
-  unfolding firstMisnamed
-  found-4 i e =
-      let h = where-found (misnamed (length (m .nodes))) (m .tris) (tri 0 0 0) i e in
-      misnames i (h .0) (λ r. clash (sym (h .1) ∙ yes-named (length (m .nodes)) (rowOf (m .tris) i) r))
-
-  none-4 : firstMisnamed m ≡ Nothing → All (Named (length (m .nodes))) (m .tris)
-  unfolding firstMisnamed
-  none-4 e = All-imp (named-yes (length (m .nodes))) (where-none (misnamed (length (m .nodes))) (m .tris) e)
+  found-4 i e = let h = first-4 m i e in misnames i (h .below) (h .at-fault)
 
   found-5 : (i : ℕ) → firstRepeat m ≡ At i → Applies m 5
-  unfolding firstRepeat
-  found-5 i e =
-      let r = repeat-twice (m .tris) i (lowest-below (repeats (m .tris)) (length (m .tris)) i e) (lowest-true (repeats (m .tris)) (length (m .tris)) i e) in
-      occurs-twice (r .0) (r .1)
-
-  none-5 : All (Named (length (m .nodes))) (m .tris) → firstRepeat m ≡ Nothing → (e : Arrow) → count (sameArrow e) (joined arrows (m .tris)) ≤ 1
-  unfolding firstRepeat NoRepeat
-  none-5 named f e =
-      let h = once-hit (length (m .nodes)) (m .tris) named (λ i l. lowest-nothing (repeats (m .tris)) (length (m .tris)) i f l) e in
-      omega (arith, count-arrows e (m .tris))
+  found-5 i e = let h = first-5 m i e in occurs-twice (h .at-fault .edge) (repeat-twice (m .tris) i (h .below) (h .at-fault))
 
   found-6 : (i : ℕ) → firstFlat m ≡ At i → Applies m 6
-  unfolding firstFlat
-  found-6 i e =
-      let h = where-found (flat m) (m .tris) (tri 0 0 0) i e in
-      not-above i (h .0) (λ r. clash (sym (h .1) ∙ ap not (lt-ltZ (pos 0) (twiceArea m (rowOf (m .tris) i)) r)))
-
-  none-6 : firstFlat m ≡ Nothing → All (λ t. pos 0 <ℤ twiceArea m t) (m .tris)
-  unfolding firstFlat
-  none-6 e = All-imp (λ t q. ltZ-true (pos 0) (twiceArea m t) (not-false _ q)) (where-none (flat m) (m .tris) e)
+  found-6 i e = let h = first-6 m i e in not-above i (h .below) (h .at-fault)
 
   found-7 : (i : ℕ) → firstUnused m ≡ At i → Applies m 7
-  unfolding firstUnused
-  found-7 i e = in-none i (lowest-below (unused (m .tris)) (length (m .nodes)) i e) (go (count (holdsNode i) (m .tris)) refl)
-    where
-      go : (k : ℕ) → count (holdsNode i) (m .tris) ≡ k → k ≡ 0
-      go zero q = refl
-      go (suc k) q = clash (sym (lowest-true (unused (m .tris)) (length (m .nodes)) i e) ∙ some-used (m .tris) i (omega arith))
-
-  none-7 : firstUnused m ≡ Nothing → (z : ℕ) → z < length (m .nodes) → 1 ≤ count (holdsNode z) (m .tris)
-  unfolding firstUnused
-  none-7 e z l = used-some (m .tris) z (lowest-nothing (unused (m .tris)) (length (m .nodes)) z e l)
+  found-7 i e = let h = first-7 m i e in in-none i (h .below) (h .at-fault)
 
 -- ---- where a fact holds, its number does not apply
 
@@ -372,5 +200,7 @@ compatible-exact m = (λ e. All-imp (no-clash (m .tris)) (where-none (clashes (m
     nowhere-found h = go (whereFirst (clashes (m .tris)) (m .tris)) refl
       where
         go : (f : Found) → whereFirst (clashes (m .tris)) (m .tris) ≡ f → isFound f ≡ false
-        go (At i) q = let r = where-found (clashes (m .tris)) (m .tris) (tri 0 0 0) i q in clash (sym (r .1) ∙ clash-free (m .tris) (rowOf (m .tris) i) (All-getD h i (tri 0 0 0) (r .0)))
+        go (At i) q =
+            let e = sym (where-lowest (clashes (m .tris)) (m .tris) (tri 0 0 0)) ∙ q in
+            clash (sym (lowest-true _ _ i e) ∙ clash-free (m .tris) (rowOf (m .tris) i) (All-getD h i (tri 0 0 0) (lowest-below _ _ i e)))
         go Nothing q = refl

@@ -1,6 +1,8 @@
 pub mod Area
 pub mod Edges
+pub mod Faults
 pub mod Lawful
+pub mod Culprit
 pub mod Numbers
 pub mod Exact
 pub mod Check

@@ -1,20 +1,23 @@
--- Lists by number: members of `items`, parts of `items`, searches up to a lower end; what a counting loop has reached.
+-- Lists by number: members of `items`, parts of `items`, a search of a list, searches up to a lower end; what a counting loop has reached.
 -- Assumes nothing.
 use mathlib.Core.Bool.{Bool, true, false}
 use mathlib.Core.List.{List, _∷_, _++_, List·Memᴰ}
 use mathlib.Core.Path.{_≡_, refl, sym, subst, ap, _∙_}
 use Prim.Native.Nat.{ℕ, zero, suc, _+_, _-_, _≤_, _<_}
 use native.Mathlib.Omega.{arith}
-use native.Mathlib.Decide.{ℕ-discrete, decLt}
+use native.Mathlib.Decide.{decLt}
+use lib.ListN.{length, getD}
+use lib.Seq.{take-all}
 use Rattle.lists.specs.declared.Found.{Found}
 use Rattle.lists.specs.declared.Found.the-variants.{At, Nothing}
-use Rattle.lists.specs.Lists.{All}
+use Rattle.lists.specs.Lists.{All, whereFirst}
 use Rattle.lists.specs.ListsLaw.{clash, All-of}
 use Rattle.lists.specs.MembersLaw.{mem-at, at-mem}
-use Rattle.lists.specs.Search.{lowest, lowestFrom, items, iter, iterFrom}
-use Rattle.lists.specs.SearchLaw.{at-some, lowest-below, lowest-true, lowest-nothing}
+use Rattle.lists.specs.Search.{lowest, items, iter, iterFrom}
+use Rattle.lists.specs.SearchLaw.{lowest-below, lowest-true, lowest-lower, lowest-nothing, lowest-where}
 use Rattle.lists.specs.IterLaw.{length-items, getD-items}
 use Rattle.lists.specs.ItemsLaw.{items-cons, items-split}
+use Rattle.lists.specs.TableLaw.{from-taken}
 
 module _ {A : Type 0} (f : ℕ → A) where
   -- ---- members
@@ -38,24 +41,21 @@ module _ {A : Type 0} (f : ℕ → A) where
   pub items-around : (t i : ℕ) → i < t → items f 0 t ≡ items f 0 i ++ (f i ∷ items f (i + 1) t)
   items-around t i h = items-split f 0 i t (omega arith) (omega arith) ∙ ap (λ (r : List A). items f 0 i ++ r) (items-cons f i t h)
 
+-- ---- a search of a list is a search by number
+
+module _ {A : Type 0} (f : A → Bool) (l : List A) (d : A) where
+  -- a list is its members, by number
+  items-self : items (λ j. getD l j d) 0 (length l) ≡ l
+  unfolding items
+  items-self = from-taken l d 0 (length l - 0) (omega arith) ∙ take-all (length l - 0) l (omega arith)
+
+  -- so that what it found is below the end and passes, and no member before it does
+  pub where-lowest : whereFirst f l ≡ lowest (λ j. f (getD l j d)) 0 (length l)
+  where-lowest = ap (whereFirst f) (sym items-self) ∙ sym (lowest-where f (λ j. getD l j d) (λ j. f (getD l j d)) (length l) (λ j h. refl))
+
 -- ---- the same search, up to a lower end
 
 module _ (f : ℕ → Bool) where
-  from-lower : (i k j m : ℕ) → lowestFrom f i k ≡ At j → i ≤ m → m < j → f m ≡ false
-  unfolding lowestFrom
-  from-lower i zero j m e a b = at-some j (sym e)
-  from-lower i (suc k) j m e a b = go (f i) refl (ℕ-discrete i m) (from-lower (i + 1) k j m)
-    where
-      go : (y : Bool) → f i ≡ y → Dec (i ≡ m) → (lowestFrom f (i + 1) k ≡ At j → i + 1 ≤ m → m < j → f m ≡ false) → f m ≡ false
-      go true g d ih = let q : At i ≡ At j = rw g at e in let z : i ≡ j = cc in absurd (omega arith)
-      go false g (yes d) ih = rw (← d) g
-      go false g (no d) ih = ih (rw g at e) (omega arith) b
-
-  -- below what is found, the test says no
-  lowest-lower : (t j m : ℕ) → lowest f 0 t ≡ At j → m < j → f m ≡ false
-  unfolding lowest
-  lowest-lower t j m e h = from-lower 0 (t - 0) j m e (omega arith) h
-
   lowest-at : (t j : ℕ) → j < t → f j ≡ true → ((k : ℕ) → k < j → f k ≡ false) → lowest f 0 t ≡ At j
   lowest-at t j h e n = go (lowest f 0 t) refl
     where
@@ -65,7 +65,7 @@ module _ (f : ℕ → Bool) where
         where
           by : Dec (i < j) → Dec (j < i) → At i ≡ At j
           by (yes a) b = clash (sym (lowest-true f t i q) ∙ n i a)
-          by (no a) (yes b) = clash (sym e ∙ lowest-lower t i j q b)
+          by (no a) (yes b) = clash (sym e ∙ lowest-lower f t i j q b)
           by (no a) (no b) = let z : i ≡ j = omega arith in ap At z
 
   pub lowest-no : (t : ℕ) → ((k : ℕ) → k < t → f k ≡ false) → lowest f 0 t ≡ Nothing
@@ -76,10 +76,10 @@ module _ (f : ℕ → Bool) where
       go (At i) q = clash (sym (lowest-true f t i q) ∙ n i (lowest-below f t i q))
 
   pub lowest-cut : (t i j : ℕ) → lowest f 0 t ≡ At j → j < i → lowest f 0 i ≡ At j
-  lowest-cut t i j e h = lowest-at i j h (lowest-true f t j e) (λ k b. lowest-lower t j k e b)
+  lowest-cut t i j e h = lowest-at i j h (lowest-true f t j e) (λ k b. lowest-lower f t j k e b)
 
   pub lowest-past : (t i j : ℕ) → lowest f 0 t ≡ At j → i ≤ j → lowest f 0 i ≡ Nothing
-  lowest-past t i j e h = lowest-no i (λ k b. lowest-lower t j k e (omega arith))
+  lowest-past t i j e h = lowest-no i (λ k b. lowest-lower f t j k e (omega arith))
 
   pub lowest-none-below : (t i : ℕ) → lowest f 0 t ≡ Nothing → i ≤ t → lowest f 0 i ≡ Nothing
   lowest-none-below t i e h = lowest-no i (λ k b. lowest-nothing f t k e (omega arith))

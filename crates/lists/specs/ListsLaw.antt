@@ -137,13 +137,6 @@ module _ {A : Type 0} where
   where-is f [] d = nowhere nil
   where-is f (x ∷ xs) d = where-step f x xs d (f x) refl (where-is f xs d)
 
-  pub where-found : (f : A → Bool) (l : List A) (d : A) (i : ℕ) → whereFirst f l ≡ At i → (i < length l) × (f (getD l i d) ≡ true)
-  where-found f l d i e = go (whereFirst f l) e (where-is f l d)
-    where
-      go : (o : Found) → o ≡ At i → WhereIs f l d o → (i < length l) × (f (getD l i d) ≡ true)
-      go o e (nowhere h) = let z : _≡_ {A = ℕ} 0 1 = cc in absurd (omega arith)
-      go o e (place-of k h t) = let q : k ≡ i = cc in (omega arith, rw (← q) t)
-
   pub where-none : (f : A → Bool) (l : List A) → whereFirst f l ≡ Nothing → All (λ x. f x ≡ false) l
   where-none f [] e = nil
   where-none f (x ∷ xs) e = go (f x) refl (whereFirst f xs) e (where-none f xs)

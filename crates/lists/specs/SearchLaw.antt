@@ -61,26 +61,41 @@ not-found Nothing e = refl
 
 -- ---- what an answer says
 
-from-at : (f : ℕ → Bool) (i k j : ℕ) → lowestFrom f i k ≡ At j → (i ≤ j) × (j < i + k) × (f j ≡ true)
+-- j is the lowest of k numbers from i on that passes
+record Lowest (f : ℕ → Bool) (i k j : ℕ) : Type 0 where
+  from : i ≤ j
+  below : j < i + k
+  passes : f j ≡ true
+  none-lower : (m : ℕ) → i ≤ m → m < j → f m ≡ false
+
+from-at : (f : ℕ → Bool) (i k j : ℕ) → lowestFrom f i k ≡ At j → Lowest f i k j
 unfolding lowestFrom
 from-at f i zero j e = at-some j (sym e)
 from-at f i (suc k) j e = go (f i) refl (from-at f (i + 1) k j)
   where
-    go : (b : Bool) → f i ≡ b → (lowestFrom f (i + 1) k ≡ At j → (i + 1 ≤ j) × (j < i + 1 + k) × (f j ≡ true)) → (i ≤ j) × (j < i + suc k) × (f j ≡ true)
+    go : (b : Bool) → f i ≡ b → (lowestFrom f (i + 1) k ≡ At j → Lowest f (i + 1) k j) → Lowest f i (suc k) j
     go true g ih =
         let a : At i ≡ At j = rw g at e in
         let q : i ≡ j = cc in
-        (omega arith, omega arith, rw (← q) g)
-    go false g ih = let h = ih (rw g at e) in (omega arith, omega arith, h .2)
+        record { from = omega arith; below = omega arith; passes = rw (← q) g; none-lower = λ m l h. absurd (omega arith) }
+    go false g ih = let h = ih (rw g at e) in record { from = omega (arith, h .from); below = omega (arith, h .below); passes = h .passes; none-lower = λ m l b. lower h m l b (ℕ-discrete i m) }
+      where
+        lower : Lowest f (i + 1) k j → (m : ℕ) → i ≤ m → m < j → Dec (i ≡ m) → f m ≡ false
+        lower h m l b (yes d) = rw (← d) g
+        lower h m l b (no d) = h .none-lower m (omega arith) b
 
--- what is found is below the end, and passes
+-- what is found is below the end, and passes, and none below it does
 pub lowest-below : (f : ℕ → Bool) (t j : ℕ) → lowest f 0 t ≡ At j → j < t
 unfolding lowest
-lowest-below f t j e = let h = from-at f 0 (t - 0) j e in omega arith
+lowest-below f t j e = let h = from-at f 0 (t - 0) j e .below in omega arith
 
 pub lowest-true : (f : ℕ → Bool) (t j : ℕ) → lowest f 0 t ≡ At j → f j ≡ true
 unfolding lowest
-lowest-true f t j e = from-at f 0 (t - 0) j e .2
+lowest-true f t j e = from-at f 0 (t - 0) j e .passes
+
+pub lowest-lower : (f : ℕ → Bool) (t j m : ℕ) → lowest f 0 t ≡ At j → m < j → f m ≡ false
+unfolding lowest
+lowest-lower f t j m e h = from-at f 0 (t - 0) j e .none-lower m (omega arith) h
 
 from-nothing : (f : ℕ → Bool) (i k j : ℕ) → lowestFrom f i k ≡ Nothing → i ≤ j → j < i + k → f j ≡ false
 unfolding lowestFrom

@@ -31,7 +31,7 @@ module _ {A : Type 0} where
       let b : n + i < length (take n l ++ vs) = omega (arith, length-append (take n l) vs) in
       rw (sets-eq vs l n r) (List·getD-append (take n l ++ vs) (drop (n + length vs) l) d (n + i) b ∙ rw e at (getD-append-add (take n l) vs i d))
 
-  from-taken : (l : List A) (d : A) (n k : ℕ) → n + k ≤ length l → itemsFrom (λ m. getD l m d) n k ≡ take k (drop n l)
+  pub from-taken : (l : List A) (d : A) (n k : ℕ) → n + k ≤ length l → itemsFrom (λ m. getD l m d) n k ≡ take k (drop n l)
   unfolding itemsFrom
   from-taken l d n zero h = refl
   from-taken l d n (suc k) h =

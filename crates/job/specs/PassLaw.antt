@@ -16,7 +16,7 @@ use Rattle.meaning.specs.Mesh.{Mesh}
 use Rattle.meaning.specs.Lawful.{Lawful, refusal}
 use Rattle.meaning.specs.Coarsen.{coarsened, goodNodes, allMarked, pass, Restored, restored}
 use Rattle.meaning.specs.Tables.{Given, Outcome, given, outcome, answer, meshOf, cleared}
-use Rattle.meaning.specs.Calls.{unless, marksFit, coarsenNo, coarsens, restores, says, sizesFit, untouched, done, leaves, coarsenOut, restoreOut}
+use Rattle.meaning.specs.Calls.{carried, unless, marksFit, coarsenNo, coarsens, restores, says, sizesFit, untouched, done, leaves, coarsenOut, restoreOut}
 use Rattle.laws.specs.Lawful.{refusal-lawful, lawful-refusal}
 use Rattle.laws.specs.Marks.{marks-exact, ones-fit}
 use Rattle.laws.specs.Coarsen.{Preserved}
@@ -44,7 +44,7 @@ pass-made o nodes rows scratch n0 n t m e f = f ∙ ap (coarsenOut (given nodes 
 -- ---- what a pass leaves, and what restore leaves, of the same tables
 
 data Said (g : Given) (n0 : ℕ) : Outcome → Outcome → Type 0 where
-  refused : (k : ℕ) → k ≢ 0 → Said g n0 (untouched g k) (untouched g k)
+  refused : (k c : ℕ) → k ≢ 0 → Said g n0 (untouched g k c) (untouched g k c)
   passed : Sizes g n0 → Lawful (meshOf g) → Said g n0 (done g (pass n0 (meshOf g)) 0) (done g (restored n0 (meshOf g) .end) (restored n0 (meshOf g) .passes))
 
 pass-and-restore : (g : Given) (n0 : ℕ) → Said g n0 (passOut g n0) (restoreOut g n0)
@@ -62,14 +62,14 @@ pass-and-restore g n0 = go (sizesFit g n0) refl
     lawful : Sizes g n0 → (k : ℕ) → refusal (meshOf g) ≡ k →
         Said g n0 (leaves g (says k (meshOf g) (coarsened n0 (meshOf g) (allMarked (meshOf g .nodes))) 0)) (leaves g (says k (meshOf g) (restored n0 (meshOf g) .end) (restored n0 (meshOf g) .passes)))
     lawful s zero e = passed s (refusal-lawful (meshOf g) e)
-    lawful s (suc k) e = refused (suc k) (omega arith)
+    lawful s (suc k) e = refused (suc k) (carried (meshOf g) (suc k)) (omega arith)
 
     go : (b : Bool) → sizesFit g n0 ≡ b →
         Said g n0
-        (cases b (leaves g (says (unless (marksFit (length (meshOf g .nodes)) (replicate (min (g .n) 1024) 1)) 2 (refusal (meshOf g))) (meshOf g) (coarsened n0 (meshOf g) (replicate (min (g .n) 1024) 1)) 0)) (untouched g 1))
-        (cases b (leaves g (says (refusal (meshOf g)) (meshOf g) (restored n0 (meshOf g) .end) (restored n0 (meshOf g) .passes))) (untouched g 1))
+        (cases b (leaves g (says (unless (marksFit (length (meshOf g .nodes)) (replicate (min (g .n) 1024) 1)) 2 (refusal (meshOf g))) (meshOf g) (coarsened n0 (meshOf g) (replicate (min (g .n) 1024) 1)) 0)) (untouched g 1 0))
+        (cases b (leaves g (says (refusal (meshOf g)) (meshOf g) (restored n0 (meshOf g) .end) (restored n0 (meshOf g) .passes))) (untouched g 1 0))
     go true e = let s = sizes-exact g n0 .0 e in rw (marks s, fit) (lawful s (refusal (meshOf g)) refl)
-    go false e = refused 1 (omega arith)
+    go false e = refused 1 0 (omega arith)
 
 -- ---- the turn: a is what the pass said, nodes′ rows′ scratch′ what it left
 
@@ -77,15 +77,15 @@ after-done : (p n t : ℕ) (g : Given) (m : Mesh) (k : ℕ) → after p n t (don
 unfolding after
 after-done p n t g m k = refl
 
-after-refused : (p n t : ℕ) (g : Given) (k : ℕ) → k ≢ 0 → after p n t (untouched g k) ≡ outcome (answer k n t 0) (g .nodes) (g .rows) (cleared (g .scratch))
+after-refused : (p n t : ℕ) (g : Given) (k c : ℕ) → k ≢ 0 → after p n t (untouched g k c) ≡ outcome (answer k n t 0 c) (g .nodes) (g .rows) (cleared (g .scratch))
 unfolding after
-after-refused p n t g k o = rw (ne-eqb k 0 o)
+after-refused p n t g k c o = rw (ne-eqb k 0 o)
 
 pub after-start : (g : Given) (n0 : ℕ) → after 0 (g .n) (g .t) (restoreOut g n0) ≡ restoreOut g n0
 after-start g n0 = go (pass-and-restore g n0)
   where
     go : {x y : Outcome} → Said g n0 x y → after 0 (g .n) (g .t) y ≡ y
-    go (refused k o) = after-refused 0 (g .n) (g .t) g k o
+    go (refused k c o) = after-refused 0 (g .n) (g .t) g k c o
     go (passed s l) = after-done 0 (g .n) (g .t) g (restored n0 (meshOf g) .end) (restored n0 (meshOf g) .passes) ∙ ap (done g (restored n0 (meshOf g) .end)) zero-plus
       where
         zero-plus : 0 + restored n0 (meshOf g) .passes ≡ restored n0 (meshOf g) .passes
@@ -151,22 +151,22 @@ module _ (g : Given) (n0 : ℕ) where
 
 module _ (a : Answer) (g : Given) (nodes′ : List ℤ) (rows′ scratch′ : List ℕ) (n0 n t p : ℕ) (w : Outcome) (e : outcome a nodes′ rows′ scratch′ ≡ passOut g n0)
     (inv : after p n t (restoreOut g n0) ≡ w) where
-  pub refuse : (a .number ≡ 0 → ⊥) → outcome (answer (a .number) n t 0) nodes′ rows′ scratch′ ≡ w
+  pub refuse : (a .number ≡ 0 → ⊥) → outcome (answer (a .number) n t 0 (a .culprit)) nodes′ rows′ scratch′ ≡ w
   refuse o = go (pass-and-restore g n0) e inv
     where
-      go : {x y : Outcome} → Said g n0 x y → outcome a nodes′ rows′ scratch′ ≡ x → after p n t y ≡ w → outcome (answer (a .number) n t 0) nodes′ rows′ scratch′ ≡ w
-      go (refused k z) e inv = ap (λ (o : Outcome). outcome (answer (o .answer .number) n t 0) (o .nodes) (o .rows) (o .scratch)) e ∙ sym (after-refused p n t g k z) ∙ inv
+      go : {x y : Outcome} → Said g n0 x y → outcome a nodes′ rows′ scratch′ ≡ x → after p n t y ≡ w → outcome (answer (a .number) n t 0 (a .culprit)) nodes′ rows′ scratch′ ≡ w
+      go (refused k c z) e inv = ap (λ (o : Outcome). outcome (answer (o .answer .number) n t 0 (o .answer .culprit)) (o .nodes) (o .rows) (o .scratch)) e ∙ sym (after-refused p n t g k c z) ∙ inv
       go (passed s l) e inv = absurd (o (ap (λ (o : Outcome). o .answer .number) e))
 
   module _ (z : a .number ≡ 0) where
-    pub finish : a .n ≡ g .n → outcome (answer 0 (a .n) (a .t) p) nodes′ rows′ scratch′ ≡ w
+    pub finish : a .n ≡ g .n → outcome (answer 0 (a .n) (a .t) p 0) nodes′ rows′ scratch′ ≡ w
     finish q = go (pass-and-restore g n0) e inv
       where
-        go : {x y : Outcome} → Said g n0 x y → outcome a nodes′ rows′ scratch′ ≡ x → after p n t y ≡ w → outcome (answer 0 (a .n) (a .t) p) nodes′ rows′ scratch′ ≡ w
-        go (refused k o) e inv = absurd (o (sym (ap (λ (o : Outcome). o .answer .number) e) ∙ z))
+        go : {x y : Outcome} → Said g n0 x y → outcome a nodes′ rows′ scratch′ ≡ x → after p n t y ≡ w → outcome (answer 0 (a .n) (a .t) p 0) nodes′ rows′ scratch′ ≡ w
+        go (refused k c o) e inv = absurd (o (sym (ap (λ (o : Outcome). o .answer .number) e) ∙ z))
         go (passed s l) e inv =
             let b : length (pass n0 (meshOf g) .nodes) ≡ length (meshOf g .nodes) = sym (ap (λ (o : Outcome). o .answer .n) e) ∙ q ∙ sym (nodes-count g) in
-            ap (λ (o : Outcome). outcome (answer 0 (o .answer .n) (o .answer .t) p) (o .nodes) (o .rows) (o .scratch)) e
+            ap (λ (o : Outcome). outcome (answer 0 (o .answer .n) (o .answer .t) p 0) (o .nodes) (o .rows) (o .scratch)) e
             ∙ ended g n0 b p
             ∙ sym (after-done p n t g (restored n0 (meshOf g) .end) (restored n0 (meshOf g) .passes)) ∙ inv
 
@@ -175,7 +175,7 @@ module _ (a : Answer) (g : Given) (nodes′ : List ℤ) (rows′ scratch′ : Li
       pass-fewer-nodes = go (pass-and-restore g n0) e
         where
           go : {x y : Outcome} → Said g n0 x y → outcome a nodes′ rows′ scratch′ ≡ x → a .n < g .n
-          go (refused k r) e = absurd (r (sym (ap (λ (o : Outcome). o .answer .number) e) ∙ z))
+          go (refused k c r) e = absurd (r (sym (ap (λ (o : Outcome). o .answer .number) e) ∙ z))
           go (passed s l) e =
               let b = ap (λ (o : Outcome). o .answer .n) e in
               let c = pass-count n0 (meshOf g) in
@@ -192,7 +192,7 @@ module _ (a : Answer) (g : Given) (nodes′ : List ℤ) (rows′ scratch′ : Li
       goes-on = go (pass-and-restore g n0) e inv
         where
           go : {x y : Outcome} → Said g n0 x y → outcome a nodes′ rows′ scratch′ ≡ x → after p n t y ≡ w → after (p + 1) n t (restoreOut (given nodes′ rows′ scratch′ (a .n) (a .t)) n0) ≡ w
-          go (refused k r) e inv = absurd (r (sym (ap (λ (o : Outcome). o .answer .number) e) ∙ z))
+          go (refused k c r) e inv = absurd (r (sym (ap (λ (o : Outcome). o .answer .number) e) ∙ z))
           go (passed s l) e inv =
               let b : length (pass n0 (meshOf g) .nodes) ≢ length (meshOf g .nodes) = (λ q. o (ap (λ (o : Outcome). o .answer .n) e ∙ q ∙ nodes-count g)) in
               ap (λ (o : Outcome). after (p + 1) n t (restoreOut (tablesAfter o) n0)) e

@@ -50,6 +50,7 @@ pub fn restore(
                 n,
                 t,
                 passes: 0,
+                culprit: a.culprit,
             };
         }
         if a.n == m {
@@ -58,6 +59,7 @@ pub fn restore(
                 n: a.n,
                 t: a.t,
                 passes,
+                culprit: 0,
             };
         }
         m = a.n;

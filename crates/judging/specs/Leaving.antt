@@ -3,10 +3,9 @@
 use mathlib.Core.Path.{_≡_, refl, sym, ap, _∙_}
 use mathlib.Core.Bool.{Bool, true, false}
 use mathlib.Core.List.{List}
-use mathlib.Core.Logic.{_≢_}
+use mathlib.Core.Logic.{inl}
 use Prim.Native.Nat.{ℕ, zero, suc}
 use native.Mathlib.Omega.{arith}
-use borrow.Author.Tests.{eq-eqb, ne-eqb}
 use lib.IntN.{ℤ, pos}
 use lib.ListN.{length, replicate, length-replicate}
 use Rattle.lists.specs.Lists.{cases}
@@ -16,7 +15,7 @@ use Rattle.meaning.specs.declared.Fault.{Fault}
 use Rattle.meaning.specs.Lawful.{fault, faultOf, refusal}
 use Rattle.meaning.specs.Tables.{Given, given, Outcome, outcome, answer, meshOf, flatNodes, flatRows, filled}
 use Rattle.meaning.specs.Calls.{Reply, carried, says, unless, orElse, marksFit, sizesFit, untouched, leavesBy, leaves, sized}
-use Rattle.laws.specs.Lawful.{applies-from-3}
+use Rattle.laws.specs.Culprit.{carried-0, carried-own, carried-lawful}
 use Rattle.judging.specs.Sizes.{fitting, fitting-is}
 use Rattle.judging.specs.Judge.{early}
 
@@ -37,43 +36,43 @@ first-of f late o = go (f .number) refl
     go zero e = absurd (o e)
     go (suc j) e = refl
 
--- the number that a mesh draws carries its node or row, and no other carries one
-culprit-own : (m : Mesh) (k : ℕ) → refusal m ≡ k → carried m k ≡ faultOf m .at
-unfolding carried
-culprit-own m k e = rw (e, eq-eqb k k refl)
+-- the number of a call that wants k marks and judges `late` at last: 1 comes first, and then 2
+module _ (g : Given) (n0 k : ℕ) (marks : List ℕ) (late : ℕ) where
+  abbrev pub lateNo : ℕ
+  lateNo = unless (marksFit k marks) 2 (orElse (refusal (meshOf g)) late)
 
-culprit-other : (m : Mesh) (k : ℕ) → k ≢ refusal m → carried m k ≡ 0
-unfolding carried
-culprit-other m k o = rw (ne-eqb k (refusal m) o)
-
--- what a call leaves that wants k marks and judges `late` at last: 1 comes first, and then 2
-module _ (g : Given) (n0 k : ℕ) (marks : List ℕ) (late : ℕ) (after : Mesh) where
-  abbrev pub left : Outcome
-  left = sized g n0 (leaves g (says (unless (marksFit k marks) 2 (orElse (refusal (meshOf g)) late)) (meshOf g) after 0))
-
-  left-late : left ≡ leavesBy g (orLate (early g n0 k marks) late .number) after 0 (orLate (early g n0 k marks) late .at)
+  -- what it names is what the fault names that was judged first
+  pub verdict : cases (sizesFit g n0) (fault lateNo (carried (meshOf g) lateNo)) (fault 1 0) ≡ orLate (early g n0 k marks) late
   unfolding early refusal
-  left-late = go (sizesFit g n0) (marksFit k marks) (refusal (meshOf g)) refl
+  verdict = go (sizesFit g n0) (marksFit k marks) (refusal (meshOf g)) refl
     where
-      one-of : (b c : Bool) → Fault
-      one-of b c = cases b (cases c (faultOf (meshOf g)) (fault 2 0)) (fault 1 0)
+      named : ℕ → Fault
+      named j = fault j (carried (meshOf g) j)
 
-      at-last : (late : ℕ) → refusal (meshOf g) ≡ 0 → leaves g (says late (meshOf g) after 0) ≡ leavesBy g late after 0 0
-      at-last zero q = refl
-      at-last (suc j) q = ap (untouched g (suc j)) (culprit-other (meshOf g) (suc j) (λ e. omega arith))
-
-      go : (b c : Bool) (j : ℕ) → refusal (meshOf g) ≡ j →
-          cases b (leaves g (says (unless c 2 (orElse j late)) (meshOf g) after 0)) (untouched g 1 0) ≡ leavesBy g (orLate (one-of b c) late .number) after 0 (orLate (one-of b c) late .at)
+      go : (b c : Bool) (j : ℕ) → refusal (meshOf g) ≡ j → cases b (named (unless c 2 (orElse j late))) (fault 1 0) ≡ orLate (cases b (cases c (faultOf (meshOf g)) (fault 2 0)) (fault 1 0)) late
       go false c j q = refl
-      go true false j q = ap (untouched g 2) (culprit-other (meshOf g) 2 (λ e. omega (arith, applies-from-3 (meshOf g) 2 (sym e) (omega arith))))
-      go true true zero q = at-last late q ∙ rw q
-      go true true (suc j) q = ap (untouched g (suc j)) (culprit-own (meshOf g) (suc j) q) ∙ rw q
+      go true false j q = ap (fault 2) (carried-0 (meshOf g) 2 (inl (omega arith)))
+      go true true zero q = rw q (ap (fault late) (carried-lawful (meshOf g) late q))
+      go true true (suc j) q = rw (← q) (ap (fault (refusal (meshOf g))) (carried-own (meshOf g)) ∙ first-of (faultOf (meshOf g)) late (λ z. omega (arith, sym z ∙ q)))
+
+  -- what it leaves
+  module _ (after : Mesh) where
+    abbrev pub left : Outcome
+    left = sized g n0 (leaves g (says lateNo (meshOf g) after 0))
+
+    abbrev leavesFor : Fault → Outcome
+    leavesFor f = leavesBy g (f .number) after 0 (f .at)
+
+    left-is : left ≡ leavesFor (orLate (early g n0 k marks) late)
+    left-is = go (sizesFit g n0) lateNo ∙ ap leavesFor verdict
+      where
+        go : (b : Bool) (j : ℕ) → cases b (leaves g (says j (meshOf g) after 0)) (untouched g 1 0) ≡ leavesFor (cases b (fault j (carried (meshOf g) j)) (fault 1 0))
+        go true zero = refl
+        go true (suc j) = refl
+        go false j = refl
 
 -- f is what was judged first
 module _ (nodes : List ℤ) (rows s marks : List ℕ) (n0 n t k late : ℕ) (after : Mesh) (z : s ≡ replicate (length s) 0) (f : Fault) (e : f ≡ early (given nodes rows s n t) n0 k marks) where
-  abbrev end : Outcome
-  end = left (given nodes rows s n t) n0 k marks late after
-
   -- refused: nothing is written
   untouched-is : (j c : ℕ) → (j ≡ 0 → ⊥) → outcome (answer j n t 0 c) nodes rows s ≡ leavesBy (given nodes rows s n t) j after 0 c
   untouched-is zero c o = absurd (o refl)
@@ -83,7 +82,7 @@ module _ (nodes : List ℤ) (rows s marks : List ℕ) (n0 n t k late : ℕ) (aft
   leaves-refused r o h =
       let g = given nodes rows s n t in
       let v : f ≡ orLate (early g n0 k marks) late = first-of f late o ∙ ap (λ (x : Fault). orLate x late) e in
-      rw h (untouched-is (f .number) (f .at) o) ∙ ap (λ (x : Fault). leavesBy g (x .number) after 0 (x .at)) v ∙ sym (left-late g n0 k marks late after)
+      rw h (untouched-is (f .number) (f .at) o) ∙ ap (λ (x : Fault). leavesBy g (x .number) after 0 (x .at)) v ∙ sym (left-is g n0 k marks late after)
 
   module _ (y : f .number ≡ 0) where
     late-is : fault late 0 ≡ orLate (early (given nodes rows s n t) n0 k marks) late
@@ -92,7 +91,7 @@ module _ (nodes : List ℤ) (rows s marks : List ℕ) (n0 n t k late : ℕ) (aft
     pub leaves-refused-late : (r : Answer) (j : ℕ) → j ≡ late → (j ≡ 0 → ⊥) → r ≡ answer j n t 0 0 → outcome r nodes rows s ≡ left (given nodes rows s n t) n0 k marks late after
     leaves-refused-late r j d o h =
         let g = given nodes rows s n t in
-        rw h (untouched-is j 0 o) ∙ ap (λ (i : ℕ). leavesBy g i after 0 0) d ∙ ap (λ (x : Fault). leavesBy g (x .number) after 0 (x .at)) late-is ∙ sym (left-late g n0 k marks late after)
+        rw h (untouched-is j 0 o) ∙ ap (λ (i : ℕ). leavesBy g i after 0 0) d ∙ ap (λ (x : Fault). leavesBy g (x .number) after 0 (x .at)) late-is ∙ sym (left-is g n0 k marks late after)
 
     -- done: both tables hold the mesh after
     pub leaves-done : (r : Answer) (a : List ℤ) (b : List ℕ) (n1 t1 : ℕ) → late ≡ 0 → n1 ≡ length (after .nodes) → t1 ≡ length (after .tris) →
@@ -100,7 +99,7 @@ module _ (nodes : List ℤ) (rows s marks : List ℕ) (n0 n t k late : ℕ) (aft
         outcome r a b s ≡ left (given nodes rows s n t) n0 k marks late after
     leaves-done r a b n1 t1 d p q x y h =
         let g = given nodes rows s n t in
-        rw (h, x, y, p, q) (ap (outcome _ _ _) z) ∙ ap (λ (j : ℕ). leavesBy g j after 0 0) (sym d) ∙ ap (λ (x : Fault). leavesBy g (x .number) after 0 (x .at)) late-is ∙ sym (left-late g n0 k marks late after)
+        rw (h, x, y, p, q) (ap (outcome _ _ _) z) ∙ ap (λ (j : ℕ). leavesBy g j after 0 0) (sym d) ∙ ap (λ (x : Fault). leavesBy g (x .number) after 0 (x .at)) late-is ∙ sym (left-is g n0 k marks late after)
 
 -- ---- scratch before the call does not matter, but for its length
 

@@ -9,7 +9,7 @@ use native.Mathlib.Decide.{ℕ-discrete, decLt}
 use native.Mathlib.Omega.{arith}
 use lib.Dec.{eqb}
 use lib.ListN.{length}
-use borrow.Author.Tests.{eqb-true, eqb-false}
+use borrow.Author.Tests.{eqb-true, eqb-false, eq-eqb}
 use Rattle.lists.specs.declared.Found.{Found}
 use Rattle.lists.specs.declared.Found.the-variants.{At, Nothing}
 use Rattle.lists.specs.Lists.{all, cases}
@@ -157,6 +157,20 @@ carried-names m k due = go (eqb k (faultOf m .number)) refl due
 -- "All other answers, later numbers too, carry 0 there."
 pub carried-0 : (m : Mesh) (k : ℕ) → Other k → carried m k ≡ 0
 carried-0 m k o = carried-names m k (inr o) .names-none o
+
+-- the number that a mesh draws carries its fault's node or row
+pub carried-own : (m : Mesh) → carried m (refusal m) ≡ faultOf m .at
+unfolding carried
+carried-own m = rw (eq-eqb (refusal m) (refusal m) refl)
+
+-- a mesh at no fault blames nobody, whatever else refuses it
+pub carried-lawful : (m : Mesh) (k : ℕ) → refusal m ≡ 0 → carried m k ≡ 0
+unfolding carried refusal
+carried-lawful m k e = go (eqb k (faultOf m .number))
+  where
+    go : (b : Bool) → cases b (faultOf m .at) 0 ≡ 0
+    go true = fault-names m .names-none (inl (omega arith))
+    go false = refl
 
 module _ (m : Mesh) where
   unless-due : (b : Bool) (k later : ℕ) → Other k → Due m later → Due m (unless b k later)

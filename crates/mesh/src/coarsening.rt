@@ -18,10 +18,10 @@ pub fn work(
     requires { ⌜ now scratch ≡ replicate (length (now scratch)) 0 ⌝ }
     ensures { λ r. ⌜ outcome r (now (nodes .exit)) (now (rows .exit)) (now (scratch .entry)) ≡ coarsenOut (given (now (nodes .entry)) (now (rows .entry)) (now (scratch .entry)) n t) n0 (now (marks .entry)) ⌝ }
 {
-    let k = judging::judge(nodes, rows, scratch, marks, n, n0, n, t);
-    if k != 0 {
-        return judging::said(k, n, t);
+    let f = judging::judge(nodes, rows, scratch, marks, n, n0, n, t);
+    if f.number != 0 {
+        return judging::said(f, n, t);
     }
     let c = gather::take_out(nodes, rows, scratch, marks, nodes.len() / 2, n0, n, t);
-    judging::said(0, c.n, c.t)
+    judging::done(c.n, c.t)
 }

@@ -1,12 +1,13 @@
 -- DEMAND 2 OF THE CALLS. Every premise on a call is the equation that its contract ensures, so that what is said here holds of any run of
 -- the calls themselves: mesh::check, mesh::refine, mesh::quarter, mesh::coarsen (crates/mesh/src/lib.rt) and job::restore
--- (crates/job/src/lib.rt). What `Answers`, `Holds` and `AsGiven` say of tables stands in crates/laws/specs/CallLaw.antt. Assumes nothing.
+-- (crates/job/src/lib.rt). What `Answers`, `Holds` and `AsGiven` say of tables stands in crates/laws/specs/CallLaw.antt: `Answers` says of every
+-- call which number it gives and, W2, which node or row the culprit is (`Names` in crates/meaning/specs/Lawful.antt). Assumes nothing.
 use mathlib.Core.List.{List, [], _∷_, List·Memᴰ}
 use mathlib.Core.Logic.{_↔_, _≢_, _⊎_}
 use mathlib.Core.Path.{_≡_, sym, subst, ap, _∙_}
 use Prim.Native.Nat.{ℕ, _*_, _/_, _≤_, _<_}
 use native.Mathlib.Omega.{arith}
-use lib.ListN.{length, getD}
+use lib.ListN.{length, getD, replicate}
 use Rattle.lists.specs.Lists.{All}
 use Rattle.meaning.specs.declared.Manner.{Manner}
 use Rattle.meaning.specs.declared.Manner.the-variants.{Newest, AllThree}
@@ -17,16 +18,17 @@ use Rattle.meaning.specs.Split.{Way, startsOf, wayOf, newest, allThree, started
 use Rattle.meaning.specs.Coarsen.{coarsened, restored}
 use Rattle.meaning.specs.Tables.{Given, Outcome, meshOf, roomOf}
 use Rattle.meaning.specs.Calls.{checkNo, refineNo, coarsenNo, checkOut, refineOut, coarsenOut, restoreOut}
-use Rattle.laws.specs.Lawful.{refusal-exact, applies-from-3}
+use Rattle.laws.specs.Lawful.{refusal-lawful, refusal-exact, applies-from-3}
+use Rattle.laws.specs.Culprit.{check-due, refine-due, coarsen-due, restore-due}
 use Rattle.laws.specs.Check.{CheckSays, unlawful-base, check-exact}
 use Rattle.laws.specs.Marks.{WellMarked}
 use Rattle.laws.specs.Cut.{CutLaws}
 use Rattle.laws.specs.Bisected.{bisected-laws}
 use Rattle.laws.specs.Refine.{toSplit, Least, OddSum, Fits, TooMany, RefineSays, unlawful, Refined, refine-splits, started-exactly, starts-own, refine-exact, refine-8, refine-9, refine-0, refine-only-8-9, refine-done}
 use Rattle.laws.specs.CoarsenCalls.{Coarsened, CoarsenSays, well-marked, RestoreDone, coarsen-exact, coarsen-0, coarsen-done, restore-done}
-use Rattle.laws.specs.Restore.{restored-fewer, restored-rows}
+use Rattle.laws.specs.Restore.{LooksAt, looks-lawful, restored-fewer, restored-rows}
 use Rattle.laws.specs.TableMesh.{nodes-count, rows-count, tablesAfter}
-use Rattle.laws.specs.CallLaw.{Sizes, sizes-exact, AsGiven, Holds, Answers, CallLeaves, call-answers, done-holds, check-leaves, refine-leaves, coarsen-leaves, restore-leaves}
+use Rattle.laws.specs.CallLaw.{Sizes, sizes-exact, AsGiven, Holds, Answers, CallLeaves, call-answers, done-holds, check-leaves, refine-leaves, coarsen-leaves, restore-leaves, restore-refused}
 use Rattle.demands.specs.InFour.{InFour, marked-in-four}
 
 -- ---- what a user finds
@@ -85,6 +87,10 @@ pub record RestoreEnded (g : Given) (n0 : ℕ) (o : Outcome) : Type 0 where
 pub record RestoreMade (g : Given) (n0 : ℕ) (o : Outcome) : Type 0 where
   -- 0 exactly of a lawful mesh (`lowest-0`), 3 to 7 exactly if the number is the lowest that applies
   pub answered : Answers g n0 (Lowest (meshOf g)) o
+  -- a refusal is that of the first pass, so that the culprit is a node or row of the mesh as given:
+  pub refused-at-first : o .answer .number ≢ 0 → o ≡ coarsenOut g n0 (replicate (g .n) 1)
+  -- where that one is not refused no later one is, for every mesh in which restore looks for good nodes is lawful
+  pub not-refused-later : o .answer .number ≡ 0 → {x : Mesh} → LooksAt n0 (meshOf g) x → refusal x ≡ 0
   pub leaves-restored : o .answer .number ≡ 0 → RestoreEnded g n0 o
 
 -- ---- the proof
@@ -101,7 +107,7 @@ check-call g o e =
     let c = check-leaves g in
     subst (CheckMade g) (sym e)
     (record {
-      answered = call-answers g 0 (checkNo (meshOf g)) (CheckSays (meshOf g)) (checkOut g) (c .check-number) (check-exact (meshOf g)) not-1 (λ n. c .all-as-given) (c .scratch-zero);
+      answered = call-answers g 0 (checkNo (meshOf g)) (CheckSays (meshOf g)) (checkOut g) (c .check-number) (check-exact (meshOf g)) not-1 (c .check-culprit) (check-due (meshOf g)) (λ n. c .all-as-given) (c .scratch-zero);
       never-written = c .all-as-given;
     })
   where
@@ -148,7 +154,7 @@ module _ (w : Way) (laws : CutLaws (w .cutting)) (own : (t : Tri) → All (λ e.
       let c = refine-leaves g n0 w marks in
       subst (RefineMade w (w .starts) g n0 marks) (sym e)
       (record {
-        answered = call-answers g n0 (k g n0 marks) (RefineSays w (roomOf g) (meshOf g) marks) (refineOut w g n0 marks) (c .number-said) (refine-exact w (roomOf g) (meshOf g) marks) (not-1 g n0 marks) (c .refusal-leaves) (c .scratch-zero);
+        answered = call-answers g n0 (k g n0 marks) (RefineSays w (roomOf g) (meshOf g) marks) (refineOut w g n0 marks) (c .number-said) (refine-exact w (roomOf g) (meshOf g) marks) (not-1 g n0 marks) (c .culprit-said) (refine-due (meshOf g) w (roomOf g) marks) (c .refusal-leaves) (c .scratch-zero);
         starts-exactly = started-exactly w marks (meshOf g .tris);
         splits-least = refine-splits w own (meshOf g) marks;
         of-lawful = lawful-says g n0 marks;
@@ -172,7 +178,7 @@ coarsen-call g n0 marks o e =
     let c = coarsen-leaves g n0 marks in
     subst (CoarsenMade g n0 marks) (sym e)
     (record {
-      answered = call-answers g n0 (coarsenNo (meshOf g) marks) (CoarsenSays (meshOf g) marks) (coarsenOut g n0 marks) (c .number-said) (coarsen-exact (meshOf g) marks) not-1 (c .refusal-leaves) (c .scratch-zero);
+      answered = call-answers g n0 (coarsenNo (meshOf g) marks) (CoarsenSays (meshOf g) marks) (coarsenOut g n0 marks) (c .number-said) (coarsen-exact (meshOf g) marks) not-1 (c .culprit-said) (coarsen-due (meshOf g) marks) (c .refusal-leaves) (c .scratch-zero);
       of-lawful = λ s f law. c .number-said ∙ rw (sizes-exact g n0 .1 s) (coarsen-0 (meshOf g) marks .1 (rw (nodes-count g) f, law));
       leaves-coarsened = made c;
     })
@@ -193,18 +199,22 @@ restore-call g n0 o e =
     let c = restore-leaves g n0 in
     subst (RestoreMade g n0) (sym e)
     (record {
-      answered = call-answers g n0 (refusal (meshOf g)) (Lowest (meshOf g)) (restoreOut g n0) (c .number-said) (refusal-exact (meshOf g)) (no-1 (meshOf g)) (c .refusal-leaves) (c .scratch-zero);
+      answered = call-answers g n0 (refusal (meshOf g)) (Lowest (meshOf g)) (restoreOut g n0) (c .number-said) (refusal-exact (meshOf g)) (no-1 (meshOf g)) (c .culprit-said) (restore-due (meshOf g)) (c .refusal-leaves) (c .scratch-zero);
+      refused-at-first = restore-refused g n0;
+      not-refused-later = λ z. let (s, k) = c .sized-and-0 z in looks-lawful (refusal-lawful (meshOf g) k) (base-fits s);
       leaves-restored = made c;
     })
   where
+    base-fits : Sizes g n0 → n0 ≤ length (meshOf g .nodes)
+    base-fits s = omega (arith, s .n0-fits, nodes-count g)
+
     made : CallLeaves g n0 (refusal (meshOf g)) (restored n0 (meshOf g) .end) (restored n0 (meshOf g) .passes) (restoreOut g n0) → restoreOut g n0 .answer .number ≡ 0 → RestoreEnded g n0 (restoreOut g n0)
     made c z =
         let (s, k) = c .sized-and-0 z in
-        let le : n0 ≤ length (meshOf g .nodes) = omega (arith, s .n0-fits, nodes-count g) in
         let (a, b) = fits-tables (length (g .nodes)) (length (g .rows)) (length (restored n0 (meshOf g) .end .nodes)) (length (restored n0 (meshOf g) .end .tris)) (omega (arith, s .n-fits, nodes-count g, restored-fewer n0 (meshOf g))) (omega (arith, s .t-fits, rows-count g, restored-rows n0 (meshOf g))) in
         record {
           holds = rw (c .done-is z) (done-holds g (restored n0 (meshOf g) .end) (restored n0 (meshOf g) .passes) a b);
-          is-restored = restore-done n0 (meshOf g) le k;
+          is-restored = restore-done n0 (meshOf g) (base-fits s) k;
           reports-made = ap (λ (x : Outcome). x .answer .passes) (c .done-is z);
         }
 
@@ -219,6 +229,7 @@ pub record Demand2 : Type 1 where
   pub cut-in-four : (g : Given) (n0 : ℕ) (marks : List ℕ) (o : Outcome) → o ≡ refineOut allThree g n0 marks → o .answer .number ≡ 0 → (i : ℕ) → i < g .t → getD marks i 0 ≡ 1 →
       InFour (rowOf (meshOf g .tris) i) i (meshOf (tablesAfter o))
   pub of-coarsen : (g : Given) (n0 : ℕ) (marks : List ℕ) (o : Outcome) → o ≡ coarsenOut g n0 marks → CoarsenMade g n0 marks o
+  pub of-restore : (g : Given) (n0 : ℕ) (o : Outcome) → o ≡ restoreOut g n0 → RestoreMade g n0 o
 
 pub demand2-calls : Demand2
-demand2-calls = record { of-check = check-call; of-refine = manner-call Newest; of-quarter = manner-call AllThree; cut-in-four = quarter-in-four; of-coarsen = coarsen-call }
+demand2-calls = record { of-check = check-call; of-refine = manner-call Newest; of-quarter = manner-call AllThree; cut-in-four = quarter-in-four; of-coarsen = coarsen-call; of-restore = restore-call }

@@ -1,6 +1,6 @@
--- Demands 2 and 3 of the calls at S: checked, refined from all three edges of a triangle, then by 01, then coarsened, a refused call of each
--- kind among them, and other scratch; each run compared with its lists. The premises of `demand3-calls` are met, and it says that restore
--- leaves S after 2 passes. Assumes nothing.
+-- Demands 2 and 3 of the calls at S: checked, refined from all three edges of a triangle, then by 01, then coarsened, refused calls of each
+-- kind among them, with and without a culprit, and other scratch; each run compared with its lists. The premises of `demand3-calls` are met,
+-- and it says that restore leaves S after 2 passes. Assumes nothing.
 use mathlib.Core.List.{List, [], _∷_, _++_, map}
 use mathlib.Core.Path.{_≡_, refl}
 use Prim.Native.Nat.{ℕ, suc, _<_}
@@ -9,12 +9,12 @@ use lib.IntN.{pos}
 use lib.ListN.{replicate}
 use Rattle.lists.specs.Search.{lowest, lowestFrom, items, itemsFrom}
 use Rattle.meaning.specs.Mesh.{tri, twiceArea}
-use Rattle.meaning.specs.Lawful.{refusal, compatible, faultOf, firstOutside, firstMisnamed, firstRepeat, firstFlat, firstUnused, firstClash}
+use Rattle.meaning.specs.Lawful.{Names, refusal, compatible, faultOf, firstOutside, firstMisnamed, firstRepeat, firstFlat, firstUnused, firstClash}
 use Rattle.meaning.specs.Split.{newest, allThree, closure, splitEdges, splitAt, split, refined}
 use Rattle.meaning.specs.Good.{pairs, span, G1-4, good}
 use Rattle.meaning.specs.Coarsen.{taken, without, coarsened, goodNodes, pass, restored}
 use Rattle.meaning.specs.Tables.{Given, Outcome, given, outcome, answer, placeAt, rowAt, meshOf}
-use Rattle.meaning.specs.Calls.{checkNo, refineNo, coarsenNo, checks, refines, coarsens, restores, sizesFit, checkOut, refineOut, coarsenOut, restoreOut}
+use Rattle.meaning.specs.Calls.{carried, checkNo, refineNo, coarsenNo, checks, refines, coarsens, restores, sizesFit, checkOut, refineOut, coarsenOut, restoreOut}
 use Rattle.laws.specs.TableMesh.{tablesAfter}
 use Rattle.demands.specs.InFour.{InFour}
 use Rattle.demands.specs.Demand2Calls.{RefineDone, CoarsenDone, demand2-calls}
@@ -30,9 +30,13 @@ two = 1 ∷ 2 ∷ 0 ∷ 3 ∷ 0 ∷ 2 ∷ []
 S : Given
 S = given (map pos (square ++ replicate 10 5)) (two ++ replicate 24 6) (replicate 76 7) 4 2
 
--- What a call leaves there: its number, counts and passes; nodes, rows, and how long scratch is.
+-- What a call leaves there that blames nobody: its number, counts and passes; nodes, rows, and how long scratch is.
 leaving : ℕ → ℕ → ℕ → ℕ → List ℕ → List ℕ → ℕ → Outcome
-leaving k n t p ns rs c = outcome (answer k n t p) (map pos ns) rs (replicate c 0)
+leaving k n t p ns rs c = outcome (answer k n t p 0) (map pos ns) rs (replicate c 0)
+
+-- What one leaves that is refused, node or row z being the culprit.
+blaming : ℕ → ℕ → ℕ → ℕ → List ℕ → List ℕ → ℕ → Outcome
+blaming k z n t ns rs c = outcome (answer k n t 0 z) (map pos ns) rs (replicate c 0)
 
 -- The nodes and rows of S with row 0 cut in four, and of that with row 0 refined by 01.
 nodesCut : List ℕ
@@ -53,27 +57,29 @@ S4 = given (map pos nodesCut) rowsCut (replicate 80 9) 7 6
 
 -- The base check says 0 of S.
 S-checked : leaving 0 4 2 0 (square ++ replicate 10 5) (two ++ replicate 24 6) 76 ≡ checkOut S
-unfolding leaving square two S lowest lowestFrom items itemsFrom placeAt rowAt meshOf twiceArea firstOutside firstMisnamed firstRepeat firstFlat firstUnused firstClash faultOf refusal compatible checkNo sizesFit checkOut
+unfolding leaving square two S lowest lowestFrom items itemsFrom placeAt rowAt meshOf twiceArea firstOutside firstMisnamed firstRepeat firstFlat firstUnused firstClash faultOf refusal compatible carried checkNo sizesFit checkOut
 S-checked = refl
 
 not-0 : (k : ℕ) → suc k ≡ 0 → ⊥
 not-0 k e = omega arith
 
--- Row 0 is cut in four, then bisected. Then a check with a count too low (4), a refine with a mark table of another length (2), and one from
--- all three edges for which there is no room (9); node 7 is coarsened; a coarsen with n0 above n (1) and a restore with no scratch (1);
--- other scratch.
+-- Row 0 is cut in four, then bisected. Then a check with a count too low (4: row 0 names node 7), a refine with a mark table of another length
+-- (2), and one from all three edges for which there is no room (9); node 7 is coarsened; a coarsen with n0 above n (1) and a restore with no
+-- scratch (1); a refine with a count too low (4: row 2 names node 6) and a restore with one too high (7: node 7 is in no row); other scratch.
 history : Held S S4
-unfolding leaving square two nodesCut nodesMore rowsCut rowsMore S S4 lowest lowestFrom items itemsFrom placeAt rowAt meshOf twiceArea firstOutside firstMisnamed firstRepeat firstFlat firstUnused firstClash faultOf refusal compatible closure splitEdges splitAt split refined pairs span G1-4 good taken without coarsened goodNodes pass restored checkNo refineNo coarsenNo checks refines coarsens restores sizesFit checkOut refineOut coarsenOut restoreOut
+unfolding leaving blaming square two nodesCut nodesMore rowsCut rowsMore S S4 lowest lowestFrom items itemsFrom placeAt rowAt meshOf twiceArea firstOutside firstMisnamed firstRepeat firstFlat firstUnused firstClash faultOf refusal compatible closure splitEdges splitAt split refined pairs span G1-4 good taken without coarsened goodNodes pass restored carried checkNo refineNo coarsenNo checks refines coarsens restores sizesFit checkOut refineOut coarsenOut restoreOut
 history =
     let a = after-refine base-held allThree refl (1 ∷ 0 ∷ []) (leaving 0 7 6 0 nodesCut rowsCut 76) refl refl in
     let b = after-refine a newest refl (1 ∷ 0 ∷ 0 ∷ 0 ∷ 0 ∷ 0 ∷ []) (leaving 0 8 8 0 nodesMore rowsMore 76) refl refl in
-    let c = after-refusal b (replicate 76 1) 7 8 (leaving 4 7 8 0 nodesMore rowsMore 76) (check-made refl) (not-0 3) in
+    let c = after-refusal b (replicate 76 1) 7 8 (blaming 4 0 7 8 nodesMore rowsMore 76) (check-made refl) (not-0 3) in
     let d = after-refusal c (replicate 76 0) 8 8 (leaving 2 8 8 0 nodesMore rowsMore 76) (refine-made newest 4 (1 ∷ []) refl) (not-0 1) in
     let e = after-refusal d (replicate 76 0) 8 8 (leaving 9 8 8 0 nodesMore rowsMore 76) (refine-made allThree 4 (0 ∷ 0 ∷ 0 ∷ 0 ∷ 1 ∷ 0 ∷ 0 ∷ 0 ∷ []) refl) (not-0 8) in
     let f = after-coarsen e (0 ∷ 0 ∷ 0 ∷ 0 ∷ 0 ∷ 0 ∷ 0 ∷ 1 ∷ []) (leaving 0 7 6 0 nodesCut rowsCut 76) refl refl in
     let g = after-refusal f (replicate 76 0) 7 6 (leaving 1 7 6 0 nodesCut rowsCut 76) (coarsen-made 8 (replicate 7 1) refl) (not-0 0) in
     let h = after-refusal g [] 7 6 (leaving 1 7 6 0 nodesCut rowsCut 0) (restore-made 4 refl) (not-0 0) in
-    scratch-anew h (replicate 80 9)
+    let i = after-refusal h (replicate 76 2) 6 6 (blaming 4 2 6 6 nodesCut rowsCut 76) (refine-made newest 4 (replicate 6 0) refl) (not-0 3) in
+    let j = after-refusal i (replicate 76 2) 9 6 (blaming 7 7 9 6 nodesCut rowsCut 76) (restore-made 4 refl) (not-0 6) in
+    scratch-anew j (replicate 80 9)
 
 -- Demand 2, of the accepted runs: the tables hold the mesh refined from all three edges, then by 01; and the coarsened one.
 quartered-first : RefineDone allThree S (1 ∷ 0 ∷ []) (leaving 0 7 6 0 nodesCut rowsCut 76)
@@ -92,6 +98,21 @@ refined-next = demand2-calls .of-refine _ 4 _ _ refl .leaves-refined refl
 coarsened-last : CoarsenDone (tablesAfter (leaving 0 8 8 0 nodesMore rowsMore 76)) 4 (0 ∷ 0 ∷ 0 ∷ 0 ∷ 0 ∷ 0 ∷ 0 ∷ 1 ∷ []) (leaving 0 7 6 0 nodesCut rowsCut 76)
 unfolding leaving square nodesCut nodesMore rowsCut rowsMore lowest lowestFrom items itemsFrom placeAt rowAt meshOf twiceArea firstOutside firstMisnamed firstRepeat firstFlat firstUnused faultOf refusal pairs span G1-4 good taken without coarsened coarsenNo coarsens sizesFit coarsenOut
 coarsened-last = demand2-calls .of-coarsen _ 4 _ _ refl .leaves-coarsened refl
+
+-- And of the refused runs with a count too low and one too high: row 2 is the lowest that names a node not there, node 7 the lowest in no row.
+few : Given
+few = given (map pos nodesCut) rowsCut (replicate 76 2) 6 6
+
+many : Given
+many = given (map pos nodesCut) rowsCut (replicate 76 2) 9 6
+
+row-named : Names (meshOf few) 4 2
+unfolding blaming square nodesCut rowsCut few lowest lowestFrom items itemsFrom placeAt rowAt meshOf firstOutside firstMisnamed faultOf refusal carried refineNo refines sizesFit refineOut
+row-named = demand2-calls .of-refine few 4 (replicate 6 0) (blaming 4 2 6 6 nodesCut rowsCut 76) refl .answered .names
+
+node-named : Names (meshOf many) 7 7
+unfolding blaming square nodesCut rowsCut many lowest lowestFrom items itemsFrom placeAt rowAt meshOf twiceArea firstOutside firstMisnamed firstRepeat firstFlat firstUnused faultOf refusal carried restores sizesFit restoreOut
+node-named = demand2-calls .of-restore many 4 (blaming 7 7 9 6 nodesCut rowsCut 76) refl .answered .names
 
 -- A full pass that is made removes a node,
 passed : (o : Outcome) → o ≡ coarsenOut S4 4 (replicate 7 1) → o .answer .n < 7

@@ -1,8 +1,8 @@
--- What any call leaves in the tables it was lent: 1 exactly if the sizes do not fit, else its number for the mesh; after 0 the tables hold
--- the new mesh and zeros past it; refused, they are as they were. Assumes nothing.
+-- What any call leaves in the tables it was lent: 1 exactly if the sizes do not fit, else its number for the mesh; the culprit that the number
+-- names; after 0 the tables hold the new mesh and zeros past it; refused, they are as they were. Assumes nothing.
 use mathlib.Core.Bool.{Bool, true, false, _&&_}
 use mathlib.Core.List.{List, _++_}
-use mathlib.Core.Logic.{_↔_, _≢_}
+use mathlib.Core.Logic.{_↔_, _≢_, inl}
 use mathlib.Core.Path.{_≡_, refl, sym, subst, ap, _∙_}
 use Prim.Native.Nat.{ℕ, zero, suc, _+_, _-_, _*_, _/_, _%_, _≤_, _<_}
 use native.Mathlib.Omega.{arith}
@@ -14,12 +14,14 @@ use Rattle.lists.specs.Lists.{cases}
 use Rattle.lists.specs.ListsLaw.{and-left, and-right}
 use Rattle.meaning.specs.Mesh.{Mesh}
 use Rattle.meaning.specs.Tables.{Given, Outcome, nodeForm, rowForm, meshOf, roomOf, flatNodes, flatRows, filled, cleared}
-use Rattle.meaning.specs.Lawful.{refusal}
+use Rattle.meaning.specs.Lawful.{Names, refusal}
 use Rattle.meaning.specs.Split.{Way, refined}
 use Rattle.meaning.specs.Coarsen.{coarsened, restored}
-use Rattle.meaning.specs.Calls.{carried, says, checkNo, refineNo, coarsenNo, refines, coarsens, restores, sizesFit, untouched, done, leaves, sized, checkOut, refineOut, coarsenOut, restoreOut}
+use Rattle.meaning.specs.Calls.{marksFit, carried, says, checkNo, refineNo, coarsenNo, refines, coarsens, restores, sizesFit, untouched, done, leaves, sized, checkOut, refineOut, coarsenOut, restoreOut}
 use Rattle.laws.specs.Exact.{unfit}
-use Rattle.laws.specs.TableMesh.{flat-nodes-length, flat-rows-length, tablesAfter, done-mesh, done-nodes, done-rows}
+use Rattle.laws.specs.Marks.{marks-exact, ones-fit}
+use Rattle.laws.specs.Culprit.{Due, names-nobody, names-exact, carried-names, carried-0}
+use Rattle.laws.specs.TableMesh.{nodes-count, flat-nodes-length, flat-rows-length, tablesAfter, done-mesh, done-nodes, done-rows}
 
 -- ---- sizes
 
@@ -126,7 +128,7 @@ pub record Holds (g : Given) (new : Mesh) (o : Outcome) : Type 0 where
 -- a call's outcome, k being its number for the mesh, new the mesh that it makes, p its passes
 pub record CallLeaves (g : Given) (n0 k : ℕ) (new : Mesh) (p : ℕ) (o : Outcome) : Type 0 where
   pub number-said : o .answer .number ≡ cases (sizesFit g n0) k 1
-  pub culprit-said : o .answer .number ≢ 0 → o .answer .culprit ≡ cases (sizesFit g n0) (carried (meshOf g) k) 0
+  pub culprit-said : o .answer .culprit ≡ cases (sizesFit g n0) (carried (meshOf g) k) 0
   pub sized-and-0 : o .answer .number ≡ 0 → Sizes g n0 × (k ≡ 0)
   pub done-is : o .answer .number ≡ 0 → o ≡ done g new p
   pub refusal-leaves : o .answer .number ≢ 0 → AsGiven g o
@@ -161,7 +163,7 @@ call-leaves g n0 k new p = go (sizesFit g n0) refl k
     refused : (b : Bool) → sizesFit g n0 ≡ b → (k j : ℕ) → suc j ≡ cases b k 1 → CallLeaves g n0 k new p (untouched g (suc j) (cases b (carried (meshOf g) k) 0))
     refused b q k j e = record {
       number-said = rw (q, e);
-      culprit-said = λ n. rw q;
+      culprit-said = rw q;
       sized-and-0 = λ e. absurd (omega arith);
       done-is = λ e. absurd (omega arith);
       refusal-leaves = λ n. untouched-as-given g (suc j) (cases b (carried (meshOf g) k) 0);
@@ -169,7 +171,7 @@ call-leaves g n0 k new p = go (sizesFit g n0) refl k
     }
 
     go : (b : Bool) → sizesFit g n0 ≡ b → (k : ℕ) → CallLeaves g n0 k new p (cases b (leaves g (says k (meshOf g) new p)) (untouched g 1 0))
-    go true q zero = record { number-said = rw q; culprit-said = λ n. absurd (n refl); sized-and-0 = λ e. (sizes-exact g n0 .0 q, refl); done-is = λ e. refl; refusal-leaves = λ n. absurd (n refl); scratch-zero = refl }
+    go true q zero = record { number-said = rw q; culprit-said = rw (q, carried-0 (meshOf g) 0 (inl (omega arith))); sized-and-0 = λ e. (sizes-exact g n0 .0 q, refl); done-is = λ e. refl; refusal-leaves = λ n. absurd (n refl); scratch-zero = refl }
     go true q (suc k) = refused true q (suc k) k refl
     go false q k = refused false q k 0 refl
 
@@ -179,19 +181,34 @@ pub record Answers (g : Given) (n0 : ℕ) (Of : ℕ → Type 0) (o : Outcome) : 
   pub says-1-exactly : (o .answer .number ≡ 1) ↔ (¬ Sizes g n0)
   -- each number exactly when its line says, and no other
   pub says-exactly : (k : ℕ) → (o .answer .number ≡ k) ↔ Says g n0 Of k
+  -- W2: the culprit is the lowest node or row at fault with 3 to 7, and 0 with every other number
+  pub names : Names (meshOf g) (o .answer .number) (o .answer .culprit)
   -- refused: tables as they were, the counts given, 0 passes
   pub refused-as-given : o .answer .number ≢ 0 → AsGiven g o
   -- "It is all zero after every call, refused or not."
   pub scratch-all-zero : o .scratch ≡ cleared (g .scratch)
 
-pub call-answers : (g : Given) (n0 k : ℕ) (Of : ℕ → Type 0) (o : Outcome) → o .answer .number ≡ cases (sizesFit g n0) k 1 → ((j : ℕ) → (k ≡ j) ↔ Of j) → ¬ Of 1 →
-    (o .answer .number ≢ 0 → AsGiven g o) → o .scratch ≡ cleared (g .scratch) → Answers g n0 Of o
-call-answers g n0 k Of o e exact no1 same zeroed = record {
-  says-1-exactly = rw e (says-1 g n0 k (λ z. no1 (exact 1 .0 z)));
-  says-exactly = rw e (says-exact g n0 k Of exact);
-  refused-as-given = same;
-  scratch-all-zero = zeroed;
-}
+module _ (g : Given) (n0 k : ℕ) (Of : ℕ → Type 0) (o : Outcome) (e : o .answer .number ≡ cases (sizesFit g n0) k 1) where
+  answer-names : o .answer .culprit ≡ cases (sizesFit g n0) (carried (meshOf g) k) 0 → Due (meshOf g) k → Names (meshOf g) (o .answer .number) (o .answer .culprit)
+  answer-names c due = rw (e, c) (go (sizesFit g n0))
+    where
+      go : (b : Bool) → Names (meshOf g) (cases b k 1) (cases b (carried (meshOf g) k) 0)
+      go true = carried-names (meshOf g) k due
+      go false = names-nobody (meshOf g) 1 (inl (omega arith))
+
+  pub call-answers : ((j : ℕ) → (k ≡ j) ↔ Of j) → ¬ Of 1 → o .answer .culprit ≡ cases (sizesFit g n0) (carried (meshOf g) k) 0 → Due (meshOf g) k →
+      (o .answer .number ≢ 0 → AsGiven g o) → o .scratch ≡ cleared (g .scratch) → Answers g n0 Of o
+  call-answers exact no1 c due same zeroed = record {
+    says-1-exactly = rw e (says-1 g n0 k (λ z. no1 (exact 1 .0 z)));
+    says-exactly = rw e (says-exact g n0 k Of exact);
+    names = answer-names c due;
+    refused-as-given = same;
+    scratch-all-zero = zeroed;
+  }
+
+-- THE CULPRIT SAID IS THE ONE THAT THE NUMBER NAMES, and no other.
+pub culprit-exact : {g : Given} {n0 : ℕ} {Of : ℕ → Type 0} {o : Outcome} → Answers g n0 Of o → (z : ℕ) → (o .answer .culprit ≡ z) ↔ Names (meshOf g) (o .answer .number) z
+culprit-exact a = names-exact (a .names)
 
 -- A call that makes no passes reports none.
 pub leaves-no-passes : {g : Given} {n0 k : ℕ} {new : Mesh} {o : Outcome} → CallLeaves g n0 k new 0 o → o .answer .passes ≡ 0
@@ -240,3 +257,18 @@ refine-no-passes w g n0 marks = leaves-no-passes (refine-leaves g n0 w marks)
 
 pub coarsen-no-passes : (g : Given) (n0 : ℕ) (marks : List ℕ) → coarsenOut g n0 marks .answer .passes ≡ 0
 coarsen-no-passes g n0 marks = leaves-no-passes (coarsen-leaves g n0 marks)
+
+-- A restore that is refused leaves what its first full pass leaves, which is made on the tables as given.
+pub restore-refused : (g : Given) (n0 : ℕ) → restoreOut g n0 .answer .number ≢ 0 → restoreOut g n0 ≡ coarsenOut g n0 (replicate (g .n) 1)
+unfolding restoreOut coarsenOut restores coarsens coarsenNo
+restore-refused g n0 = rw marked (go (sizesFit g n0) (refusal (meshOf g)))
+  where
+    marked : marksFit (length (meshOf g .nodes)) (replicate (g .n) 1) ≡ true
+    marked = marks-exact (length (meshOf g .nodes)) (replicate (g .n) 1) .1 (rw (nodes-count g) (ones-fit (g .n)))
+
+    go : (b : Bool) (k : ℕ) → cases b (leaves g (says k (meshOf g) (restored n0 (meshOf g) .end) (restored n0 (meshOf g) .passes))) (untouched g 1 0) .answer .number ≢ 0 →
+        cases b (leaves g (says k (meshOf g) (restored n0 (meshOf g) .end) (restored n0 (meshOf g) .passes))) (untouched g 1 0)
+        ≡ cases b (leaves g (says k (meshOf g) (coarsened n0 (meshOf g) (replicate (g .n) 1)) 0)) (untouched g 1 0)
+    go true zero n = absurd (n refl)
+    go true (suc k) n = refl
+    go false k n = refl

@@ -83,7 +83,7 @@ module _ (m : Mesh) where
     names-none = other-no (omega arith) (omega arith);
   }
 
-  names-nobody : (k : ℕ) → Other k → Names m k 0
+  pub names-nobody : (k : ℕ) → Other k → Names m k 0
   names-nobody k o = record {
     names-3 = λ q. other-no (omega arith) (omega arith) o;
     names-4 = λ q. other-no (omega arith) (omega arith) o;

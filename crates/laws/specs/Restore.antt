@@ -12,9 +12,10 @@ use Rattle.lists.specs.ListsLaw.{All-imp, All-at}
 use Rattle.lists.specs.MembersLaw.{only-in, only-passes, only-keeps, only-cong, upTo-below, upTo-in}
 use Rattle.meaning.specs.declared.Place.{Place}
 use Rattle.meaning.specs.Mesh.{Mesh}
-use Rattle.meaning.specs.Lawful.{Lawful}
+use Rattle.meaning.specs.Lawful.{Lawful, refusal}
 use Rattle.meaning.specs.Good.{good}
 use Rattle.meaning.specs.Coarsen.{marked, taken, without, coarsened, goodNodes, allMarked, pass, Restored, more, run, restored}
+use Rattle.laws.specs.Lawful.{lawful-refusal}
 use Rattle.laws.specs.Coarsen.{Gone, Preserved, coarsened-count, coarsened-rows, coarsened-gone, coarsened-preserved}
 
 -- the good nodes, as a list
@@ -143,11 +144,25 @@ preserved-on h k = record {
   base-kept = λ j l. k .base-kept j l ∙ h .base-kept j l;
 }
 
-passes-preserved : {n0 : ℕ} {m : Mesh} {r : Restored} → Passes n0 m r → Lawful m → n0 ≤ length (m .nodes) → Preserved n0 m (r .end)
-passes-preserved {n0} {m} (none-good e) law le = preserved-self n0 m law le
-passes-preserved {n0} {m} (one-pass z zs e p) law le = let k = pass-preserved n0 m law le in preserved-on k (passes-preserved p (k .lawful) (k .base-there))
+-- ---- the meshes in which restore looks for good nodes: the mesh as given, then what each pass left
 
--- and adds no row
+pub data LooksAt (n0 : ℕ) (m : Mesh) : Mesh → Type 0 where
+  as-given : LooksAt n0 m m
+  after-pass : {x : Mesh} → LooksAt n0 m x → (z : ℕ) (zs : List ℕ) → goodNodes n0 x ≡ z ∷ zs → LooksAt n0 m (pass n0 x)
+
+looks-on : {n0 : ℕ} {m x : Mesh} {r : Restored} → LooksAt n0 m x → Passes n0 x r → LooksAt n0 m (r .end)
+looks-on s (none-good e) = s
+looks-on s (one-pass z zs e p) = looks-on (after-pass s z zs e) p
+
+looks-preserved : {n0 : ℕ} {m x : Mesh} → Lawful m → n0 ≤ length (m .nodes) → LooksAt n0 m x → Preserved n0 m x
+looks-preserved {n0} {m} law le as-given = preserved-self n0 m law le
+looks-preserved {n0} law le (after-pass {x = x} s z zs e) = let k = looks-preserved law le s in preserved-on k (pass-preserved n0 x (k .lawful) (k .base-there))
+
+-- NO PASS BUT THE FIRST CAN BE REFUSED: from a lawful mesh restore looks at lawful ones only.
+pub looks-lawful : {n0 : ℕ} {m x : Mesh} → Lawful m → n0 ≤ length (m .nodes) → LooksAt n0 m x → refusal x ≡ 0
+looks-lawful {x = x} law le s = lawful-refusal x (looks-preserved law le s .lawful)
+
+-- ---- a pass adds no row
 pass-rows : (n0 : ℕ) (m : Mesh) → length (pass n0 m .tris) ≤ length (m .tris)
 unfolding pass
 pass-rows n0 m = coarsened-rows n0 m (allMarked (m .nodes))
@@ -169,7 +184,7 @@ module _ (n0 : ℕ) (m : Mesh) where
 
   module _ (law : Lawful m) (le : n0 ≤ length (m .nodes)) where
     pub restored-preserved : Preserved n0 m (restored n0 m .end)
-    restored-preserved = passes-preserved (restored-is n0 m) law le
+    restored-preserved = looks-preserved law le (looks-on as-given (restored-is n0 m))
 
     -- no more passes than nodes were added
     pub restored-passes : restored n0 m .passes + n0 ≤ length (m .nodes)

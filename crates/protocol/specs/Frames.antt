@@ -1,5 +1,5 @@
--- Document 01, 'The line program', and W1's `09`: what one line does to what the program holds, and what it writes. Every definition
--- takes any tables and any bytes. Assumes nothing.
+-- Document 01, 'The line program', W1's `09` and W2's culprit: what one line does to what the program holds, and what it writes. Every
+-- definition takes any tables and any bytes. Assumes nothing.
 use mathlib.Core.Bool.{Bool, true, false, not, _&&_}
 use mathlib.Core.List.{List, []}
 use Prim.Native.Nat.{ℕ, _+_, _%_}
@@ -118,11 +118,11 @@ addRow h fields =
 
 -- ---- the calls: 03 to 06, and 09
 
--- "A refused 03 drops all rows and shows zero counts."
+-- "A refused 03 drops all rows and shows zero counts." The culprit is shown all the same: the node or row, counted as they were added
 abbrev pub orDropped : Outcome → Outcome
 orDropped o =
     cases (eqb (o .answer .number) 0) o
-    (outcome (answer (o .answer .number) 0 0 0) (filled (pos 0) (length (o .nodes)) []) (filled 0 (length (o .rows)) []) (o .scratch))
+    (outcome (answer (o .answer .number) 0 0 0 (o .answer .culprit)) (filled (pos 0) (length (o .nodes)) []) (filled 0 (length (o .rows)) []) (o .scratch))
 
 -- the marks for k rows or nodes: "A repeated number counts once."
 unfoldable pub marksOf : ℕ → List ℕ → List ℕ

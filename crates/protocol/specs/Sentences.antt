@@ -1,21 +1,21 @@
 -- Sentences of documents 01 and 02 about a line, as theorems. Assumes nothing.
 use mathlib.Core.Path.{_≡_, refl, ap}
-use mathlib.Core.Bool.{true, false}
+use mathlib.Core.Bool.{Bool, true, false}
 use mathlib.Core.List.{List, []}
 use Prim.Native.Nat.{ℕ, _+_, _*_, _≤_, _<_}
-use borrow.Author.Tests.{eqb-true, eq-eqb, lt-ltb}
+use borrow.Author.Tests.{eqb-true, eq-eqb, ne-eqb, lt-ltb}
 use lib.Dec.{eqb}
-use lib.ListN.{length}
-use Rattle.lists.specs.Lists.{any, once}
+use lib.ListN.{length, drop}
+use Rattle.lists.specs.Lists.{any, once, cases}
 use Rattle.lists.specs.AnyLaw.{any-once}
 use Rattle.meaning.specs.Split.{newest, allThree}
-use Rattle.meaning.specs.Tables.{placeAt, rowAt}
-use Rattle.meaning.specs.Calls.{refineOut}
+use Rattle.meaning.specs.Tables.{Outcome, answer, placeAt, rowAt}
+use Rattle.meaning.specs.Calls.{checkOut, refineOut}
 use Rattle.tables.specs.PutLaw.{place-set-same, row-set-same}
-use Rattle.text.specs.Digits.{listed}
-use Rattle.text.specs.Lines.{placeIn, rowIn}
+use Rattle.text.specs.Digits.{listed, hex}
+use Rattle.text.specs.Lines.{placeIn, rowIn, ended, answerLine}
 use Rattle.protocol.specs.declared.Session.{Session}
-use Rattle.protocol.specs.Frames.{Held, step, givenBy, refinesIn, wellFormed, admits, takes, kindOf, fieldsOf, addNode, addRow, marksOf, called, answering, frame, lineStep}
+use Rattle.protocol.specs.Frames.{Held, step, givenBy, refinesIn, wellFormed, admits, takes, kindOf, fieldsOf, addNode, addRow, orDropped, marksOf, called, answering, frame, lineStep}
 
 -- "Values in `01` and `02` are judged only by `03`." With room and no accepted base, a 01 of 16 digits is taken whatever they say: it
 -- answers nothing and stores them; and so is a 02 of 12. (What 03 then says: the rows of `talks` on values, in Worked.)
@@ -58,3 +58,28 @@ module _ (h : Held) (fields : List ℕ) where
   pub nine-answered : frame h 9 fields ≡ answering h 9 (refineOut allThree (givenBy h) (h .session .n0) (marksOf (h .session .t) (listed fields)))
   unfolding frame called refinesIn
   nine-answered = refl
+
+-- what two cases have in common
+alike : {A B : Type 0} (f : A → B) (b : Bool) (x y : A) → f y ≡ f x → f (cases b x y) ≡ f x
+alike f true x y e = refl
+alike f false x y e = e
+
+-- 01: "A refused 03 drops all rows and shows zero counts."; and it keeps the culprit
+module _ (o : Outcome) where
+  pub refused-shown : (o .answer .number ≡ 0 → ⊥) → orDropped o .answer ≡ answer (o .answer .number) 0 0 0 (o .answer .culprit)
+  refused-shown k = rw (ne-eqb (o .answer .number) 0 k)
+
+  culprit-kept : orDropped o .answer .culprit ≡ o .answer .culprit
+  culprit-kept = alike (λ (x : Outcome). x .answer .culprit) (eqb (o .answer .number) 0) o _ refl
+
+-- W2: "Answer lines but `ff` grow by four digits at their end": the culprit of the call's answer, after which the line ends. Of the
+-- kinds that are taken, all but 01, 02 and 07 answer.
+module _ (h : Held) (fields : List ℕ) where
+  pub culprit-last : (kind : ℕ) → (kind ≡ 1 → ⊥) → (kind ≡ 2 → ⊥) → (kind ≡ 7 → ⊥) → drop 16 (frame h kind fields .text) ≡ ended (hex 4 (called h kind fields .answer .culprit))
+  unfolding frame answerLine hex
+  culprit-last kind a b c = rw (ne-eqb kind 1 a, ne-eqb kind 2 b, ne-eqb kind 7 c)
+
+  -- that of 03 is the base check's, refused or not
+  pub culprit-of-base : called h 3 fields .answer .culprit ≡ checkOut (givenBy h) .answer .culprit
+  unfolding called
+  culprit-of-base = culprit-kept (checkOut (givenBy h))

@@ -13,7 +13,7 @@ use Rattle.meaning.specs.Split.{closure, splitEdges, splitAt, split, refined}
 use Rattle.meaning.specs.Good.{pairs, span, G1-4, good}
 use Rattle.meaning.specs.Coarsen.{taken, without, coarsened, goodNodes, pass, restored}
 use Rattle.meaning.specs.Tables.{placeAt, rowAt, meshOf}
-use Rattle.meaning.specs.Calls.{checkNo, refineNo, coarsenNo, checks, refines, coarsens, restores, sizesFit, checkOut, refineOut, coarsenOut, restoreOut}
+use Rattle.meaning.specs.Calls.{checkNo, refineNo, coarsenNo, checks, refines, coarsens, restores, carried, sizesFit, checkOut, refineOut, coarsenOut, restoreOut}
 use Rattle.tables.specs.Put.{setPlace, setRow}
 use Rattle.text.specs.Digits.{bytes, isDigit, worth, number, listed, signed, unsigned, hexDigit, hex}
 use Rattle.text.specs.Lines.{placeIn, rowIn, answerLine, nodeLine, rowLine, allLines}
@@ -33,19 +33,26 @@ said a b = record { says = a; hears = bytes "mesh lines 1\n" ++ b ++ bytes "end\
 talk : String → String → Talk
 talk a b = said (bytes a) (bytes b)
 
--- S of document 01; a base that is accepted
+-- the nodes of S of document 01
+corners : List ℕ
+corners = bytes "010000000000000000\n010000000800000000\n010000000800000008\n010000000000000008\n"
+
+over : String → String → Talk
+over a b = said (corners ++ bytes a) (bytes b)
+
+-- S; a base that is accepted
 square : List ℕ
-square = bytes "010000000000000000\n010000000800000000\n010000000800000008\n010000000000000008\n02000100020000\n02000300000002\n03\n"
+square = corners ++ bytes "02000100020000\n02000300000002\n03\n"
 
 on : String → String → Talk
-on a b = said (square ++ bytes a) (bytes "0300000400020000\n" ++ bytes b)
+on a b = said (square ++ bytes a) (bytes "03000004000200000000\n" ++ bytes b)
 
 talks : List Talk
 talks =
-    -- the whole example, and empty input
+    -- the whole example, as W2 amends it, and empty input
     talk
     "010000000000000000\n010000000800000000\n010000000800000008\n010000000000000008\n02000100020000\n02000300000002\n03\n040000\n06\n"
-    "0300000400020000\n0400000500040000\n0600000400020001\n" ∷
+    "03000004000200000000\n04000005000400000000\n06000004000200010000\n" ∷
     talk "" "" ∷
     -- no kind byte, half of one, an unknown one (of a later request too)
     talk "\n0\n00\n08\n0a\n10\nff\n" "ff\nff\nff\nff\nff\nff\nff\n" ∷
@@ -54,8 +61,8 @@ talks =
     said (0x30 ∷ 0xb3 ∷ 0x0a ∷ 0xff ∷ 0x0a ∷ 0x30 ∷ 0x33 ∷ 0x80 ∷ 0x0a ∷ 0 ∷ 0x0a ∷ []) (bytes "ff\nff\nff\nff\n") ∷
     -- a last line without its end byte, also an empty frame's; nothing after the last end byte is no line
     talk "03" "ff\n" ∷
-    talk "03\n03" "0300000000000000\nff\n" ∷
-    talk "03\n0" "0300000000000000\nff\n" ∷
+    talk "03\n03" "03000000000000000000\nff\n" ∷
+    talk "03\n0" "03000000000000000000\nff\n" ∷
     -- 01 and 02 of another length
     talk "01\n01000000000000000\n0100000000000000000\n02\n0200010002000\n020001000200000\n07\n" "ff\nff\nff\nff\nff\nff\n" ∷
     -- 07 shows rows that are not judged yet, coordinates as they came
@@ -64,49 +71,64 @@ talks =
     on "0600\n0700\n060\n" "ff\nff\nff\n" ∷
     talk "0300\n030\n" "ff\nff\n" ∷
     -- 03 accepts the empty mesh, once; 01 and 02 after it
-    talk "03\n03\n010000000000000000\n02000000010002\n07\n" "0300000000000000\nff\nff\nff\n" ∷
+    talk "03\n03\n010000000000000000\n02000000010002\n07\n" "03000000000000000000\nff\nff\nff\n" ∷
     -- 04 to 06 and 09 before an accepted 03
     talk "04\n05\n06\n09\n040000\n090000\n" "ff\nff\nff\nff\nff\nff\n" ∷
     -- a refused 03 (x = 1,048,577 is 3; R is 10) drops all rows; another base may follow; 04 and 09 are still too early
-    talk "010010000100000000\n03\n07\n04\n09\n03\n" "0303000000000000\nff\nff\n0300000000000000\n" ∷
+    talk "010010000100000000\n03\n07\n04\n09\n03\n" "03030000000000000000\nff\nff\n03000000000000000000\n" ∷
     talk
     "010000000000000000\n010000001000000000\n010000000000000010\n010000000400000004\n02000000010003\n02000100020003\n02000200000003\n03\n07\n"
-    "030a000000000000\n" ∷
+    "030a0000000000000000\n" ∷
     -- values are judged only by 03: a node number too high is 4, one node twice too
-    talk "010000000000000000\n02000000010002\n03\n07\n010000000000000000\n02000000000000\n03\n" "0304000000000000\n0304000000000000\n" ∷
+    talk "010000000000000000\n02000000010002\n03\n07\n010000000000000000\n02000000000000\n03\n" "03040000000000000000\n03040000000000000000\n" ∷
+    -- W2: 3 to 7 name the lowest of several culprits. 3: nodes 4 and 5 are out of range
+    over "010010000100000000\n0100000000ffefffff\n03\n" "03030000000000000004\n" ∷
+    -- 4: row 1 names a node that is not there, row 2 one node twice
+    over "02000100020000\n02000300000004\n02000200020003\n03\n" "03040000000000000001\n" ∷
+    -- 5: row 2 has an edge of row 1, row 3 one of row 0
+    over "02000100020000\n02000300000002\n02000000020003\n02000200000001\n03\n" "03050000000000000002\n" ∷
+    -- 6: rows 1 and 2 turn the other way
+    over "02000100020000\n02000100000003\n02000300020001\n03\n" "03060000000000000001\n" ∷
+    -- 7: nodes 3 and 4 are in no triangle. No later number names any: 10 for row 1, after it; 8 for an edge of row 1
+    over
+    "010000000400000004\n02000100020000\n03\n010000000000000000\n010000000800000000\n010000000800000008\n010000000000000008\n02000200030000\n02000100020000\n03\n"
+    "03070000000000000003\n030a0000000000000000\n" ∷
+    talk
+    "010000000000000000\n010000000200000000\n010000000000000002\n010000000400000000\n010000000500000000\n010000000400000001\n02000000010002\n02000300040005\n03\n040001\n"
+    "03000006000200000000\n04080006000200000000\n" ∷
     -- 04: none listed, one twice, all; t itself, a number and a half
-    on "04\n07\n" "0400000400020000\n010000000000000000\n010000000800000000\n010000000800000008\n010000000000000008\n02000100020000\n02000300000002\n" ∷
-    on "0400000000\n" "0400000500040000\n" ∷
-    on "0400010000\n07\n" "0400000500040000\n010000000000000000\n010000000800000000\n010000000800000008\n010000000000000008\n010000000400000004\n02000400010002\n02000400030000\n02000400000001\n02000400020003\n" ∷
+    on "04\n07\n" "04000004000200000000\n010000000000000000\n010000000800000000\n010000000800000008\n010000000000000008\n02000100020000\n02000300000002\n" ∷
+    on "0400000000\n" "04000005000400000000\n" ∷
+    on "0400010000\n07\n" "04000005000400000000\n010000000000000000\n010000000800000000\n010000000800000008\n010000000000000008\n010000000400000004\n02000400010002\n02000400030000\n02000400000001\n02000400020003\n" ∷
     on "040002\n0400000002\n04000\n0400000\n04ffff\n" "ff\nff\nff\nff\nff\n" ∷
     -- 09, W1: row 0 cut in four, with the row across its refinement edge; 06 takes 2 passes back to S
-    on "090000\n07\n06\n07\n" "0900000700060000\n010000000000000000\n010000000800000000\n010000000800000008\n010000000000000008\n010000000400000004\n010000000800000004\n010000000400000000\n02000500040001\n02000400030000\n02000600040000\n02000500020004\n02000600010004\n02000400020003\n0600000400020002\n010000000000000000\n010000000800000000\n010000000800000008\n010000000000000008\n02000100020000\n02000300000002\n" ∷
+    on "090000\n07\n06\n07\n" "09000007000600000000\n010000000000000000\n010000000800000000\n010000000800000008\n010000000000000008\n010000000400000004\n010000000800000004\n010000000400000000\n02000500040001\n02000400030000\n02000600040000\n02000500020004\n02000600010004\n02000400020003\n06000004000200020000\n010000000000000000\n010000000800000000\n010000000800000008\n010000000000000008\n02000100020000\n02000300000002\n" ∷
     -- none listed, one twice, all; t itself, a number and a half
-    on "09\n07\n" "0900000400020000\n010000000000000000\n010000000800000000\n010000000800000008\n010000000000000008\n02000100020000\n02000300000002\n" ∷
-    on "0900000000\n" "0900000700060000\n" ∷
-    on "0900010000\n07\n" "0900000900080000\n010000000000000000\n010000000800000000\n010000000800000008\n010000000000000008\n010000000400000004\n010000000800000004\n010000000400000000\n010000000000000004\n010000000400000008\n02000500040001\n02000700040003\n02000600040000\n02000500020004\n02000600010004\n02000800040002\n02000700000004\n02000800030004\n" ∷
+    on "09\n07\n" "09000004000200000000\n010000000000000000\n010000000800000000\n010000000800000008\n010000000000000008\n02000100020000\n02000300000002\n" ∷
+    on "0900000000\n" "09000007000600000000\n" ∷
+    on "0900010000\n07\n" "09000009000800000000\n010000000000000000\n010000000800000000\n010000000800000008\n010000000000000008\n010000000400000004\n010000000800000004\n010000000400000000\n010000000000000004\n010000000400000008\n02000500040001\n02000700040003\n02000600040000\n02000500020004\n02000600010004\n02000800040002\n02000700000004\n02000800030004\n" ∷
     on "090002\n0900000002\n09000\n0900000\n09ffff\n" "ff\nff\nff\nff\nff\n" ∷
     -- 04 and 09 mixed: the closure reaches rows across the other two edges
-    on "040000\n090000\n07\n040002\n06\n" "0400000500040000\n0900000a000b0000\n010000000000000000\n010000000800000000\n010000000800000008\n010000000000000008\n010000000400000004\n010000000800000004\n010000000600000002\n010000000600000006\n010000000400000000\n010000000400000008\n02000600050004\n02000400030000\n02000800040000\n02000700090004\n02000700050002\n02000600010005\n02000700040005\n02000600080001\n02000600040008\n02000900030004\n02000700020009\n0400000c000e0000\n0600000400020003\n" ∷
+    on "040000\n090000\n07\n040002\n06\n" "04000005000400000000\n0900000a000b00000000\n010000000000000000\n010000000800000000\n010000000800000008\n010000000000000008\n010000000400000004\n010000000800000004\n010000000600000002\n010000000600000006\n010000000400000000\n010000000400000008\n02000600050004\n02000400030000\n02000800040000\n02000700090004\n02000700050002\n02000600010005\n02000700040005\n02000600080001\n02000600040008\n02000900030004\n02000700020009\n0400000c000e00000000\n06000004000200030000\n" ∷
     -- an odd sum on a side is 8 for 09 and nothing to 04
-    talk "010000000100000001\n010000000000000000\n010000000200000000\n02000000010002\n03\n090000\n040000\n06\n" "0300000300010000\n0908000300010000\n0400000400020000\n0600000300010001\n" ∷
+    talk "010000000100000001\n010000000000000000\n010000000200000000\n02000000010002\n03\n090000\n040000\n06\n" "03000003000100000000\n09080003000100000000\n04000004000200000000\n06000003000100010000\n" ∷
     -- 05: base nodes do not go; node 4 does, listed twice; n itself
-    on "050000\n040000\n050000000100020003\n05\n05000400040000\n050003\n050004\n" "0500000400020000\n0400000500040000\n0500000500040000\n0500000500040000\n0500000400020000\n0500000400020000\nff\n" ∷
+    on "050000\n040000\n050000000100020003\n05\n05000400040000\n050003\n050004\n" "05000004000200000000\n04000005000400000000\n05000005000400000000\n05000005000400000000\n05000004000200000000\n05000004000200000000\nff\n" ∷
     on "050004\n05ffff\n" "ff\nff\n" ∷
     -- 06 counts its passes; a refused 04 (an odd sum is 8) shows the counts as they are
-    on "040000\n040000\n040000\n06\n06\n" "0400000500040000\n0400000600050000\n0400000800080000\n0600000400020003\n0600000400020000\n" ∷
+    on "040000\n040000\n040000\n06\n06\n" "04000005000400000000\n04000006000500000000\n04000008000800000000\n06000004000200030000\n06000004000200000000\n" ∷
     talk
     "010000000000000000\n010000000100000000\n010000000000000001\n02000000010002\n03\n040000\n06\n"
-    "0300000300010000\n0408000300010000\n0600000300010000\n" ∷
+    "03000003000100000000\n04080003000100000000\n06000003000100000000\n" ∷
     -- 254 digits are taken, 255, 256 and 300 are not
-    said (square ++ bytes "04" ++ replicate 252 0x30 ++ 0x0a ∷ []) (bytes "0300000400020000\n0400000500040000\n") ∷
-    said (square ++ bytes "04" ++ replicate 253 0x30 ++ 0x0a ∷ []) (bytes "0300000400020000\nff\n") ∷
-    said (square ++ bytes "04" ++ replicate 256 0x30 ++ 0x0a ∷ []) (bytes "0300000400020000\nff\n") ∷
-    said (bytes "03" ++ replicate 298 0x30 ++ bytes "\n03\n") (bytes "ff\n0300000000000000\n") ∷
+    said (square ++ bytes "04" ++ replicate 252 0x30 ++ 0x0a ∷ []) (bytes "03000004000200000000\n04000005000400000000\n") ∷
+    said (square ++ bytes "04" ++ replicate 253 0x30 ++ 0x0a ∷ []) (bytes "03000004000200000000\nff\n") ∷
+    said (square ++ bytes "04" ++ replicate 256 0x30 ++ 0x0a ∷ []) (bytes "03000004000200000000\nff\n") ∷
+    said (bytes "03" ++ replicate 298 0x30 ++ bytes "\n03\n") (bytes "ff\n03000000000000000000\n") ∷
     []
 
 talks-heard : map (λ t. program (t .says)) talks ≡ map (λ t. t .hears) talks
-unfolding talks said talk square on lowest lowestFrom items itemsFrom twiceArea refusal compatible faultOf firstOutside firstMisnamed firstRepeat firstFlat firstUnused firstClash closure splitEdges splitAt split refined pairs span G1-4 good taken without coarsened goodNodes pass restored placeAt rowAt meshOf checkNo refineNo coarsenNo checks refines coarsens restores sizesFit checkOut refineOut coarsenOut restoreOut setPlace setRow isDigit worth number listed signed unsigned hexDigit hex placeIn rowIn answerLine nodeLine rowLine allLines refinesIn wellFormed listsBelow admits takes addNode addRow marksOf called sessionAfter frame lineStep program
+unfolding talks said talk corners over square on lowest lowestFrom items itemsFrom twiceArea refusal compatible faultOf firstOutside firstMisnamed firstRepeat firstFlat firstUnused firstClash closure splitEdges splitAt split refined pairs span G1-4 good taken without coarsened goodNodes pass restored placeAt rowAt meshOf checkNo refineNo coarsenNo checks refines coarsens restores carried sizesFit checkOut refineOut coarsenOut restoreOut setPlace setRow isDigit worth number listed signed unsigned hexDigit hex placeIn rowIn answerLine nodeLine rowLine allLines refinesIn wellFormed listsBelow admits takes addNode addRow marksOf called sessionAfter frame lineStep program
 talks-heard = refl
 
 -- ---- single lines, on tables of any size
@@ -145,19 +167,19 @@ rows =
       expected = step (held [] (replicate 3069 0 ++ 1 ∷ 255 ∷ 2748 ∷ []) [] (session 0 1024 0 false)) [];
     } ∷
     -- growth past the rooms is 9
-    only tight "040000" "0409000400020000\n" ∷
-    only tight "090000" "0909000400020000\n" ∷
+    only tight "040000" "04090004000200000000\n" ∷
+    only tight "090000" "09090004000200000000\n" ∷
     -- a refused 03 leaves zeros, an accepted one the rows as they are
     record {
       got = lineStep (held (pos 5 ∷ negsuc 5 ∷ pos 1 ∷ pos 1 ∷ []) (9 ∷ 9 ∷ 9 ∷ 9 ∷ 9 ∷ 9 ∷ []) (replicate 16 3) (session 1 1 0 false)) (bytes "03");
-      expected = step (held (replicate 4 (pos 0)) (replicate 6 0) (replicate 16 0) (session 0 0 0 false)) (bytes "0304000000000000\n");
+      expected = step (held (replicate 4 (pos 0)) (replicate 6 0) (replicate 16 0) (session 0 0 0 false)) (bytes "03040000000000000000\n");
     } ∷
     record {
       got = lineStep (held (tight .nodes) (tight .rows) (replicate 24 3) (session 4 2 0 false)) (bytes "03");
-      expected = step tight (bytes "0300000400020000\n");
+      expected = step tight (bytes "03000004000200000000\n");
     } ∷
     []
 
 lines-stepped : map (λ r. r .got) rows ≡ map (λ r. r .expected) rows
-unfolding rows only full tight lowest lowestFrom items itemsFrom twiceArea refusal compatible faultOf firstOutside firstMisnamed firstRepeat firstFlat firstUnused firstClash closure splitEdges splitAt split refined pairs span G1-4 good taken without coarsened goodNodes pass restored placeAt rowAt meshOf checkNo refineNo coarsenNo checks refines coarsens restores sizesFit checkOut refineOut coarsenOut restoreOut setPlace setRow isDigit worth number listed signed unsigned hexDigit hex placeIn rowIn answerLine nodeLine rowLine allLines refinesIn wellFormed listsBelow admits takes addNode addRow marksOf called sessionAfter frame lineStep
+unfolding rows only full tight lowest lowestFrom items itemsFrom twiceArea refusal compatible faultOf firstOutside firstMisnamed firstRepeat firstFlat firstUnused firstClash closure splitEdges splitAt split refined pairs span G1-4 good taken without coarsened goodNodes pass restored placeAt rowAt meshOf checkNo refineNo coarsenNo checks refines coarsens restores carried sizesFit checkOut refineOut coarsenOut restoreOut setPlace setRow isDigit worth number listed signed unsigned hexDigit hex placeIn rowIn answerLine nodeLine rowLine allLines refinesIn wellFormed listsBelow admits takes addNode addRow marksOf called sessionAfter frame lineStep
 lines-stepped = refl

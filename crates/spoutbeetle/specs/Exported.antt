@@ -11,21 +11,21 @@ use Rattle.laws.specs.CallLaw.{AsGiven, check-leaves, refine-no-passes, coarsen
 
 module _ (a : Answer) (nodes : List ℤ) (rows scratch : List ℕ) where
   -- the base check shows the counts it was given and no passes
-  pub check-answer : (g : Given) → outcome a nodes rows scratch ≡ checkOut g → outcome (answer (a .number) (g .n) (g .t) 0) nodes rows scratch ≡ checkOut g
+  pub check-answer : (g : Given) → outcome a nodes rows scratch ≡ checkOut g → outcome (answer (a .number) (g .n) (g .t) 0 (a .culprit)) nodes rows scratch ≡ checkOut g
   check-answer g e =
       let c = subst (AsGiven g) (sym e) (check-leaves g .all-as-given) in
-      (λ i. outcome (answer (a .number) (sym (c .n-same) i) (sym (c .t-same) i) (sym (c .no-passes) i)) nodes rows scratch) ∙ e
+      (λ i. outcome (answer (a .number) (sym (c .n-same) i) (sym (c .t-same) i) (sym (c .no-passes) i) (a .culprit)) nodes rows scratch) ∙ e
 
-  without-passes : (o : Outcome) → o .answer .passes ≡ 0 → outcome a nodes rows scratch ≡ o → outcome (answer (a .number) (a .n) (a .t) 0) nodes rows scratch ≡ o
-  without-passes o z e = (λ i. outcome (answer (a .number) (a .n) (a .t) (sym (ap (λ (x : Outcome). x .answer .passes) e ∙ z) i)) nodes rows scratch) ∙ e
+  without-passes : (o : Outcome) → o .answer .passes ≡ 0 → outcome a nodes rows scratch ≡ o → outcome (answer (a .number) (a .n) (a .t) 0 (a .culprit)) nodes rows scratch ≡ o
+  without-passes o z e = (λ i. outcome (answer (a .number) (a .n) (a .t) (sym (ap (λ (x : Outcome). x .answer .passes) e ∙ z) i) (a .culprit)) nodes rows scratch) ∙ e
 
   -- by whatever way
   pub refine-answer : (w : Way) (marks : List ℕ) (g : Given) (n0 : ℕ) → outcome a nodes rows scratch ≡ refineOut w g n0 marks →
-      outcome (answer (a .number) (a .n) (a .t) 0) nodes rows scratch ≡ refineOut w g n0 marks
+      outcome (answer (a .number) (a .n) (a .t) 0 (a .culprit)) nodes rows scratch ≡ refineOut w g n0 marks
   refine-answer w marks g n0 e = without-passes _ (refine-no-passes w g n0 marks) e
 
   pub coarsen-answer : (marks : List ℕ) (g : Given) (n0 : ℕ) → outcome a nodes rows scratch ≡ coarsenOut g n0 marks →
-      outcome (answer (a .number) (a .n) (a .t) 0) nodes rows scratch ≡ coarsenOut g n0 marks
+      outcome (answer (a .number) (a .n) (a .t) 0 (a .culprit)) nodes rows scratch ≡ coarsenOut g n0 marks
   coarsen-answer marks g n0 e = without-passes _ (coarsen-no-passes g n0 marks) e
 
 pub ruleset exported = (check-answer, refine-answer, coarsen-answer)

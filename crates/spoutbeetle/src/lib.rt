@@ -1,4 +1,5 @@
 // The calls for programs in other languages. A slice passes as a pointer and a length; counts pass by reference and are the new ones after.
+// Every call leaves behind `culprit` the node or row that is to blame for a refusal as 3 to 7, and 0 with any other number.
 ghost use mathlib.Core.Path.{_≡_};
 ghost use Rattle.meaning.specs.Split.{newest, allThree};
 ghost use Rattle.meaning.specs.Tables.{given, outcome, answer};
@@ -12,11 +13,13 @@ pub extern "C" fn spoutbeetle_check(
     scratch: &mut [u32],
     n: usize,
     t: usize,
+    culprit: &mut usize,
 ) -> u32
-    ensures { λ r. ⌜ outcome (answer r n t 0) (now (nodes .exit)) (now (rows .exit)) (now (scratch .exit)) ≡ checkOut (given (now (nodes .entry)) (now (rows .entry)) (now (scratch .entry)) n t) ⌝ }
+    ensures { λ r. ⌜ outcome (answer r n t 0 (now (culprit .exit))) (now (nodes .exit)) (now (rows .exit)) (now (scratch .exit)) ≡ checkOut (given (now (nodes .entry)) (now (rows .entry)) (now (scratch .entry)) n t) ⌝ }
 {
-    let a = mesh::check(nodes, rows, scratch, n, t);
-    a.number
+    let checked = mesh::check(nodes, rows, scratch, n, t);
+    *culprit = checked.culprit;
+    checked.number
 }
 
 // Refine's number.
@@ -29,13 +32,15 @@ pub extern "C" fn spoutbeetle_refine(
     n0: usize,
     n: &mut usize,
     t: &mut usize,
+    culprit: &mut usize,
 ) -> u32
-    ensures { λ r. ⌜ outcome (answer r (now (n .exit)) (now (t .exit)) 0) (now (nodes .exit)) (now (rows .exit)) (now (scratch .exit)) ≡ refineOut newest (given (now (nodes .entry)) (now (rows .entry)) (now (scratch .entry)) (now (n .entry)) (now (t .entry))) n0 (now (marks .entry)) ⌝ }
+    ensures { λ r. ⌜ outcome (answer r (now (n .exit)) (now (t .exit)) 0 (now (culprit .exit))) (now (nodes .exit)) (now (rows .exit)) (now (scratch .exit)) ≡ refineOut newest (given (now (nodes .entry)) (now (rows .entry)) (now (scratch .entry)) (now (n .entry)) (now (t .entry))) n0 (now (marks .entry)) ⌝ }
 {
-    let a = mesh::refine(nodes, rows, scratch, marks, n0, *n, *t);
-    *n = a.n;
-    *t = a.t;
-    a.number
+    let refined = mesh::refine(nodes, rows, scratch, marks, n0, *n, *t);
+    *n = refined.n;
+    *t = refined.t;
+    *culprit = refined.culprit;
+    refined.number
 }
 
 // Quarter's number: refine, with all three edges of a marked triangle split.
@@ -48,13 +53,15 @@ pub extern "C" fn spoutbeetle_quarter(
     n0: usize,
     n: &mut usize,
     t: &mut usize,
+    culprit: &mut usize,
 ) -> u32
-    ensures { λ r. ⌜ outcome (answer r (now (n .exit)) (now (t .exit)) 0) (now (nodes .exit)) (now (rows .exit)) (now (scratch .exit)) ≡ refineOut allThree (given (now (nodes .entry)) (now (rows .entry)) (now (scratch .entry)) (now (n .entry)) (now (t .entry))) n0 (now (marks .entry)) ⌝ }
+    ensures { λ r. ⌜ outcome (answer r (now (n .exit)) (now (t .exit)) 0 (now (culprit .exit))) (now (nodes .exit)) (now (rows .exit)) (now (scratch .exit)) ≡ refineOut allThree (given (now (nodes .entry)) (now (rows .entry)) (now (scratch .entry)) (now (n .entry)) (now (t .entry))) n0 (now (marks .entry)) ⌝ }
 {
-    let a = mesh::quarter(nodes, rows, scratch, marks, n0, *n, *t);
-    *n = a.n;
-    *t = a.t;
-    a.number
+    let quartered = mesh::quarter(nodes, rows, scratch, marks, n0, *n, *t);
+    *n = quartered.n;
+    *t = quartered.t;
+    *culprit = quartered.culprit;
+    quartered.number
 }
 
 // Coarsen's number.
@@ -67,13 +74,15 @@ pub extern "C" fn spoutbeetle_coarsen(
     n0: usize,
     n: &mut usize,
     t: &mut usize,
+    culprit: &mut usize,
 ) -> u32
-    ensures { λ r. ⌜ outcome (answer r (now (n .exit)) (now (t .exit)) 0) (now (nodes .exit)) (now (rows .exit)) (now (scratch .exit)) ≡ coarsenOut (given (now (nodes .entry)) (now (rows .entry)) (now (scratch .entry)) (now (n .entry)) (now (t .entry))) n0 (now (marks .entry)) ⌝ }
+    ensures { λ r. ⌜ outcome (answer r (now (n .exit)) (now (t .exit)) 0 (now (culprit .exit))) (now (nodes .exit)) (now (rows .exit)) (now (scratch .exit)) ≡ coarsenOut (given (now (nodes .entry)) (now (rows .entry)) (now (scratch .entry)) (now (n .entry)) (now (t .entry))) n0 (now (marks .entry)) ⌝ }
 {
-    let a = mesh::coarsen(nodes, rows, scratch, marks, n0, *n, *t);
-    *n = a.n;
-    *t = a.t;
-    a.number
+    let coarsened = mesh::coarsen(nodes, rows, scratch, marks, n0, *n, *t);
+    *n = coarsened.n;
+    *t = coarsened.t;
+    *culprit = coarsened.culprit;
+    coarsened.number
 }
 
 // Restore's number; the passes it made are left behind `passes`.
@@ -86,12 +95,14 @@ pub extern "C" fn spoutbeetle_restore(
     n: &mut usize,
     t: &mut usize,
     passes: &mut usize,
+    culprit: &mut usize,
 ) -> u32
-    ensures { λ r. ⌜ outcome (answer r (now (n .exit)) (now (t .exit)) (now (passes .exit))) (now (nodes .exit)) (now (rows .exit)) (now (scratch .exit)) ≡ restoreOut (given (now (nodes .entry)) (now (rows .entry)) (now (scratch .entry)) (now (n .entry)) (now (t .entry))) n0 ⌝ }
+    ensures { λ r. ⌜ outcome (answer r (now (n .exit)) (now (t .exit)) (now (passes .exit)) (now (culprit .exit))) (now (nodes .exit)) (now (rows .exit)) (now (scratch .exit)) ≡ restoreOut (given (now (nodes .entry)) (now (rows .entry)) (now (scratch .entry)) (now (n .entry)) (now (t .entry))) n0 ⌝ }
 {
-    let a = job::restore(nodes, rows, scratch, n0, *n, *t);
-    *n = a.n;
-    *t = a.t;
-    *passes = a.passes;
-    a.number
+    let restored = job::restore(nodes, rows, scratch, n0, *n, *t);
+    *n = restored.n;
+    *t = restored.t;
+    *passes = restored.passes;
+    *culprit = restored.culprit;
+    restored.number
 }

@@ -1,4 +1,4 @@
--- Document 01, 'The line program': the lines that the program reads and writes. Assumes nothing.
+-- Document 01, 'The line program', and W2: the lines that the program reads and writes. Assumes nothing.
 use mathlib.Core.List.{List, [], _∷_, _++_}
 use Prim.Native.Nat.{ℕ}
 use lib.IntN.{ℤ}
@@ -31,9 +31,10 @@ ended text = text ++ (0x0a ∷ [])
 abbrev pub ffLine : List ℕ
 ffLine = bytes "ff\n"
 
--- "Frames 03 to 06 answer kind, number (2 digits each), n, t, passes (4 each)."
+-- "Frames 03 to 06 answer kind, number (2 digits each), n, t, passes (4 each)." W2: "Answer lines but `ff` grow by four digits at their end":
+-- the culprit.
 unfoldable pub answerLine : ℕ → Answer → List ℕ
-answerLine kind a = ended (hex 2 kind ++ hex 2 (a .number) ++ hex 4 (a .n) ++ hex 4 (a .t) ++ hex 4 (a .passes))
+answerLine kind a = ended (hex 2 kind ++ hex 2 (a .number) ++ hex 4 (a .n) ++ hex 4 (a .t) ++ hex 4 (a .passes) ++ hex 4 (a .culprit))
 
 -- a node "as `01` frames", a triangle "as `02` frames"
 unfoldable pub nodeLine : Place → List ℕ

@@ -18,15 +18,16 @@ use Rattle.meaning.specs.Tables.{answer, placeAt, rowAt}
 use Rattle.text.specs.Digits.{bytes, hex, hexDigit, signed, unsigned, number, worth}
 use Rattle.text.specs.Lines.{placeIn, rowIn, answerLine, nodeLine, rowLine, allLines}
 
--- "kind, number (2 digits each), n, t, passes (4 each)", and the end byte: 17 in all
+-- "kind, number (2 digits each), n, t, passes (4 each)", W2's "four digits at their end", and the end byte: 21 in all
 module _ (kind : ℕ) (a : Answer) where
   pub answer-fields : (take 2 (answerLine kind a) ≡ hex 2 kind) × (take 2 (drop 2 (answerLine kind a)) ≡ hex 2 (a .number)) ×
       (take 4 (drop 4 (answerLine kind a)) ≡ hex 4 (a .n)) × (take 4 (drop 8 (answerLine kind a)) ≡ hex 4 (a .t)) ×
-      (take 4 (drop 12 (answerLine kind a)) ≡ hex 4 (a .passes)) × (drop 16 (answerLine kind a) ≡ 0x0a ∷ [])
+      (take 4 (drop 12 (answerLine kind a)) ≡ hex 4 (a .passes)) × (take 4 (drop 16 (answerLine kind a)) ≡ hex 4 (a .culprit)) ×
+      (drop 20 (answerLine kind a) ≡ 0x0a ∷ [])
   unfolding answerLine hex
-  answer-fields = (refl, refl, refl, refl, refl, refl)
+  answer-fields = (refl, refl, refl, refl, refl, refl, refl)
 
-  pub answer-length : length (answerLine kind a) ≡ 17
+  pub answer-length : length (answerLine kind a) ≡ 21
   unfolding answerLine hex
   answer-length = refl
 
@@ -63,8 +64,9 @@ pair l s = record { line = l; expected = s }
 
 lines : List Pair
 lines =
-    pair (answerLine 4 (answer 9 511 1023 0)) "040901ff03ff0000\n" ∷
-    pair (answerLine 6 (answer 0 4 2 3)) "0600000400020003\n" ∷
+    pair (answerLine 4 (answer 9 511 1023 0 0)) "040901ff03ff00000000\n" ∷
+    pair (answerLine 6 (answer 0 4 2 3 0)) "06000004000200030000\n" ∷
+    pair (answerLine 3 (answer 5 0 0 0 1022)) "030500000000000003fe\n" ∷
     pair (nodeLine (place (pos 8) (negsuc 2))) "0100000008fffffffd\n" ∷
     pair (rowLine (tri 1 255 2748)) "02000100ff0abc\n" ∷
     []

@@ -36,7 +36,7 @@ module _ (w w1 w2 w3 w4 : Wrote) where
         rw (writes-append w (hex 2 2 ++ p ++ q ++ r) (10 ∷ []), writes-append w (hex 2 2 ++ p ++ q) r, writes-append w (hex 2 2 ++ p) q, writes-append w (hex 2 2) p, ← e1, ← e2, ← e3, ← e4) e5
 
     pub answer-put : (kind : ℕ) (a : Answer) (w6 : Wrote) → w1 ≡ writes w (hex 2 kind) → w2 ≡ writes w1 (hex 2 (a .number)) → w3 ≡ writes w2 (hex 4 (a .n)) →
-        w4 ≡ writes w3 (hex 4 (a .t)) → w5 ≡ writes w4 (hex 4 (a .passes)) → w6 ≡ writes w5 (10 ∷ []) → w6 ≡ writes w (answerLine kind a)
+        w4 ≡ writes w3 (hex 4 (a .t)) → w5 ≡ writes w4 (hex 4 (a .passes) ++ hex 4 (a .culprit)) → w6 ≡ writes w5 (10 ∷ []) → w6 ≡ writes w (answerLine kind a)
     unfolding answerLine
     answer-put kind a w6 e1 e2 e3 e4 e5 e6 =
         let k = hex 2 kind in
@@ -44,7 +44,8 @@ module _ (w w1 w2 w3 w4 : Wrote) where
         let n = hex 4 (a .n) in
         let t = hex 4 (a .t) in
         let p = hex 4 (a .passes) in
-        rw (writes-append w (k ++ j ++ n ++ t ++ p) (10 ∷ []), writes-append w (k ++ j ++ n ++ t) p, writes-append w (k ++ j ++ n) t, writes-append w (k ++ j) n, writes-append w k j, ← e1, ← e2, ← e3, ← e4, ← e5) e6
+        let c = hex 4 (a .culprit) in
+        rw (writes-append w (k ++ j ++ n ++ t ++ p ++ c) (10 ∷ []), writes-append w (k ++ j ++ n ++ t ++ p) c, writes-append w (k ++ j ++ n ++ t) p, writes-append w (k ++ j ++ n) t, writes-append w (k ++ j) n, writes-append w k j, ← e1, ← e2, ← e3, ← e4, ← writes-append w4 p c, ← e5) e6
 
 pub all-put : (w x y : Wrote) (ns : List ℤ) (rs : List ℕ) (n t : ℕ) → x ≡ writes w (joined nodeLine (items (placeAt ns) 0 n)) →
     y ≡ writes x (joined rowLine (items (rowAt rs) 0 t)) → y ≡ writes w (allLines ns rs n t)

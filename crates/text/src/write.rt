@@ -1,6 +1,6 @@
 // Numbers, rows and answers, written into a buffer. Each function takes the place to write at and says the next one.
 ghost use mathlib.Core.Path.{_≡_};
-ghost use mathlib.Core.List.{List, [], _∷_};
+ghost use mathlib.Core.List.{List, [], _∷_, _++_};
 ghost use Prim.Native.Nat.{ℕ, _+_, _*_, _%_, _≤_, _<_};
 ghost use lib.ListN.{length};
 ghost use Rattle.lists.specs.Lists.{joined};
@@ -97,16 +97,26 @@ pub fn put_ff(out: &mut [u8]) -> usize
     put_text(out, 0, b"ff\n")
 }
 
-// The answer of frames 03 to 06.
+// The last two fields of an answer: the passes and the culprit.
+fn put_last_two(out: &mut [u8], at: usize, a: Answer) -> usize
+    requires { ⌜ at + 8 ≤ length (now out) ⌝ }
+    ensures next { λ r. ⌜ r ≡ at + 8 ⌝ }
+    ensures text { λ r. ⌜ wrote r (now (out .exit)) ≡ writes (wrote at (now (out .entry))) (d.hex 4 (a .passes) ++ d.hex 4 (a .culprit)) ⌝ }
+{
+    let k = hex4(out, at, a.passes);
+    hex4(out, k, a.culprit)
+}
+
+// The answer of frames 03 to 06 and 09.
 pub fn put_answer(out: &mut [u8], kind: u32, a: Answer) -> usize
-    requires { ⌜ 17 ≤ length (now out) ⌝ }
+    requires { ⌜ 21 ≤ length (now out) ⌝ }
     ensures { λ r. ⌜ wrote r (now (out .exit)) ≡ writes (wrote 0 (now (out .entry))) (answerLine kind a) ⌝ }
 {
     let k = hex2(out, 0, kind as usize);
     let k = hex2(out, k, a.number as usize);
     let k = hex4(out, k, a.n);
     let k = hex4(out, k, a.t);
-    let k = hex4(out, k, a.passes);
+    let k = put_last_two(out, k, a);
     put(out, k, b'\n')
 }
 

@@ -1,4 +1,4 @@
--- The number alone is returned: the counts are those given. Assumes nothing.
+-- The counts are not handed out: they are those given. Assumes nothing.
 use borrow.Author.Needs.{needs}
 use Rattle.spoutbeetle.specs.Exported.{exported}
 use Rattle.spoutbeetle.proofs.spoutbeetle_check.Statement.{statement}

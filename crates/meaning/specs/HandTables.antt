@@ -1,5 +1,5 @@
--- Calls on tables: room to spare, garbage past the counts, scratch that is not clear; and every reason for 1. Rows of one list, under
--- one claim. Assumes nothing.
+-- Calls on tables: room to spare, garbage past the counts, scratch that is not clear; every reason for 1; and each call's culprit. Rows of one
+-- list, under one claim. Assumes nothing.
 use mathlib.Core.Path.{_≡_, refl}
 use mathlib.Core.List.{List, [], _∷_, _++_, map}
 use Prim.Native.Nat.{ℕ}
@@ -29,6 +29,10 @@ lent ns rs k n t = given (map pos ns) rs (replicate k 7) n t
 said : ℕ → ℕ → ℕ → ℕ → List ℕ → List ℕ → ℕ → Outcome
 said j n t k ns rs c = outcome (answer j n t k 0) (map pos ns) rs (replicate c 0)
 
+-- refused, node or row z being the culprit
+blamed : ℕ → ℕ → ℕ → ℕ → List ℕ → List ℕ → ℕ → Outcome
+blamed j z n t ns rs c = outcome (answer j n t 0 z) (map pos ns) rs (replicate c 0)
+
 square : List ℕ
 square = 0 ∷ 0 ∷ 8 ∷ 0 ∷ 8 ∷ 8 ∷ 0 ∷ 8 ∷ []
 
@@ -46,6 +50,20 @@ four = 4 ∷ 1 ∷ 2 ∷ 4 ∷ 3 ∷ 0 ∷ 4 ∷ 0 ∷ 1 ∷ 4 ∷ 2 ∷ 3 ∷ [
 
 six : List ℕ
 six = 5 ∷ 4 ∷ 1 ∷ 4 ∷ 3 ∷ 0 ∷ 6 ∷ 4 ∷ 0 ∷ 5 ∷ 2 ∷ 4 ∷ 6 ∷ 1 ∷ 4 ∷ 4 ∷ 2 ∷ 3 ∷ []
+
+-- node 1 is outside
+outside : List ℕ
+outside = 0 ∷ 0 ∷ 1_048_577 ∷ 0 ∷ 8 ∷ 8 ∷ 0 ∷ 8 ∷ 9 ∷ 9 ∷ []
+
+-- row 1 names node 4; has 2→0, as row 0 has; has a twice-area below 0
+misnamed : List ℕ
+misnamed = 1 ∷ 2 ∷ 0 ∷ 3 ∷ 0 ∷ 4 ∷ replicate 9 5
+
+repeated : List ℕ
+repeated = 1 ∷ 2 ∷ 0 ∷ 2 ∷ 0 ∷ 3 ∷ replicate 9 5
+
+turned : List ℕ
+turned = 1 ∷ 2 ∷ 0 ∷ 0 ∷ 2 ∷ 1 ∷ replicate 9 5
 
 -- a check that draws 1 leaves all but scratch
 wrong : List ℕ → List ℕ → ℕ → ℕ → ℕ → Row
@@ -79,8 +97,22 @@ outcomes =
     (checkOut (lent (replicate 2048 0) (replicate 6144 0) 12288 0 0) is said 0 0 0 0 (replicate 2048 0) (replicate 6144 0) 12288) ∷
     wrong (replicate 2050 0) [] 4100 0 0 ∷
     wrong [] (replicate 6147 0) 8196 0 0 ∷
+    -- 3 to 7 name a node or a row
+    (checkOut (lent outside wide 40 4 2) is blamed 3 1 4 2 outside wide 40) ∷
+    (refineOut newest (lent spare misnamed 40 4 2) 4 (0 ∷ 0 ∷ []) is blamed 4 1 4 2 spare misnamed 40) ∷
+    (refineOut allThree (lent spare repeated 40 4 2) 4 (1 ∷ 0 ∷ []) is blamed 5 1 4 2 spare repeated 40) ∷
+    (coarsenOut (lent spare turned 40 4 2) 4 (1 ∷ 1 ∷ 1 ∷ 1 ∷ []) is blamed 6 1 4 2 spare turned 40) ∷
+    (restoreOut (lent spare wide 40 5 2) 4 is blamed 7 4 5 2 spare wide 40) ∷
+    -- 1 and 2 do not, though node 1 is outside
+    wrong outside wide 39 4 2 ∷
+    (refineOut newest (lent outside wide 39 4 2) 4 (0 ∷ 0 ∷ []) is said 1 4 2 0 outside wide 39) ∷
+    (coarsenOut (lent outside wide 40 4 2) 5 (1 ∷ 1 ∷ 1 ∷ 1 ∷ []) is said 1 4 2 0 outside wide 40) ∷
+    (restoreOut (lent outside wide 39 4 2) 4 is said 1 4 2 0 outside wide 39) ∷
+    (refineOut newest (lent outside wide 40 4 2) 4 (0 ∷ []) is said 2 4 2 0 outside wide 40) ∷
+    (refineOut allThree (lent outside wide 40 4 2) 4 (0 ∷ 2 ∷ []) is said 2 4 2 0 outside wide 40) ∷
+    (coarsenOut (lent outside wide 40 4 2) 4 (1 ∷ []) is said 2 4 2 0 outside wide 40) ∷
     []
 
 hand-tables : map (λ r. r .got) outcomes ≡ map (λ r. r .expected) outcomes
-unfolding outcomes wrong lent said square spare two wide four six _is_ lowest lowestFrom items itemsFrom placeAt rowAt meshOf twiceArea firstOutside firstMisnamed firstRepeat firstFlat firstUnused firstClash faultOf refusal compatible closure splitEdges splitAt split refined pairs span G1-4 good taken without coarsened goodNodes pass restored carried checkNo refineNo coarsenNo checks refines coarsens restores sizesFit checkOut refineOut coarsenOut restoreOut
+unfolding outcomes wrong lent said blamed square spare two wide four six outside misnamed repeated turned _is_ lowest lowestFrom items itemsFrom placeAt rowAt meshOf twiceArea firstOutside firstMisnamed firstRepeat firstFlat firstUnused firstClash faultOf refusal compatible closure splitEdges splitAt split refined pairs span G1-4 good taken without coarsened goodNodes pass restored carried checkNo refineNo coarsenNo checks refines coarsens restores sizesFit checkOut refineOut coarsenOut restoreOut
 hand-tables = refl

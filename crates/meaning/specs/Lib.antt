@@ -10,4 +10,5 @@ pub mod HandCase
 pub mod HandMeshes
 pub mod OwnMeshes
 pub mod QuarterMeshes
+pub mod CulpritMeshes
 pub mod HandTables

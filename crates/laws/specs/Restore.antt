@@ -1,5 +1,6 @@
--- A full pass takes the good nodes, and a pass that takes one makes the mesh smaller; a restore ends where no node is good, after no more
--- passes than nodes were added, and leaves a lawful mesh of the same total, with the base nodes. Assumes nothing.
+-- A full pass takes the good nodes, and a pass that takes one makes the mesh smaller; a restore of a lawful mesh meets lawful ones only, ends
+-- where no node is good, after no more passes than nodes were added, and leaves a lawful mesh of the same total, with the base nodes.
+-- Assumes nothing.
 use mathlib.Core.Bool.{true, _&&_}
 use mathlib.Core.List.{List, [], _∷_, List·Memᴰ}
 use mathlib.Core.Logic.{_↔_}
@@ -162,7 +163,7 @@ looks-preserved {n0} law le (after-pass {x = x} s z zs e) = let k = looks-preser
 pub looks-lawful : {n0 : ℕ} {m x : Mesh} → Lawful m → n0 ≤ length (m .nodes) → LooksAt n0 m x → refusal x ≡ 0
 looks-lawful {x = x} law le s = lawful-refusal x (looks-preserved law le s .lawful)
 
--- ---- a pass adds no row
+-- a pass adds no row
 pass-rows : (n0 : ℕ) (m : Mesh) → length (pass n0 m .tris) ≤ length (m .tris)
 unfolding pass
 pass-rows n0 m = coarsened-rows n0 m (allMarked (m .nodes))

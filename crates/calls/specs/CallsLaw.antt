@@ -26,7 +26,7 @@ module _ (a : Answer) (ns : List ℤ) (rs sc : List ℕ) (o : Outcome) (c : outc
   check-kept z = rw (← c, eq-eqb (a .number) 0 z)
 
   pub check-dropped : (ns₁ : List ℤ) (rs₁ : List ℕ) → (a .number ≡ 0 → ⊥) → ns₁ ≡ filled (pos 0) (length ns) (flatNodes (items (placeAt ns) 0 0)) →
-      rs₁ ≡ filled 0 (length rs) (flatRows (items (rowAt rs) 0 0)) → outcome (answer (a .number) 0 0 0) ns₁ rs₁ sc ≡ orDropped o
+      rs₁ ≡ filled 0 (length rs) (flatRows (items (rowAt rs) 0 0)) → outcome (answer (a .number) 0 0 0 (a .culprit)) ns₁ rs₁ sc ≡ orDropped o
   unfolding items itemsFrom
   check-dropped ns₁ rs₁ z f g = rw (← c, ne-eqb (a .number) 0 z, f, g)
 

@@ -37,7 +37,7 @@ fn mark_listed(marks: &mut [u8], fields: &[u8])
     }
 }
 
-// 03: the end of the base, and its check. A refusal drops all rows.
+// 03: the end of the base, and its check. A refusal drops all rows and keeps the culprit.
 fn check_base(
     nodes: &mut [i32],
     rows: &mut [u32],
@@ -58,6 +58,7 @@ fn check_base(
         n: 0,
         t: 0,
         passes: 0,
+        culprit: a.culprit,
     }
 }
 

@@ -17,7 +17,7 @@ use Rattle.meaning.specs.Lawful.{refusal}
 use Rattle.meaning.specs.Split.{wayOf, refined}
 use Rattle.meaning.specs.Coarsen.{coarsened, Restored, restored}
 use Rattle.meaning.specs.Tables.{Given, Outcome, meshOf, roomOf}
-use Rattle.meaning.specs.Calls.{says, checkNo, refineNo, coarsenNo, refines, coarsens, restores, sizesFit, untouched, leaves, sized, checkOut, refineOut, coarsenOut, restoreOut}
+use Rattle.meaning.specs.Calls.{carried, says, checkNo, refineNo, coarsenNo, refines, coarsens, restores, sizesFit, untouched, leaves, sized, checkOut, refineOut, coarsenOut, restoreOut}
 use Rattle.laws.specs.Coarsen.{coarsened-count, coarsened-rows}
 use Rattle.laws.specs.Refine.{manner-done}
 use Rattle.laws.specs.Restore.{restored-fewer, restored-rows}
@@ -32,6 +32,27 @@ use Rattle.protocol.specs.Frames.{Held, held, session, givenBy, Step, step, ref
 use Rattle.frames.specs.Answered.{WholeHeld}
 use Rattle.admit.specs.AdmitLaw.{node-room, row-room}
 
+-- ---- what holds of all that a call of a line may leave holds of what it leaves
+
+module _ (P : Outcome → Type 0) where
+  pub pick : (b : Bool) {o p : Outcome} → P o → P p → P (cases b o p)
+  pick true x y = x
+  pick false x y = y
+
+  pick-refining : (r : Refines) {f : Manner → Outcome} {p : Outcome} → ((k : Manner) → P (f k)) → P p → P (ifRefines r f p)
+  pick-refining (In k) x y = x k
+  pick-refining Never x y = y
+
+  pub of-called : (h : Held) (kind : ℕ) (fields : List ℕ) → P (orDropped (checkOut (givenBy h))) →
+      ((k : Manner) (marks : List ℕ) → P (refineOut (wayOf k) (givenBy h) (h .session .n0) marks)) →
+      ((marks : List ℕ) → P (coarsenOut (givenBy h) (h .session .n0) marks)) → P (restoreOut (givenBy h) (h .session .n0)) → P (called h kind fields)
+  unfolding called
+  of-called h kind fields a b c d =
+      pick (eqb kind 3) a
+      (pick-refining (refinesIn kind) (λ k. b k (marksOf (h .session .t) (listed fields)))
+      (pick (eqb kind 5) (c (marksOf (h .session .n) (listed fields)))
+      d))
+
 -- ---- what a call leaves: lengths as they were, counts within them
 
 record Sound (g : Given) (o : Outcome) : Type 0 where
@@ -41,28 +62,20 @@ record Sound (g : Given) (o : Outcome) : Type 0 where
   n : 2 * o .answer .n ≤ length (g .nodes)
   t : 3 * o .answer .t ≤ length (g .rows)
 
-pick-sound : (g : Given) (b : Bool) {o p : Outcome} → Sound g o → Sound g p → Sound g (cases b o p)
-pick-sound g true x y = x
-pick-sound g false x y = y
-
-refining-sound : (g : Given) (r : Refines) {f : Manner → Outcome} {p : Outcome} → ((k : Manner) → Sound g (f k)) → Sound g p → Sound g (ifRefines r f p)
-refining-sound g (In k) x y = x k
-refining-sound g Never x y = y
-
 record Counted (g : Given) (m : Mesh) : Type 0 where
   nodes : 2 * length (m .nodes) ≤ length (g .nodes)
   rows : 3 * length (m .tris) ≤ length (g .rows)
 
 module _ (g : Given) (a : 2 * g .n ≤ length (g .nodes)) (b : 3 * g .t ≤ length (g .rows)) where
-  sound-untouched : (k : ℕ) → Sound g (untouched g k)
-  sound-untouched k = record { nodes = refl; rows = refl; scratch = length-replicate (length (g .scratch)) 0; n = a; t = b }
+  sound-untouched : (k c : ℕ) → Sound g (untouched g k c)
+  sound-untouched k c = record { nodes = refl; rows = refl; scratch = length-replicate (length (g .scratch)) 0; n = a; t = b }
 
   sound-sized : (n0 k : ℕ) (old new : Mesh) (p : ℕ) → (k ≡ 0 → Counted g new) → Sound g (sized g n0 (leaves g (says k old new p)))
   sound-sized n0 k old new p = go (sizesFit g n0) k
     where
-      go : (x : Bool) (k : ℕ) → (k ≡ 0 → Counted g new) → Sound g (cases x (leaves g (says k old new p)) (untouched g 1))
-      go false k h = sound-untouched 1
-      go true (suc k) h = sound-untouched (suc k)
+      go : (x : Bool) (k : ℕ) → (k ≡ 0 → Counted g new) → Sound g (cases x (leaves g (says k old new p)) (untouched g 1 0))
+      go false k h = sound-untouched 1 0
+      go true (suc k) h = sound-untouched (suc k) (carried old (suc k))
       go true zero h =
           let c = h refl in
           record {
@@ -78,7 +91,7 @@ module _ (g : Given) (a : 2 * g .n ≤ length (g .nodes)) (b : 3 * g .t ≤ leng
 
   sound-dropped : (o : Outcome) → Sound g o → Sound g (orDropped o)
   sound-dropped o s =
-      pick-sound g (eqb (o .answer .number) 0) s
+      pick (Sound g) (eqb (o .answer .number) 0) s
       (record {
         nodes = filled-length (pos 0) (length (o .nodes)) [] (omega arith) ∙ s .nodes;
         rows = filled-length 0 (length (o .rows)) [] (omega arith) ∙ s .rows;
@@ -89,7 +102,7 @@ module _ (g : Given) (a : 2 * g .n ≤ length (g .nodes)) (b : 3 * g .t ≤ leng
 
   sound-check : Sound g (checkOut g)
   unfolding checkOut
-  sound-check = pick-sound g (sizesFit g 0) (sound-untouched (checkNo (meshOf g))) (sound-untouched 1)
+  sound-check = pick (Sound g) (sizesFit g 0) (sound-untouched (checkNo (meshOf g)) (carried (meshOf g) (checkNo (meshOf g)))) (sound-untouched 1 0)
 
   sound-refine : (k : Manner) (n0 : ℕ) (marks : List ℕ) → Sound g (refineOut (wayOf k) g n0 marks)
   unfolding refineOut refines
@@ -122,15 +135,12 @@ fine-either ol false p q = q
 
 module _ (h : Held) (ol : ℕ) (w : WholeHeld h ol) where
   called-sound : (kind : ℕ) (fields : List ℕ) → Sound (givenBy h) (called h kind fields)
-  unfolding called
   called-sound kind fields =
       let g : Given = givenBy h in
       let a : 2 * g .n ≤ length (g .nodes) = omega (arith, w .nodes, w .few-nodes) in
       let b : 3 * g .t ≤ length (g .rows) = omega (arith, w .rows, w .few-rows) in
-      pick-sound g (eqb kind 3) (sound-dropped g a b (checkOut g) (sound-check g a b))
-      (refining-sound g (refinesIn kind) (λ k. sound-refine g a b k (h .session .n0) (marksOf (h .session .t) (listed fields)))
-      (pick-sound g (eqb kind 5) (sound-coarsen g a b (h .session .n0) (marksOf (h .session .n) (listed fields)))
-      (sound-restore g a b (h .session .n0))))
+      of-called (Sound g) h kind fields (sound-dropped g a b (checkOut g) (sound-check g a b)) (λ k. sound-refine g a b k (h .session .n0)) (sound-coarsen g a b (h .session .n0))
+      (sound-restore g a b (h .session .n0))
 
   answering-fine : (kind : ℕ) (o : Outcome) → Sound (givenBy h) o → Fine ol (answering h kind o)
   unfolding sessionAfter

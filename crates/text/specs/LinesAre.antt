@@ -1,13 +1,16 @@
 -- Where each field of a written line stands, and how long the lines are. Assumes nothing.
-use mathlib.Core.Path.{_≡_, refl, _∙_}
+use mathlib.Core.Path.{_≡_, refl, sym, _∙_}
+use mathlib.Core.Bool.{Bool, true, false}
 use mathlib.Core.List.{List, [], _∷_, _++_, map}
-use Prim.Native.Nat.{ℕ, suc, _+_, _*_}
+use Prim.Native.Nat.{ℕ, suc, _+_, _*_, _/_, _%_, _<_}
 use native.Mathlib.Nat.{mul-suc}
 use native.Mathlib.Omega.{arith}
+use borrow.Author.Tests.{ltb-true, ltb-false}
+use lib.Dec.{ltb}
 use Prim.Native.String.{String}
 use lib.IntN.{ℤ, pos, negsuc}
 use lib.ListN.{length, take, drop, length-append}
-use Rattle.lists.specs.Lists.{joined}
+use Rattle.lists.specs.Lists.{joined, cases}
 use Rattle.lists.specs.Search.{items}
 use Rattle.lists.specs.IterLaw.{length-items}
 use Rattle.meaning.specs.declared.Answer.{Answer}
@@ -15,6 +18,7 @@ use Rattle.meaning.specs.declared.Place.{Place}
 use Rattle.meaning.specs.declared.Tri.{Tri}
 use Rattle.meaning.specs.Mesh.{place, tri}
 use Rattle.meaning.specs.Tables.{answer, placeAt, rowAt}
+use Rattle.text.specs.DigitsLaw.{worth-digit, worth-letter}
 use Rattle.text.specs.Digits.{bytes, hex, hexDigit, signed, unsigned, number, worth}
 use Rattle.text.specs.Lines.{placeIn, rowIn, answerLine, nodeLine, rowLine, allLines}
 
@@ -30,6 +34,29 @@ module _ (kind : ℕ) (a : Answer) where
   pub answer-length : length (answerLine kind a) ≡ 21
   unfolding answerLine hex
   answer-length = refl
+
+-- what is written is read back: a digit
+worth-hex : (v : ℕ) → worth (hexDigit (v % 16)) ≡ v % 16
+unfolding hexDigit
+worth-hex v = go (ltb (v % 16) 10) refl
+  where
+    go : (b : Bool) → ltb (v % 16) 10 ≡ b → worth (cases b (48 + v % 16) (87 + v % 16)) ≡ v % 16
+    go true e = let l = ltb-true (v % 16) 10 e in sym (worth-digit (48 + v % 16) (omega arith) (omega arith)) ∙ omega arith
+    go false e = let l = ltb-false (v % 16) 10 e in sym (worth-letter (87 + v % 16) (omega arith) (omega arith)) ∙ omega arith
+
+-- four of them
+four-digits : (v : ℕ) → v < 65536 → 16 * (16 * (16 * (16 * 0 + worth (hexDigit (v / 4096 % 16))) + worth (hexDigit (v / 256 % 16))) + worth (hexDigit (v / 16 % 16))) + worth (hexDigit (v / 1 % 16)) ≡ v
+four-digits v h =
+    let e : v / 1 % 16 + 16 * (v / 16) ≡ v = omega arith in
+    let f : v / 16 % 16 + 16 * (v / 256) ≡ v / 16 = omega arith in
+    let g : v / 256 % 16 + 16 * (v / 4096) ≡ v / 256 = omega arith in
+    let k : v / 4096 % 16 ≡ v / 4096 = omega arith in
+    rw (worth-hex (v / 4096), worth-hex (v / 256), worth-hex (v / 16), worth-hex (v / 1), k) (omega (arith, e, f, g))
+
+-- and the culprit of an answer, if it fits its field
+pub culprit-read : (kind : ℕ) (a : Answer) → a .culprit < 65536 → number 4 (answerLine kind a) 16 ≡ a .culprit
+unfolding answerLine hex number
+culprit-read kind a h = four-digits (a .culprit) h
 
 pub node-length : (a : Place) → length (nodeLine a) ≡ 19
 unfolding nodeLine hex

@@ -19,7 +19,6 @@ use Rattle.meaning.specs.Coarsen.{coarsened, restored}
 use Rattle.meaning.specs.Tables.{Given, Outcome, meshOf, roomOf}
 use Rattle.meaning.specs.Calls.{checkNo, refineNo, coarsenNo, checkOut, refineOut, coarsenOut, restoreOut}
 use Rattle.laws.specs.Lawful.{refusal-lawful, refusal-exact, applies-from-3}
-use Rattle.laws.specs.Culprit.{check-due, refine-due, coarsen-due, restore-due}
 use Rattle.laws.specs.Check.{CheckSays, unlawful-base, check-exact}
 use Rattle.laws.specs.Marks.{WellMarked}
 use Rattle.laws.specs.Cut.{CutLaws}
@@ -28,7 +27,7 @@ use Rattle.laws.specs.Refine.{toSplit, Least, OddSum, Fits, TooMany, RefineSays
 use Rattle.laws.specs.CoarsenCalls.{Coarsened, CoarsenSays, well-marked, RestoreDone, coarsen-exact, coarsen-0, coarsen-done, restore-done}
 use Rattle.laws.specs.Restore.{LooksAt, looks-lawful, restored-fewer, restored-rows}
 use Rattle.laws.specs.TableMesh.{nodes-count, rows-count, tablesAfter}
-use Rattle.laws.specs.CallLaw.{Sizes, sizes-exact, AsGiven, Holds, Answers, CallLeaves, call-answers, done-holds, check-leaves, refine-leaves, coarsen-leaves, restore-leaves, restore-refused}
+use Rattle.laws.specs.CallLaw.{Sizes, sizes-exact, AsGiven, Holds, Answers, CallLeaves, call-answers, done-holds, check-leaves, refine-leaves, coarsen-leaves, restore-leaves, check-names, refine-names, coarsen-names, restore-names, restore-refused}
 use Rattle.demands.specs.InFour.{InFour, marked-in-four}
 
 -- ---- what a user finds
@@ -107,7 +106,7 @@ check-call g o e =
     let c = check-leaves g in
     subst (CheckMade g) (sym e)
     (record {
-      answered = call-answers g 0 (checkNo (meshOf g)) (CheckSays (meshOf g)) (checkOut g) (c .check-number) (check-exact (meshOf g)) not-1 (c .check-culprit) (check-due (meshOf g)) (λ n. c .all-as-given) (c .scratch-zero);
+      answered = call-answers g 0 (checkNo (meshOf g)) (CheckSays (meshOf g)) (checkOut g) (c .check-number) (check-exact (meshOf g)) not-1 (check-names g) (λ n. c .all-as-given) (c .scratch-zero);
       never-written = c .all-as-given;
     })
   where
@@ -154,7 +153,7 @@ module _ (w : Way) (laws : CutLaws (w .cutting)) (own : (t : Tri) → All (λ e.
       let c = refine-leaves g n0 w marks in
       subst (RefineMade w (w .starts) g n0 marks) (sym e)
       (record {
-        answered = call-answers g n0 (k g n0 marks) (RefineSays w (roomOf g) (meshOf g) marks) (refineOut w g n0 marks) (c .number-said) (refine-exact w (roomOf g) (meshOf g) marks) (not-1 g n0 marks) (c .culprit-said) (refine-due (meshOf g) w (roomOf g) marks) (c .refusal-leaves) (c .scratch-zero);
+        answered = call-answers g n0 (k g n0 marks) (RefineSays w (roomOf g) (meshOf g) marks) (refineOut w g n0 marks) (c .number-said) (refine-exact w (roomOf g) (meshOf g) marks) (not-1 g n0 marks) (refine-names g n0 w marks) (c .refusal-leaves) (c .scratch-zero);
         starts-exactly = started-exactly w marks (meshOf g .tris);
         splits-least = refine-splits w own (meshOf g) marks;
         of-lawful = lawful-says g n0 marks;
@@ -178,7 +177,7 @@ coarsen-call g n0 marks o e =
     let c = coarsen-leaves g n0 marks in
     subst (CoarsenMade g n0 marks) (sym e)
     (record {
-      answered = call-answers g n0 (coarsenNo (meshOf g) marks) (CoarsenSays (meshOf g) marks) (coarsenOut g n0 marks) (c .number-said) (coarsen-exact (meshOf g) marks) not-1 (c .culprit-said) (coarsen-due (meshOf g) marks) (c .refusal-leaves) (c .scratch-zero);
+      answered = call-answers g n0 (coarsenNo (meshOf g) marks) (CoarsenSays (meshOf g) marks) (coarsenOut g n0 marks) (c .number-said) (coarsen-exact (meshOf g) marks) not-1 (coarsen-names g n0 marks) (c .refusal-leaves) (c .scratch-zero);
       of-lawful = λ s f law. c .number-said ∙ rw (sizes-exact g n0 .1 s) (coarsen-0 (meshOf g) marks .1 (rw (nodes-count g) f, law));
       leaves-coarsened = made c;
     })
@@ -199,7 +198,7 @@ restore-call g n0 o e =
     let c = restore-leaves g n0 in
     subst (RestoreMade g n0) (sym e)
     (record {
-      answered = call-answers g n0 (refusal (meshOf g)) (Lowest (meshOf g)) (restoreOut g n0) (c .number-said) (refusal-exact (meshOf g)) (no-1 (meshOf g)) (c .culprit-said) (restore-due (meshOf g)) (c .refusal-leaves) (c .scratch-zero);
+      answered = call-answers g n0 (refusal (meshOf g)) (Lowest (meshOf g)) (restoreOut g n0) (c .number-said) (refusal-exact (meshOf g)) (no-1 (meshOf g)) (restore-names g n0) (c .refusal-leaves) (c .scratch-zero);
       refused-at-first = restore-refused g n0;
       not-refused-later = λ z. let (s, k) = c .sized-and-0 z in looks-lawful (refusal-lawful (meshOf g) k) (base-fits s);
       leaves-restored = made c;

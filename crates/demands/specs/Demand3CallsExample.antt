@@ -14,7 +14,7 @@ use Rattle.meaning.specs.Split.{newest, allThree, closure, splitEdges, splitAt,
 use Rattle.meaning.specs.Good.{pairs, span, G1-4, good}
 use Rattle.meaning.specs.Coarsen.{taken, without, coarsened, goodNodes, pass, restored}
 use Rattle.meaning.specs.Tables.{Given, Outcome, given, outcome, answer, placeAt, rowAt, meshOf}
-use Rattle.meaning.specs.Calls.{carried, checkNo, refineNo, coarsenNo, checks, refines, coarsens, restores, sizesFit, checkOut, refineOut, coarsenOut, restoreOut}
+use Rattle.meaning.specs.Calls.{culpritOf, checkNo, refineNo, coarsenNo, checks, refines, coarsens, restores, sizesFit, checkOut, refineOut, coarsenOut, restoreOut}
 use Rattle.laws.specs.TableMesh.{tablesAfter}
 use Rattle.demands.specs.InFour.{InFour}
 use Rattle.demands.specs.Demand2Calls.{RefineDone, CoarsenDone, demand2-calls}
@@ -57,7 +57,7 @@ S4 = given (map pos nodesCut) rowsCut (replicate 80 9) 7 6
 
 -- The base check says 0 of S.
 S-checked : leaving 0 4 2 0 (square ++ replicate 10 5) (two ++ replicate 24 6) 76 ≡ checkOut S
-unfolding leaving square two S lowest lowestFrom items itemsFrom placeAt rowAt meshOf twiceArea firstOutside firstMisnamed firstRepeat firstFlat firstUnused firstClash faultOf refusal compatible carried checkNo sizesFit checkOut
+unfolding leaving square two S lowest lowestFrom items itemsFrom placeAt rowAt meshOf twiceArea firstOutside firstMisnamed firstRepeat firstFlat firstUnused firstClash faultOf refusal compatible culpritOf checkNo sizesFit checkOut
 S-checked = refl
 
 not-0 : (k : ℕ) → suc k ≡ 0 → ⊥
@@ -67,7 +67,7 @@ not-0 k e = omega arith
 -- (2), and one from all three edges for which there is no room (9); node 7 is coarsened; a coarsen with n0 above n (1) and a restore with no
 -- scratch (1); a refine with a count too low (4: row 2 names node 6) and a restore with one too high (7: node 7 is in no row); other scratch.
 history : Held S S4
-unfolding leaving blaming square two nodesCut nodesMore rowsCut rowsMore S S4 lowest lowestFrom items itemsFrom placeAt rowAt meshOf twiceArea firstOutside firstMisnamed firstRepeat firstFlat firstUnused firstClash faultOf refusal compatible closure splitEdges splitAt split refined pairs span G1-4 good taken without coarsened goodNodes pass restored carried checkNo refineNo coarsenNo checks refines coarsens restores sizesFit checkOut refineOut coarsenOut restoreOut
+unfolding leaving blaming square two nodesCut nodesMore rowsCut rowsMore S S4 lowest lowestFrom items itemsFrom placeAt rowAt meshOf twiceArea firstOutside firstMisnamed firstRepeat firstFlat firstUnused firstClash faultOf refusal compatible closure splitEdges splitAt split refined pairs span G1-4 good taken without coarsened goodNodes pass restored culpritOf checkNo refineNo coarsenNo checks refines coarsens restores sizesFit checkOut refineOut coarsenOut restoreOut
 history =
     let a = after-refine base-held allThree refl (1 ∷ 0 ∷ []) (leaving 0 7 6 0 nodesCut rowsCut 76) refl refl in
     let b = after-refine a newest refl (1 ∷ 0 ∷ 0 ∷ 0 ∷ 0 ∷ 0 ∷ []) (leaving 0 8 8 0 nodesMore rowsMore 76) refl refl in
@@ -107,11 +107,11 @@ many : Given
 many = given (map pos nodesCut) rowsCut (replicate 76 2) 9 6
 
 row-named : Names (meshOf few) 4 2
-unfolding blaming square nodesCut rowsCut few lowest lowestFrom items itemsFrom placeAt rowAt meshOf firstOutside firstMisnamed faultOf refusal carried refineNo refines sizesFit refineOut
+unfolding blaming square nodesCut rowsCut few lowest lowestFrom items itemsFrom placeAt rowAt meshOf firstOutside firstMisnamed faultOf refusal culpritOf refineNo refines sizesFit refineOut
 row-named = demand2-calls .of-refine few 4 (replicate 6 0) (blaming 4 2 6 6 nodesCut rowsCut 76) refl .answered .names
 
 node-named : Names (meshOf many) 7 7
-unfolding blaming square nodesCut rowsCut many lowest lowestFrom items itemsFrom placeAt rowAt meshOf twiceArea firstOutside firstMisnamed firstRepeat firstFlat firstUnused faultOf refusal carried restores sizesFit restoreOut
+unfolding blaming square nodesCut rowsCut many lowest lowestFrom items itemsFrom placeAt rowAt meshOf twiceArea firstOutside firstMisnamed firstRepeat firstFlat firstUnused faultOf refusal culpritOf restores sizesFit restoreOut
 node-named = demand2-calls .of-restore many 4 (blaming 7 7 9 6 nodesCut rowsCut 76) refl .answered .names
 
 -- A full pass that is made removes a node,

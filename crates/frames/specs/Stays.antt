@@ -17,7 +17,7 @@ use Rattle.meaning.specs.Lawful.{refusal}
 use Rattle.meaning.specs.Split.{wayOf, refined}
 use Rattle.meaning.specs.Coarsen.{coarsened, Restored, restored}
 use Rattle.meaning.specs.Tables.{Given, Outcome, meshOf, roomOf}
-use Rattle.meaning.specs.Calls.{carried, says, checkNo, refineNo, coarsenNo, refines, coarsens, restores, sizesFit, untouched, leaves, sized, checkOut, refineOut, coarsenOut, restoreOut}
+use Rattle.meaning.specs.Calls.{culpritOf, says, checkNo, refineNo, coarsenNo, refines, coarsens, restores, sizesFit, untouched, leaves, sized, checkOut, refineOut, coarsenOut, restoreOut}
 use Rattle.laws.specs.Coarsen.{coarsened-count, coarsened-rows}
 use Rattle.laws.specs.Refine.{manner-done}
 use Rattle.laws.specs.Restore.{restored-fewer, restored-rows}
@@ -75,7 +75,7 @@ module _ (g : Given) (a : 2 * g .n ≤ length (g .nodes)) (b : 3 * g .t ≤ leng
     where
       go : (x : Bool) (k : ℕ) → (k ≡ 0 → Counted g new) → Sound g (cases x (leaves g (says k old new p)) (untouched g 1 0))
       go false k h = sound-untouched 1 0
-      go true (suc k) h = sound-untouched (suc k) (carried old (suc k))
+      go true (suc k) h = sound-untouched (suc k) (culpritOf old (suc k))
       go true zero h =
           let c = h refl in
           record {
@@ -102,7 +102,7 @@ module _ (g : Given) (a : 2 * g .n ≤ length (g .nodes)) (b : 3 * g .t ≤ leng
 
   sound-check : Sound g (checkOut g)
   unfolding checkOut
-  sound-check = pick (Sound g) (sizesFit g 0) (sound-untouched (checkNo (meshOf g)) (carried (meshOf g) (checkNo (meshOf g)))) (sound-untouched 1 0)
+  sound-check = pick (Sound g) (sizesFit g 0) (sound-untouched (checkNo (meshOf g)) (culpritOf (meshOf g) (checkNo (meshOf g)))) (sound-untouched 1 0)
 
   sound-refine : (k : Manner) (n0 : ℕ) (marks : List ℕ) → Sound g (refineOut (wayOf k) g n0 marks)
   unfolding refineOut refines

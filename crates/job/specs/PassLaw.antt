@@ -16,7 +16,7 @@ use Rattle.meaning.specs.Mesh.{Mesh}
 use Rattle.meaning.specs.Lawful.{Lawful, refusal}
 use Rattle.meaning.specs.Coarsen.{coarsened, goodNodes, allMarked, pass, Restored, restored}
 use Rattle.meaning.specs.Tables.{Given, Outcome, given, outcome, answer, meshOf, cleared}
-use Rattle.meaning.specs.Calls.{carried, unless, marksFit, coarsenNo, coarsens, restores, says, sizesFit, untouched, done, leaves, coarsenOut, restoreOut}
+use Rattle.meaning.specs.Calls.{culpritOf, unless, marksFit, coarsenNo, coarsens, restores, says, sizesFit, untouched, done, leaves, coarsenOut, restoreOut}
 use Rattle.laws.specs.Lawful.{refusal-lawful, lawful-refusal}
 use Rattle.laws.specs.Marks.{marks-exact, ones-fit}
 use Rattle.laws.specs.Coarsen.{Preserved}
@@ -62,7 +62,7 @@ pass-and-restore g n0 = go (sizesFit g n0) refl
     lawful : Sizes g n0 → (k : ℕ) → refusal (meshOf g) ≡ k →
         Said g n0 (leaves g (says k (meshOf g) (coarsened n0 (meshOf g) (allMarked (meshOf g .nodes))) 0)) (leaves g (says k (meshOf g) (restored n0 (meshOf g) .end) (restored n0 (meshOf g) .passes)))
     lawful s zero e = passed s (refusal-lawful (meshOf g) e)
-    lawful s (suc k) e = refused (suc k) (carried (meshOf g) (suc k)) (omega arith)
+    lawful s (suc k) e = refused (suc k) (culpritOf (meshOf g) (suc k)) (omega arith)
 
     go : (b : Bool) → sizesFit g n0 ≡ b →
         Said g n0

@@ -14,8 +14,8 @@ use Rattle.meaning.specs.Mesh.{Mesh}
 use Rattle.meaning.specs.declared.Fault.{Fault}
 use Rattle.meaning.specs.Lawful.{fault, faultOf, refusal}
 use Rattle.meaning.specs.Tables.{Given, given, Outcome, outcome, answer, meshOf, flatNodes, flatRows, filled}
-use Rattle.meaning.specs.Calls.{Reply, carried, says, unless, orElse, marksFit, sizesFit, untouched, leavesBy, leaves, sized}
-use Rattle.laws.specs.Culprit.{carried-0, carried-own, carried-lawful}
+use Rattle.meaning.specs.Calls.{Reply, culpritOf, says, unless, orElse, marksFit, sizesFit, untouched, leavesBy, leaves, sized}
+use Rattle.laws.specs.Culprit.{culprit-none, culprit-own, culprit-lawful}
 use Rattle.judging.specs.Sizes.{fitting, fitting-is}
 use Rattle.judging.specs.Judge.{early}
 
@@ -42,31 +42,31 @@ module _ (g : Given) (n0 k : ℕ) (marks : List ℕ) (late : ℕ) where
   lateNo = unless (marksFit k marks) 2 (orElse (refusal (meshOf g)) late)
 
   -- what it names is what the fault names that was judged first
-  pub verdict : cases (sizesFit g n0) (fault lateNo (carried (meshOf g) lateNo)) (fault 1 0) ≡ orLate (early g n0 k marks) late
+  pub verdict : cases (sizesFit g n0) (fault lateNo (culpritOf (meshOf g) lateNo)) (fault 1 0) ≡ orLate (early g n0 k marks) late
   unfolding early refusal
   verdict = go (sizesFit g n0) (marksFit k marks) (refusal (meshOf g)) refl
     where
       named : ℕ → Fault
-      named j = fault j (carried (meshOf g) j)
+      named j = fault j (culpritOf (meshOf g) j)
 
       go : (b c : Bool) (j : ℕ) → refusal (meshOf g) ≡ j → cases b (named (unless c 2 (orElse j late))) (fault 1 0) ≡ orLate (cases b (cases c (faultOf (meshOf g)) (fault 2 0)) (fault 1 0)) late
       go false c j q = refl
-      go true false j q = ap (fault 2) (carried-0 (meshOf g) 2 (inl (omega arith)))
-      go true true zero q = rw q (ap (fault late) (carried-lawful (meshOf g) late q))
-      go true true (suc j) q = rw (← q) (ap (fault (refusal (meshOf g))) (carried-own (meshOf g)) ∙ first-of (faultOf (meshOf g)) late (λ z. omega (arith, sym z ∙ q)))
+      go true false j q = ap (fault 2) (culprit-none (meshOf g) 2 (inl (omega arith)))
+      go true true zero q = rw q (ap (fault late) (culprit-lawful (meshOf g) late q))
+      go true true (suc j) q = rw (← q) (ap (fault (refusal (meshOf g))) (culprit-own (meshOf g)) ∙ first-of (faultOf (meshOf g)) late (λ z. omega (arith, sym z ∙ q)))
 
   -- what it leaves
   module _ (after : Mesh) where
-    abbrev pub left : Outcome
-    left = sized g n0 (leaves g (says lateNo (meshOf g) after 0))
+    abbrev pub lateOut : Outcome
+    lateOut = sized g n0 (leaves g (says lateNo (meshOf g) after 0))
 
     abbrev leavesFor : Fault → Outcome
     leavesFor f = leavesBy g (f .number) after 0 (f .at)
 
-    left-is : left ≡ leavesFor (orLate (early g n0 k marks) late)
-    left-is = go (sizesFit g n0) lateNo ∙ ap leavesFor verdict
+    lateOut-is : lateOut ≡ leavesFor (orLate (early g n0 k marks) late)
+    lateOut-is = go (sizesFit g n0) lateNo ∙ ap leavesFor verdict
       where
-        go : (b : Bool) (j : ℕ) → cases b (leaves g (says j (meshOf g) after 0)) (untouched g 1 0) ≡ leavesFor (cases b (fault j (carried (meshOf g) j)) (fault 1 0))
+        go : (b : Bool) (j : ℕ) → cases b (leaves g (says j (meshOf g) after 0)) (untouched g 1 0) ≡ leavesFor (cases b (fault j (culpritOf (meshOf g) j)) (fault 1 0))
         go true zero = refl
         go true (suc j) = refl
         go false j = refl
@@ -78,28 +78,28 @@ module _ (nodes : List ℤ) (rows s marks : List ℕ) (n0 n t k late : ℕ) (aft
   untouched-is zero c o = absurd (o refl)
   untouched-is (suc j) c o = ap (outcome (answer (suc j) n t 0 c) nodes rows) z
 
-  pub leaves-refused : (r : Answer) → (f .number ≡ 0 → ⊥) → r ≡ answer (f .number) n t 0 (f .at) → outcome r nodes rows s ≡ left (given nodes rows s n t) n0 k marks late after
+  pub leaves-refused : (r : Answer) → (f .number ≡ 0 → ⊥) → r ≡ answer (f .number) n t 0 (f .at) → outcome r nodes rows s ≡ lateOut (given nodes rows s n t) n0 k marks late after
   leaves-refused r o h =
       let g = given nodes rows s n t in
       let v : f ≡ orLate (early g n0 k marks) late = first-of f late o ∙ ap (λ (x : Fault). orLate x late) e in
-      rw h (untouched-is (f .number) (f .at) o) ∙ ap (λ (x : Fault). leavesBy g (x .number) after 0 (x .at)) v ∙ sym (left-is g n0 k marks late after)
+      rw h (untouched-is (f .number) (f .at) o) ∙ ap (λ (x : Fault). leavesBy g (x .number) after 0 (x .at)) v ∙ sym (lateOut-is g n0 k marks late after)
 
   module _ (y : f .number ≡ 0) where
     late-is : fault late 0 ≡ orLate (early (given nodes rows s n t) n0 k marks) late
     late-is = rw (← e, y)
 
-    pub leaves-refused-late : (r : Answer) (j : ℕ) → j ≡ late → (j ≡ 0 → ⊥) → r ≡ answer j n t 0 0 → outcome r nodes rows s ≡ left (given nodes rows s n t) n0 k marks late after
+    pub leaves-refused-late : (r : Answer) (j : ℕ) → j ≡ late → (j ≡ 0 → ⊥) → r ≡ answer j n t 0 0 → outcome r nodes rows s ≡ lateOut (given nodes rows s n t) n0 k marks late after
     leaves-refused-late r j d o h =
         let g = given nodes rows s n t in
-        rw h (untouched-is j 0 o) ∙ ap (λ (i : ℕ). leavesBy g i after 0 0) d ∙ ap (λ (x : Fault). leavesBy g (x .number) after 0 (x .at)) late-is ∙ sym (left-is g n0 k marks late after)
+        rw h (untouched-is j 0 o) ∙ ap (λ (i : ℕ). leavesBy g i after 0 0) d ∙ ap (λ (x : Fault). leavesBy g (x .number) after 0 (x .at)) late-is ∙ sym (lateOut-is g n0 k marks late after)
 
     -- done: both tables hold the mesh after
     pub leaves-done : (r : Answer) (a : List ℤ) (b : List ℕ) (n1 t1 : ℕ) → late ≡ 0 → n1 ≡ length (after .nodes) → t1 ≡ length (after .tris) →
         a ≡ filled (pos 0) (length nodes) (flatNodes (after .nodes)) → b ≡ filled 0 (length rows) (flatRows (after .tris)) → r ≡ answer 0 n1 t1 0 0 →
-        outcome r a b s ≡ left (given nodes rows s n t) n0 k marks late after
+        outcome r a b s ≡ lateOut (given nodes rows s n t) n0 k marks late after
     leaves-done r a b n1 t1 d p q x y h =
         let g = given nodes rows s n t in
-        rw (h, x, y, p, q) (ap (outcome _ _ _) z) ∙ ap (λ (j : ℕ). leavesBy g j after 0 0) (sym d) ∙ ap (λ (x : Fault). leavesBy g (x .number) after 0 (x .at)) late-is ∙ sym (left-is g n0 k marks late after)
+        rw (h, x, y, p, q) (ap (outcome _ _ _) z) ∙ ap (λ (j : ℕ). leavesBy g j after 0 0) (sym d) ∙ ap (λ (x : Fault). leavesBy g (x .number) after 0 (x .at)) late-is ∙ sym (lateOut-is g n0 k marks late after)
 
 -- ---- scratch before the call does not matter, but for its length
 

@@ -14,13 +14,13 @@ use Rattle.lists.specs.Lists.{cases}
 use Rattle.lists.specs.ListsLaw.{and-left, and-right}
 use Rattle.meaning.specs.Mesh.{Mesh}
 use Rattle.meaning.specs.Tables.{Given, Outcome, nodeForm, rowForm, meshOf, roomOf, flatNodes, flatRows, filled, cleared}
-use Rattle.meaning.specs.Lawful.{Names, refusal}
+use Rattle.meaning.specs.Lawful.{Names, names-none, refusal}
 use Rattle.meaning.specs.Split.{Way, refined}
 use Rattle.meaning.specs.Coarsen.{coarsened, restored}
-use Rattle.meaning.specs.Calls.{marksFit, carried, says, checkNo, refineNo, coarsenNo, refines, coarsens, restores, sizesFit, untouched, done, leaves, sized, checkOut, refineOut, coarsenOut, restoreOut}
+use Rattle.meaning.specs.Calls.{marksFit, culpritOf, says, checkNo, refineNo, coarsenNo, refines, coarsens, restores, sizesFit, untouched, done, leaves, sized, checkOut, refineOut, coarsenOut, restoreOut}
 use Rattle.laws.specs.Exact.{unfit}
 use Rattle.laws.specs.Marks.{marks-exact, ones-fit}
-use Rattle.laws.specs.Culprit.{Due, names-nobody, names-exact, carried-names, carried-0}
+use Rattle.laws.specs.Culprit.{Due, names-exact, culprit-names, culprit-none, check-due, refine-due, coarsen-due, restore-due}
 use Rattle.laws.specs.TableMesh.{nodes-count, flat-nodes-length, flat-rows-length, tablesAfter, done-mesh, done-nodes, done-rows}
 
 -- ---- sizes
@@ -128,7 +128,7 @@ pub record Holds (g : Given) (new : Mesh) (o : Outcome) : Type 0 where
 -- a call's outcome, k being its number for the mesh, new the mesh that it makes, p its passes
 pub record CallLeaves (g : Given) (n0 k : ℕ) (new : Mesh) (p : ℕ) (o : Outcome) : Type 0 where
   pub number-said : o .answer .number ≡ cases (sizesFit g n0) k 1
-  pub culprit-said : o .answer .culprit ≡ cases (sizesFit g n0) (carried (meshOf g) k) 0
+  pub culprit-said : o .answer .culprit ≡ cases (sizesFit g n0) (culpritOf (meshOf g) k) 0
   pub sized-and-0 : o .answer .number ≡ 0 → Sizes g n0 × (k ≡ 0)
   pub done-is : o .answer .number ≡ 0 → o ≡ done g new p
   pub refusal-leaves : o .answer .number ≢ 0 → AsGiven g o
@@ -160,18 +160,18 @@ untouched-as-given g j c = record { nodes-same = refl; rows-same = refl; n-same 
 pub call-leaves : (g : Given) (n0 k : ℕ) (new : Mesh) (p : ℕ) → CallLeaves g n0 k new p (sized g n0 (leaves g (says k (meshOf g) new p)))
 call-leaves g n0 k new p = go (sizesFit g n0) refl k
   where
-    refused : (b : Bool) → sizesFit g n0 ≡ b → (k j : ℕ) → suc j ≡ cases b k 1 → CallLeaves g n0 k new p (untouched g (suc j) (cases b (carried (meshOf g) k) 0))
+    refused : (b : Bool) → sizesFit g n0 ≡ b → (k j : ℕ) → suc j ≡ cases b k 1 → CallLeaves g n0 k new p (untouched g (suc j) (cases b (culpritOf (meshOf g) k) 0))
     refused b q k j e = record {
       number-said = rw (q, e);
       culprit-said = rw q;
       sized-and-0 = λ e. absurd (omega arith);
       done-is = λ e. absurd (omega arith);
-      refusal-leaves = λ n. untouched-as-given g (suc j) (cases b (carried (meshOf g) k) 0);
+      refusal-leaves = λ n. untouched-as-given g (suc j) (cases b (culpritOf (meshOf g) k) 0);
       scratch-zero = refl;
     }
 
     go : (b : Bool) → sizesFit g n0 ≡ b → (k : ℕ) → CallLeaves g n0 k new p (cases b (leaves g (says k (meshOf g) new p)) (untouched g 1 0))
-    go true q zero = record { number-said = rw q; culprit-said = rw (q, carried-0 (meshOf g) 0 (inl (omega arith))); sized-and-0 = λ e. (sizes-exact g n0 .0 q, refl); done-is = λ e. refl; refusal-leaves = λ n. absurd (n refl); scratch-zero = refl }
+    go true q zero = record { number-said = rw q; culprit-said = rw (q, culprit-none (meshOf g) 0 (inl (omega arith))); sized-and-0 = λ e. (sizes-exact g n0 .0 q, refl); done-is = λ e. refl; refusal-leaves = λ n. absurd (n refl); scratch-zero = refl }
     go true q (suc k) = refused true q (suc k) k refl
     go false q k = refused false q k 0 refl
 
@@ -188,23 +188,15 @@ pub record Answers (g : Given) (n0 : ℕ) (Of : ℕ → Type 0) (o : Outcome) : 
   -- "It is all zero after every call, refused or not."
   pub scratch-all-zero : o .scratch ≡ cleared (g .scratch)
 
-module _ (g : Given) (n0 k : ℕ) (Of : ℕ → Type 0) (o : Outcome) (e : o .answer .number ≡ cases (sizesFit g n0) k 1) where
-  answer-names : o .answer .culprit ≡ cases (sizesFit g n0) (carried (meshOf g) k) 0 → Due (meshOf g) k → Names (meshOf g) (o .answer .number) (o .answer .culprit)
-  answer-names c due = rw (e, c) (go (sizesFit g n0))
-    where
-      go : (b : Bool) → Names (meshOf g) (cases b k 1) (cases b (carried (meshOf g) k) 0)
-      go true = carried-names (meshOf g) k due
-      go false = names-nobody (meshOf g) 1 (inl (omega arith))
-
-  pub call-answers : ((j : ℕ) → (k ≡ j) ↔ Of j) → ¬ Of 1 → o .answer .culprit ≡ cases (sizesFit g n0) (carried (meshOf g) k) 0 → Due (meshOf g) k →
-      (o .answer .number ≢ 0 → AsGiven g o) → o .scratch ≡ cleared (g .scratch) → Answers g n0 Of o
-  call-answers exact no1 c due same zeroed = record {
-    says-1-exactly = rw e (says-1 g n0 k (λ z. no1 (exact 1 .0 z)));
-    says-exactly = rw e (says-exact g n0 k Of exact);
-    names = answer-names c due;
-    refused-as-given = same;
-    scratch-all-zero = zeroed;
-  }
+pub call-answers : (g : Given) (n0 k : ℕ) (Of : ℕ → Type 0) (o : Outcome) → o .answer .number ≡ cases (sizesFit g n0) k 1 → ((j : ℕ) → (k ≡ j) ↔ Of j) → ¬ Of 1 →
+    Names (meshOf g) (o .answer .number) (o .answer .culprit) → (o .answer .number ≢ 0 → AsGiven g o) → o .scratch ≡ cleared (g .scratch) → Answers g n0 Of o
+call-answers g n0 k Of o e exact no1 named same zeroed = record {
+  says-1-exactly = rw e (says-1 g n0 k (λ z. no1 (exact 1 .0 z)));
+  says-exactly = rw e (says-exact g n0 k Of exact);
+  names = named;
+  refused-as-given = same;
+  scratch-all-zero = zeroed;
+}
 
 -- THE CULPRIT SAID IS THE ONE THAT THE NUMBER NAMES, and no other.
 pub culprit-exact : {g : Given} {n0 : ℕ} {Of : ℕ → Type 0} {o : Outcome} → Answers g n0 Of o → (z : ℕ) → (o .answer .culprit ≡ z) ↔ Names (meshOf g) (o .answer .number) z
@@ -223,7 +215,7 @@ leaves-no-passes {o = o} c = go (o .answer .number) refl
 -- "the base check writes no table but scratch"
 pub record CheckLeaves (g : Given) (o : Outcome) : Type 0 where
   pub check-number : o .answer .number ≡ cases (sizesFit g 0) (checkNo (meshOf g)) 1
-  pub check-culprit : o .answer .culprit ≡ cases (sizesFit g 0) (carried (meshOf g) (checkNo (meshOf g))) 0
+  pub check-culprit : o .answer .culprit ≡ cases (sizesFit g 0) (culpritOf (meshOf g) (checkNo (meshOf g))) 0
   pub all-as-given : AsGiven g o
   pub scratch-zero : o .scratch ≡ cleared (g .scratch)
 
@@ -231,8 +223,8 @@ pub check-leaves : (g : Given) → CheckLeaves g (checkOut g)
 unfolding checkOut
 check-leaves g = go (sizesFit g 0) refl
   where
-    go : (b : Bool) → sizesFit g 0 ≡ b → CheckLeaves g (cases b (untouched g (checkNo (meshOf g)) (carried (meshOf g) (checkNo (meshOf g)))) (untouched g 1 0))
-    go true q = record { check-number = rw q; check-culprit = rw q; all-as-given = untouched-as-given g (checkNo (meshOf g)) (carried (meshOf g) (checkNo (meshOf g))); scratch-zero = refl }
+    go : (b : Bool) → sizesFit g 0 ≡ b → CheckLeaves g (cases b (untouched g (checkNo (meshOf g)) (culpritOf (meshOf g) (checkNo (meshOf g)))) (untouched g 1 0))
+    go true q = record { check-number = rw q; check-culprit = rw q; all-as-given = untouched-as-given g (checkNo (meshOf g)) (culpritOf (meshOf g) (checkNo (meshOf g))); scratch-zero = refl }
     go false q = record { check-number = rw q; check-culprit = rw q; all-as-given = untouched-as-given g 1 0; scratch-zero = refl }
 
 module _ (g : Given) (n0 : ℕ) where
@@ -247,6 +239,30 @@ module _ (g : Given) (n0 : ℕ) where
   pub restore-leaves : CallLeaves g n0 (refusal (meshOf g)) (restored n0 (meshOf g) .end) (restored n0 (meshOf g) .passes) (restoreOut g n0)
   unfolding restoreOut restores
   restore-leaves = call-leaves g n0 (refusal (meshOf g)) (restored n0 (meshOf g) .end) (restored n0 (meshOf g) .passes)
+
+-- W2: each names the culprit of its number.
+said-names : (g : Given) (n0 : ℕ) {k j c : ℕ} → Due (meshOf g) k → j ≡ cases (sizesFit g n0) k 1 → c ≡ cases (sizesFit g n0) (culpritOf (meshOf g) k) 0 → Names (meshOf g) j c
+said-names g n0 {k} due e f = rw (e, f) (go (sizesFit g n0))
+  where
+    go : (b : Bool) → Names (meshOf g) (cases b k 1) (cases b (culpritOf (meshOf g) k) 0)
+    go true = culprit-names (meshOf g) k due
+    go false = names-none 1 (inl (omega arith))
+
+pub check-names : (g : Given) → Names (meshOf g) (checkOut g .answer .number) (checkOut g .answer .culprit)
+check-names g = let c = check-leaves g in said-names g 0 (check-due (meshOf g)) (c .check-number) (c .check-culprit)
+
+module _ (g : Given) (n0 : ℕ) where
+  call-names : {k p : ℕ} {new : Mesh} {o : Outcome} → Due (meshOf g) k → CallLeaves g n0 k new p o → Names (meshOf g) (o .answer .number) (o .answer .culprit)
+  call-names due c = said-names g n0 due (c .number-said) (c .culprit-said)
+
+  pub refine-names : (w : Way) (marks : List ℕ) → Names (meshOf g) (refineOut w g n0 marks .answer .number) (refineOut w g n0 marks .answer .culprit)
+  refine-names w marks = call-names (refine-due (meshOf g) w (roomOf g) marks) (refine-leaves g n0 w marks)
+
+  pub coarsen-names : (marks : List ℕ) → Names (meshOf g) (coarsenOut g n0 marks .answer .number) (coarsenOut g n0 marks .answer .culprit)
+  coarsen-names marks = call-names (coarsen-due (meshOf g) marks) (coarsen-leaves g n0 marks)
+
+  pub restore-names : Names (meshOf g) (restoreOut g n0 .answer .number) (restoreOut g n0 .answer .culprit)
+  restore-names = call-names (restore-due (meshOf g)) (restore-leaves g n0)
 
 -- "Only restore reports passes; after 0 the other calls give 0 there." A refusal gives 0 too.
 pub check-no-passes : (g : Given) → checkOut g .answer .passes ≡ 0

@@ -5,7 +5,7 @@ use mathlib.Core.List.{List}
 use mathlib.Core.Logic.{_↔_, _⊎_, inl, inr}
 use mathlib.Core.Path.{_≡_, refl, sym, subst, _∙_}
 use Prim.Native.Nat.{ℕ, zero, suc, _≤_, _<_}
-use native.Mathlib.Decide.{ℕ-discrete, decLt}
+use native.Mathlib.Decide.{decLt}
 use native.Mathlib.Omega.{arith}
 use lib.Dec.{eqb}
 use lib.ListN.{length}
@@ -15,83 +15,11 @@ use Rattle.lists.specs.declared.Found.the-variants.{At, Nothing}
 use Rattle.lists.specs.Lists.{all, cases}
 use Rattle.meaning.specs.declared.Fault.{Fault}
 use Rattle.meaning.specs.Mesh.{Mesh}
-use Rattle.meaning.specs.Lawful.{First, Names, firstOutside, firstMisnamed, firstRepeat, firstFlat, firstUnused, orLater, faultOf, refusal, compatible}
+use Rattle.meaning.specs.Lawful.{First, Other, Names, names-3, names-4, names-5, names-6, names-7, names-none, firstOutside, firstMisnamed, firstRepeat, firstFlat, firstUnused, orLater, faultOf, refusal, compatible}
 use Rattle.meaning.specs.Split.{Way, splitEdges, started, halves, refined}
 use Rattle.meaning.specs.Tables.{Room}
-use Rattle.meaning.specs.Calls.{carried, unless, orElse, marksFit, fits, checkNo, refineNo, coarsenNo}
+use Rattle.meaning.specs.Calls.{culpritOf, unless, orElse, marksFit, fits, checkNo, refineNo, coarsenNo}
 use Rattle.laws.specs.Faults.{first-3, first-4, first-5, first-6, first-7}
-
--- a number that names nobody
-abbrev pub Other : ℕ → Type 0
-Other k = (k < 3) ⊎ (7 < k)
-
--- 3 to 7 are not among them
-other-no : {X : Type 0} {k : ℕ} → 3 ≤ k → k ≤ 7 → Other k → X
-other-no a b (inl h) = absurd (omega arith)
-other-no a b (inr h) = absurd (omega arith)
-
--- ---- what each search found is named
-
-module _ (m : Mesh) where
-  names-outside : (i : ℕ) → firstOutside m ≡ At i → Names m 3 i
-  names-outside i e = record {
-    names-3 = λ q. first-3 m i e;
-    names-4 = λ q. absurd (omega arith);
-    names-5 = λ q. absurd (omega arith);
-    names-6 = λ q. absurd (omega arith);
-    names-7 = λ q. absurd (omega arith);
-    names-none = other-no (omega arith) (omega arith);
-  }
-
-  names-misnamed : (i : ℕ) → firstMisnamed m ≡ At i → Names m 4 i
-  names-misnamed i e = record {
-    names-3 = λ q. absurd (omega arith);
-    names-4 = λ q. first-4 m i e;
-    names-5 = λ q. absurd (omega arith);
-    names-6 = λ q. absurd (omega arith);
-    names-7 = λ q. absurd (omega arith);
-    names-none = other-no (omega arith) (omega arith);
-  }
-
-  names-repeat : (i : ℕ) → firstRepeat m ≡ At i → Names m 5 i
-  names-repeat i e = record {
-    names-3 = λ q. absurd (omega arith);
-    names-4 = λ q. absurd (omega arith);
-    names-5 = λ q. first-5 m i e;
-    names-6 = λ q. absurd (omega arith);
-    names-7 = λ q. absurd (omega arith);
-    names-none = other-no (omega arith) (omega arith);
-  }
-
-  names-flat : (i : ℕ) → firstFlat m ≡ At i → Names m 6 i
-  names-flat i e = record {
-    names-3 = λ q. absurd (omega arith);
-    names-4 = λ q. absurd (omega arith);
-    names-5 = λ q. absurd (omega arith);
-    names-6 = λ q. first-6 m i e;
-    names-7 = λ q. absurd (omega arith);
-    names-none = other-no (omega arith) (omega arith);
-  }
-
-  names-unused : (i : ℕ) → firstUnused m ≡ At i → Names m 7 i
-  names-unused i e = record {
-    names-3 = λ q. absurd (omega arith);
-    names-4 = λ q. absurd (omega arith);
-    names-5 = λ q. absurd (omega arith);
-    names-6 = λ q. absurd (omega arith);
-    names-7 = λ q. first-7 m i e;
-    names-none = other-no (omega arith) (omega arith);
-  }
-
-  pub names-nobody : (k : ℕ) → Other k → Names m k 0
-  names-nobody k o = record {
-    names-3 = λ q. other-no (omega arith) (omega arith) o;
-    names-4 = λ q. other-no (omega arith) (omega arith) o;
-    names-5 = λ q. other-no (omega arith) (omega arith) o;
-    names-6 = λ q. other-no (omega arith) (omega arith) o;
-    names-7 = λ q. other-no (omega arith) (omega arith) o;
-    names-none = λ h. refl;
-  }
 
 names-or-later : (m : Mesh) (k : ℕ) (f : Found) (rest : Fault) → ((i : ℕ) → f ≡ At i → Names m k i) → Names m (rest .number) (rest .at) → Names m (orLater k f rest .number) (orLater k f rest .at)
 names-or-later m k (At i) rest here later = here i refl
@@ -101,12 +29,12 @@ names-or-later m k Nothing rest here later = later
 pub fault-names : (m : Mesh) → Names m (faultOf m .number) (faultOf m .at)
 unfolding faultOf
 fault-names m =
-    names-or-later m 3 (firstOutside m) _ (names-outside m)
-    (names-or-later m 4 (firstMisnamed m) _ (names-misnamed m)
-    (names-or-later m 5 (firstRepeat m) _ (names-repeat m)
-    (names-or-later m 6 (firstFlat m) _ (names-flat m)
-    (names-or-later m 7 (firstUnused m) _ (names-unused m)
-    (names-nobody m 0 (inl (omega arith)))))))
+    names-or-later m 3 (firstOutside m) _ (λ i e. names-3 (first-3 m i e))
+    (names-or-later m 4 (firstMisnamed m) _ (λ i e. names-4 (first-4 m i e))
+    (names-or-later m 5 (firstRepeat m) _ (λ i e. names-5 (first-5 m i e))
+    (names-or-later m 6 (firstFlat m) _ (λ i e. names-6 (first-6 m i e))
+    (names-or-later m 7 (firstUnused m) _ (λ i e. names-7 (first-7 m i e))
+    (names-none 0 (inl (omega arith)))))))
 
 -- ---- one culprit
 
@@ -118,21 +46,32 @@ first-one {y = y} {z = z} apart a b = go (decLt y z) (decLt z y)
     go (no n) (yes l) = absurd (apart z (b .at-fault) (a .sound-below z l))
     go (no n) (no l) = omega arith
 
+-- 3 to 7 are not among the others
+other-no : {X : Type 0} {k : ℕ} → 3 ≤ k → k ≤ 7 → Other k → X
+other-no a b (inl h) = absurd (omega arith)
+other-no a b (inr h) = absurd (omega arith)
+
+names-other : {m : Mesh} {k z : ℕ} → Names m k z → Other k → z ≡ 0
+names-other (names-3 f) o = other-no (omega arith) (omega arith) o
+names-other (names-4 f) o = other-no (omega arith) (omega arith) o
+names-other (names-5 f) o = other-no (omega arith) (omega arith) o
+names-other (names-6 f) o = other-no (omega arith) (omega arith) o
+names-other (names-7 f) o = other-no (omega arith) (omega arith) o
+names-other (names-none k p) o = refl
+
 -- A MESH AND A NUMBER NAME ONE CULPRIT.
 pub names-one : {m : Mesh} {k y z : ℕ} → Names m k y → Names m k z → y ≡ z
-names-one {k = k} {y = y} {z = z} a b = go (ℕ-discrete k 3) (ℕ-discrete k 4) (ℕ-discrete k 5) (ℕ-discrete k 6) (ℕ-discrete k 7) (decLt k 3)
-  where
-    nobody : Other k → y ≡ z
-    nobody o = a .names-none o ∙ sym (b .names-none o)
-
-    go : Dec (k ≡ 3) → Dec (k ≡ 4) → Dec (k ≡ 5) → Dec (k ≡ 6) → Dec (k ≡ 7) → Dec (k < 3) → y ≡ z
-    go (yes e) d4 d5 d6 d7 l = first-one (λ j f s. f s) (a .names-3 e) (b .names-3 e)
-    go (no n3) (yes e) d5 d6 d7 l = first-one (λ j f s. f s) (a .names-4 e) (b .names-4 e)
-    go (no n3) (no n4) (yes e) d6 d7 l = first-one (λ j f s. s f) (a .names-5 e) (b .names-5 e)
-    go (no n3) (no n4) (no n5) (yes e) d7 l = first-one (λ j f s. f s) (a .names-6 e) (b .names-6 e)
-    go (no n3) (no n4) (no n5) (no n6) (yes e) l = first-one (λ j f s. omega arith) (a .names-7 e) (b .names-7 e)
-    go (no n3) (no n4) (no n5) (no n6) (no n7) (yes l) = nobody (inl l)
-    go (no n3) (no n4) (no n5) (no n6) (no n7) (no l) = nobody (inr (omega arith))
+names-one (names-3 f) (names-3 g) = first-one (λ j a b. a b) f g
+names-one (names-3 f) (names-none k o) = other-no (omega arith) (omega arith) o
+names-one (names-4 f) (names-4 g) = first-one (λ j a b. a b) f g
+names-one (names-4 f) (names-none k o) = other-no (omega arith) (omega arith) o
+names-one (names-5 f) (names-5 g) = first-one (λ j a b. b a) f g
+names-one (names-5 f) (names-none k o) = other-no (omega arith) (omega arith) o
+names-one (names-6 f) (names-6 g) = first-one (λ j a b. a b) f g
+names-one (names-6 f) (names-none k o) = other-no (omega arith) (omega arith) o
+names-one (names-7 f) (names-7 g) = first-one (λ j a b. omega arith) f g
+names-one (names-7 f) (names-none k o) = other-no (omega arith) (omega arith) o
+names-one (names-none k o) b = sym (names-other b o)
 
 -- So what names a culprit names no other.
 pub names-exact : {m : Mesh} {k y : ℕ} → Names m k y → (z : ℕ) → (y ≡ z) ↔ Names m k z
@@ -145,31 +84,31 @@ abbrev pub Due : Mesh → ℕ → Type 0
 Due m k = (k ≡ refusal m) ⊎ Other k
 
 -- WHAT A NUMBER CARRIES IS WHAT IT NAMES.
-pub carried-names : (m : Mesh) (k : ℕ) → Due m k → Names m k (carried m k)
-unfolding carried refusal
-carried-names m k due = go (eqb k (faultOf m .number)) refl due
+pub culprit-names : (m : Mesh) (k : ℕ) → Due m k → Names m k (culpritOf m k)
+unfolding culpritOf refusal
+culprit-names m k due = go (eqb k (faultOf m .number)) refl due
   where
     go : (b : Bool) → eqb k (faultOf m .number) ≡ b → Due m k → Names m k (cases b (faultOf m .at) 0)
     go true q d = subst (λ j. Names m j (faultOf m .at)) (sym (eqb-true k (faultOf m .number) q)) (fault-names m)
     go false q (inl e) = absurd (eqb-false k (faultOf m .number) q e)
-    go false q (inr o) = names-nobody m k o
+    go false q (inr o) = names-none k o
 
 -- "All other answers, later numbers too, carry 0 there."
-pub carried-0 : (m : Mesh) (k : ℕ) → Other k → carried m k ≡ 0
-carried-0 m k o = carried-names m k (inr o) .names-none o
+pub culprit-none : (m : Mesh) (k : ℕ) → Other k → culpritOf m k ≡ 0
+culprit-none m k o = names-other (culprit-names m k (inr o)) o
 
 -- the number that a mesh draws carries its fault's node or row
-pub carried-own : (m : Mesh) → carried m (refusal m) ≡ faultOf m .at
-unfolding carried
-carried-own m = rw (eq-eqb (refusal m) (refusal m) refl)
+pub culprit-own : (m : Mesh) → culpritOf m (refusal m) ≡ faultOf m .at
+unfolding culpritOf
+culprit-own m = rw (eq-eqb (refusal m) (refusal m) refl)
 
 -- a mesh at no fault blames nobody, whatever else refuses it
-pub carried-lawful : (m : Mesh) (k : ℕ) → refusal m ≡ 0 → carried m k ≡ 0
-unfolding carried refusal
-carried-lawful m k e = go (eqb k (faultOf m .number))
+pub culprit-lawful : (m : Mesh) (k : ℕ) → refusal m ≡ 0 → culpritOf m k ≡ 0
+unfolding culpritOf refusal
+culprit-lawful m k e = go (eqb k (faultOf m .number))
   where
     go : (b : Bool) → cases b (faultOf m .at) 0 ≡ 0
-    go true = fault-names m .names-none (inl (omega arith))
+    go true = names-other (fault-names m) (inl (omega arith))
     go false = refl
 
 module _ (m : Mesh) where

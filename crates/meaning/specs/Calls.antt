@@ -23,13 +23,13 @@ pub record Reply : Type 0 where
 
 -- W2: "Refusals 3 to 7 are to carry the lowest offending number as well .. All other answers, later numbers too, carry 0 there." So the
 -- number that the mesh itself draws carries its fault's node or row, and every other number 0.
-unfoldable pub carried : Mesh → ℕ → ℕ
-carried m k = cases (eqb k (refusal m)) (faultOf m .at) 0
+unfoldable pub culpritOf : Mesh → ℕ → ℕ
+culpritOf m k = cases (eqb k (refusal m)) (faultOf m .at) 0
 
 -- done, with the new mesh and the passes; or refused, with "0 passes": "It changes no node, triangle or mark."
 abbrev pub says : ℕ → Mesh → Mesh → ℕ → Reply
 says zero old new k = record { number = 0; after = new; passes = k; culprit = 0 }
-says (suc j) old new k = record { number = suc j; after = old; passes = 0; culprit = carried old (suc j) }
+says (suc j) old new k = record { number = suc j; after = old; passes = 0; culprit = culpritOf old (suc j) }
 
 -- number k unless a test says yes
 abbrev pub unless : Bool → ℕ → ℕ → ℕ
@@ -114,7 +114,7 @@ sized g n0 o = cases (sizesFit g n0) o (untouched g 1 0)
 
 -- "The base check takes no n0": as with 0. "the base check writes no table but scratch"
 unfoldable pub checkOut : Given → Outcome
-checkOut g = sized g 0 (untouched g (checkNo (meshOf g)) (carried (meshOf g) (checkNo (meshOf g))))
+checkOut g = sized g 0 (untouched g (checkNo (meshOf g)) (culpritOf (meshOf g) (checkNo (meshOf g))))
 
 unfoldable pub refineOut : Way → Given → ℕ → List ℕ → Outcome
 refineOut w g n0 marks = sized g n0 (leaves g (refines w (roomOf g) (meshOf g) marks))

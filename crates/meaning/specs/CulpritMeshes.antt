@@ -11,7 +11,7 @@ use Rattle.meaning.specs.Lawful.{refusal, compatible, faultOf, firstOuts
 use Rattle.meaning.specs.Split.{closure, splitEdges, splitAt, split, refined}
 use Rattle.meaning.specs.Good.{pairs, span, G1-4, good}
 use Rattle.meaning.specs.Coarsen.{taken, without, coarsened, goodNodes, pass, restored}
-use Rattle.meaning.specs.Calls.{carried, checkNo, refineNo, coarsenNo, checks, refines, coarsens, restores}
+use Rattle.meaning.specs.Calls.{culpritOf, checkNo, refineNo, coarsenNo, checks, refines, coarsens, restores}
 use Rattle.meaning.specs.HandCase.{Case, check, refine, quarter, coarsen, restore, computed, says, blames, case, within, at}
 use Rattle.meaning.specs.HandMeshes.{square, S, after2}
 
@@ -100,5 +100,5 @@ culpritCases =
     []
 
 pub culprit-meshes : map computed culpritCases ≡ map (λ c. c .expected) culpritCases
-unfolding total twiceArea lowest lowestFrom firstOutside firstMisnamed firstRepeat firstFlat firstUnused firstClash faultOf refusal compatible closure splitEdges splitAt split refined pairs span G1-4 good taken without coarsened goodNodes pass restored carried checkNo refineNo coarsenNo checks refines coarsens restores
+unfolding total twiceArea lowest lowestFrom firstOutside firstMisnamed firstRepeat firstFlat firstUnused firstClash faultOf refusal compatible closure splitEdges splitAt split refined pairs span G1-4 good taken without coarsened goodNodes pass restored culpritOf checkNo refineNo coarsenNo checks refines coarsens restores
 culprit-meshes = refl

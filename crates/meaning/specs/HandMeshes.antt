@@ -9,7 +9,7 @@ use Rattle.meaning.specs.Lawful.{refusal, compatible, faultOf, firstOuts
 use Rattle.meaning.specs.Split.{closure, splitEdges, splitAt, split, refined}
 use Rattle.meaning.specs.Good.{pairs, span, G1-4, good}
 use Rattle.meaning.specs.Coarsen.{taken, without, coarsened, goodNodes, pass, restored}
-use Rattle.meaning.specs.Calls.{carried, checkNo, refineNo, coarsenNo, checks, refines, coarsens, restores}
+use Rattle.meaning.specs.Calls.{culpritOf, checkNo, refineNo, coarsenNo, checks, refines, coarsens, restores}
 use Rattle.meaning.specs.HandCase.{Case, check, refine, coarsen, restore, computed, says, case, at}
 
 abbrev pub square : List Place
@@ -74,5 +74,5 @@ handCases =
     []
 
 pub hand-meshes : map computed handCases ≡ map (λ c. c .expected) handCases
-unfolding total twiceArea lowest lowestFrom firstOutside firstMisnamed firstRepeat firstFlat firstUnused firstClash faultOf refusal compatible closure splitEdges splitAt split refined pairs span G1-4 good taken without coarsened goodNodes pass restored carried checkNo refineNo coarsenNo checks refines coarsens restores
+unfolding total twiceArea lowest lowestFrom firstOutside firstMisnamed firstRepeat firstFlat firstUnused firstClash faultOf refusal compatible closure splitEdges splitAt split refined pairs span G1-4 good taken without coarsened goodNodes pass restored culpritOf checkNo refineNo coarsenNo checks refines coarsens restores
 hand-meshes = refl

@@ -12,7 +12,7 @@ use Rattle.meaning.specs.Split.{newest, allThree, closure, splitEdges, s
 use Rattle.meaning.specs.Good.{pairs, span, G1-4, good}
 use Rattle.meaning.specs.Coarsen.{taken, without, coarsened, goodNodes, pass, restored}
 use Rattle.meaning.specs.Tables.{Given, Outcome, given, outcome, answer, placeAt, rowAt, meshOf}
-use Rattle.meaning.specs.Calls.{carried, checkNo, refineNo, coarsenNo, checks, refines, coarsens, restores, sizesFit, checkOut, refineOut, coarsenOut, restoreOut}
+use Rattle.meaning.specs.Calls.{culpritOf, checkNo, refineNo, coarsenNo, checks, refines, coarsens, restores, sizesFit, checkOut, refineOut, coarsenOut, restoreOut}
 
 record Row : Type 0 where
   got : Outcome
@@ -114,5 +114,5 @@ outcomes =
     []
 
 hand-tables : map (λ r. r .got) outcomes ≡ map (λ r. r .expected) outcomes
-unfolding outcomes wrong lent said blamed square spare two wide four six outside misnamed repeated turned _is_ lowest lowestFrom items itemsFrom placeAt rowAt meshOf twiceArea firstOutside firstMisnamed firstRepeat firstFlat firstUnused firstClash faultOf refusal compatible closure splitEdges splitAt split refined pairs span G1-4 good taken without coarsened goodNodes pass restored carried checkNo refineNo coarsenNo checks refines coarsens restores sizesFit checkOut refineOut coarsenOut restoreOut
+unfolding outcomes wrong lent said blamed square spare two wide four six outside misnamed repeated turned _is_ lowest lowestFrom items itemsFrom placeAt rowAt meshOf twiceArea firstOutside firstMisnamed firstRepeat firstFlat firstUnused firstClash faultOf refusal compatible closure splitEdges splitAt split refined pairs span G1-4 good taken without coarsened goodNodes pass restored culpritOf checkNo refineNo coarsenNo checks refines coarsens restores sizesFit checkOut refineOut coarsenOut restoreOut
 hand-tables = refl

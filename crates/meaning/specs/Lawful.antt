@@ -81,16 +81,22 @@ pub record Repeats (ts : List Tri) (i : ℕ) : Type 0 where
   pub here : List·Memᴰ edge (arrows (rowOf ts i))
   pub there : List·Memᴰ edge (arrows (rowOf ts other))
 
--- W2: what an answer with the number k names in z. "Refusals 3 to 7 are to carry the lowest offending number as well: a node for 3 and 7, a
--- triangle for 4 and 6, and for 5 the lowest triangle with a directed edge that a lower row already has .. All other answers, later numbers
--- too, carry 0 there."
-pub record Names (m : Mesh) (k z : ℕ) : Type 0 where
-  pub names-3 : k ≡ 3 → First (length (m .nodes)) (λ j. ¬ InRange (at m j)) (λ j. InRange (at m j)) z
-  pub names-4 : k ≡ 4 → First (length (m .tris)) (λ i. ¬ Named (length (m .nodes)) (rowOf (m .tris) i)) (λ i. Named (length (m .nodes)) (rowOf (m .tris) i)) z
-  pub names-5 : k ≡ 5 → First (length (m .tris)) (Repeats (m .tris)) (λ i. ¬ Repeats (m .tris) i) z
-  pub names-6 : k ≡ 6 → First (length (m .tris)) (λ i. ¬ (pos 0 <ℤ twiceArea m (rowOf (m .tris) i))) (λ i. pos 0 <ℤ twiceArea m (rowOf (m .tris) i)) z
-  pub names-7 : k ≡ 7 → First (length (m .nodes)) (λ j. count (holdsNode j) (m .tris) ≡ 0) (λ j. 1 ≤ count (holdsNode j) (m .tris)) z
-  pub names-none : (k < 3) ⊎ (7 < k) → z ≡ 0
+-- 0 to 2, and 8 and above
+abbrev pub Other : ℕ → Type 0
+Other k = (k < 3) ⊎ (7 < k)
+
+-- W2: what an answer names with its number, line by line. "Refusals 3 to 7 are to carry the lowest offending number as well:"
+pub data Names (m : Mesh) : ℕ → ℕ → Type 0 where
+  -- "a node for 3 and 7,"
+  names-3 : {z : ℕ} → First (length (m .nodes)) (λ j. ¬ InRange (at m j)) (λ j. InRange (at m j)) z → Names m 3 z
+  names-7 : {z : ℕ} → First (length (m .nodes)) (λ j. count (holdsNode j) (m .tris) ≡ 0) (λ j. 1 ≤ count (holdsNode j) (m .tris)) z → Names m 7 z
+  -- "a triangle for 4 and 6,"
+  names-4 : {z : ℕ} → First (length (m .tris)) (λ i. ¬ Named (length (m .nodes)) (rowOf (m .tris) i)) (λ i. Named (length (m .nodes)) (rowOf (m .tris) i)) z → Names m 4 z
+  names-6 : {z : ℕ} → First (length (m .tris)) (λ i. ¬ (pos 0 <ℤ twiceArea m (rowOf (m .tris) i))) (λ i. pos 0 <ℤ twiceArea m (rowOf (m .tris) i)) z → Names m 6 z
+  -- "and for 5 the lowest triangle with a directed edge that a lower row already has."
+  names-5 : {z : ℕ} → First (length (m .tris)) (Repeats (m .tris)) (λ i. ¬ Repeats (m .tris) i) z → Names m 5 z
+  -- "All other answers, later numbers too, carry 0 there."
+  names-none : (k : ℕ) → Other k → Names m k 0
 
 -- "Compatible: wherever another triangle holds a triangle's refinement edge, it is that one's refinement edge too."
 abbrev pub Compatible : Mesh → Type 0

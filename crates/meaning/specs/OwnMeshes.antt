@@ -10,7 +10,7 @@ use Rattle.meaning.specs.Lawful.{refusal, compatible, faultOf, fault, fi
 use Rattle.meaning.specs.Split.{closure, splitEdges, splitAt, split, refined}
 use Rattle.meaning.specs.Good.{pairs, span, G1-4, good}
 use Rattle.meaning.specs.Coarsen.{taken, without, coarsened, goodNodes, pass, restored}
-use Rattle.meaning.specs.Calls.{carried, checkNo, refineNo, coarsenNo, checks, refines, coarsens, restores}
+use Rattle.meaning.specs.Calls.{culpritOf, checkNo, refineNo, coarsenNo, checks, refines, coarsens, restores}
 use Rattle.meaning.specs.HandCase.{Case, check, refine, coarsen, restore, computed, says, blames, case, within, at}
 use Rattle.meaning.specs.HandMeshes.{square, S, after2}
 
@@ -136,7 +136,7 @@ ownCases =
     []
 
 pub own-meshes : map computed ownCases ≡ map (λ c. c .expected) ownCases
-unfolding total twiceArea lowest lowestFrom firstOutside firstMisnamed firstRepeat firstFlat firstUnused firstClash faultOf refusal compatible closure splitEdges splitAt split refined pairs span G1-4 good taken without coarsened goodNodes pass restored carried checkNo refineNo coarsenNo checks refines coarsens restores
+unfolding total twiceArea lowest lowestFrom firstOutside firstMisnamed firstRepeat firstFlat firstUnused firstClash faultOf refusal compatible closure splitEdges splitAt split refined pairs span G1-4 good taken without coarsened goodNodes pass restored culpritOf checkNo refineNo coarsenNo checks refines coarsens restores
 own-meshes = refl
 
 -- ---- the lowest node or row at fault

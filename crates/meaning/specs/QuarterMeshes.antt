@@ -10,7 +10,7 @@ use Rattle.meaning.specs.Lawful.{refusal, compatible, faultOf, firstOuts
 use Rattle.meaning.specs.Split.{closure, splitEdges, splitAt, split, refined}
 use Rattle.meaning.specs.Good.{pairs, span, G1-4, good}
 use Rattle.meaning.specs.Coarsen.{taken, without, coarsened, goodNodes, pass, restored}
-use Rattle.meaning.specs.Calls.{carried, checkNo, refineNo, coarsenNo, checks, refines, coarsens, restores}
+use Rattle.meaning.specs.Calls.{culpritOf, checkNo, refineNo, coarsenNo, checks, refines, coarsens, restores}
 use Rattle.meaning.specs.HandCase.{Case, refine, quarter, coarsen, restore, computed, says, case, within, at}
 use Rattle.meaning.specs.HandMeshes.{square, S, R, after2}
 use Rattle.meaning.specs.OwnMeshes.{wings, winged, cut-all, empty}
@@ -148,5 +148,5 @@ quarterCases =
     []
 
 pub quarter-meshes : map computed quarterCases ≡ map (λ c. c .expected) quarterCases
-unfolding total twiceArea lowest lowestFrom firstOutside firstMisnamed firstRepeat firstFlat firstUnused firstClash faultOf refusal compatible closure splitEdges splitAt split refined pairs span G1-4 good taken without coarsened goodNodes pass restored carried checkNo refineNo coarsenNo checks refines coarsens restores
+unfolding total twiceArea lowest lowestFrom firstOutside firstMisnamed firstRepeat firstFlat firstUnused firstClash faultOf refusal compatible closure splitEdges splitAt split refined pairs span G1-4 good taken without coarsened goodNodes pass restored culpritOf checkNo refineNo coarsenNo checks refines coarsens restores
 quarter-meshes = refl

@@ -12,7 +12,7 @@ use Rattle.meaning.specs.declared.Answer.{Answer}
 use Rattle.meaning.specs.declared.Fault.{Fault}
 use Rattle.meaning.specs.Lawful.{fault, refusal, compatible, firstClash}
 use Rattle.meaning.specs.Tables.{Given, given, outcome, answer, meshOf}
-use Rattle.meaning.specs.Calls.{carried, unless, checkNo, sizesFit, untouched, checkOut}
+use Rattle.meaning.specs.Calls.{culpritOf, unless, checkNo, sizesFit, untouched, checkOut}
 use Rattle.laws.specs.Lawful.{lawful-refusal}
 use Rattle.lawful.specs.Tests.{clashAt}
 use Rattle.lawful.specs.ClashLaw.{clash-is}
@@ -49,7 +49,7 @@ unfolding checkOut checkNo checkFault
 check-untouched g = ap (λ (f : Fault). untouched g (f .number) (f .at)) (sym (verdict g 0 0 [] (unless (compatible (meshOf g)) 10 0))) ∙ go (sizesFit g 0)
   where
     blamed : ℕ
-    blamed = carried (meshOf g) (checkNo (meshOf g))
+    blamed = culpritOf (meshOf g) (checkNo (meshOf g))
 
     go : (b : Bool) → untouched g (cases b (fault (checkNo (meshOf g)) blamed) (fault 1 0) .number) (cases b (fault (checkNo (meshOf g)) blamed) (fault 1 0) .at) ≡ cases b (untouched g (checkNo (meshOf g)) blamed) (untouched g 1 0)
     go true = refl

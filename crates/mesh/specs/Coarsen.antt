@@ -16,7 +16,7 @@ use Rattle.laws.specs.Meshes.{meshAt}
 use Rattle.gather.specs.Whole as Gather
 use Rattle.gather.specs.declared.Counts.{Counts}
 use Rattle.judging.specs.Judge.{meshIn, early}
-use Rattle.judging.specs.Leaving.{left, leaves-refused, leaves-done, leaves-same, call-out}
+use Rattle.judging.specs.Leaving.{lateOut, leaves-refused, leaves-done, leaves-same, call-out}
 
 pub law-at : (nodes : List ℤ) (rows : List ℕ) (n t : ℕ) → Lawful (meshIn nodes rows n t) → Lawful (meshAt nodes rows n t)
 unfolding meshAt
@@ -32,7 +32,7 @@ module _ (nodes : List ℤ) (rows s marks : List ℕ) (n0 n t : ℕ) (z : s ≡ 
   unfolding coarsenNo
   coarsen-number = rw (nodes-count (given nodes rows s n t), orElse-zero (refusal (meshOf (given nodes rows s n t))))
 
-  coarsen-out : left (given nodes rows s n t) n0 n marks 0 (coarsened n0 (meshOf (given nodes rows s n t)) marks) ≡ coarsenOut (given nodes rows s n t) n0 marks
+  coarsen-out : lateOut (given nodes rows s n t) n0 n marks 0 (coarsened n0 (meshOf (given nodes rows s n t)) marks) ≡ coarsenOut (given nodes rows s n t) n0 marks
   unfolding coarsenOut coarsens
   coarsen-out =
       let g = given nodes rows s n t in

@@ -13,7 +13,7 @@ use Rattle.meaning.specs.Split.{closure, splitEdges, splitAt, split, refined}
 use Rattle.meaning.specs.Good.{pairs, span, G1-4, good}
 use Rattle.meaning.specs.Coarsen.{taken, without, coarsened, goodNodes, pass, restored}
 use Rattle.meaning.specs.Tables.{placeAt, rowAt, meshOf}
-use Rattle.meaning.specs.Calls.{checkNo, refineNo, coarsenNo, checks, refines, coarsens, restores, carried, sizesFit, checkOut, refineOut, coarsenOut, restoreOut}
+use Rattle.meaning.specs.Calls.{checkNo, refineNo, coarsenNo, checks, refines, coarsens, restores, culpritOf, sizesFit, checkOut, refineOut, coarsenOut, restoreOut}
 use Rattle.tables.specs.Put.{setPlace, setRow}
 use Rattle.text.specs.Digits.{bytes, isDigit, worth, number, listed, signed, unsigned, hexDigit, hex}
 use Rattle.text.specs.Lines.{placeIn, rowIn, answerLine, nodeLine, rowLine, allLines}
@@ -128,7 +128,7 @@ talks =
     []
 
 talks-heard : map (λ t. program (t .says)) talks ≡ map (λ t. t .hears) talks
-unfolding talks said talk corners over square on lowest lowestFrom items itemsFrom twiceArea refusal compatible faultOf firstOutside firstMisnamed firstRepeat firstFlat firstUnused firstClash closure splitEdges splitAt split refined pairs span G1-4 good taken without coarsened goodNodes pass restored placeAt rowAt meshOf checkNo refineNo coarsenNo checks refines coarsens restores carried sizesFit checkOut refineOut coarsenOut restoreOut setPlace setRow isDigit worth number listed signed unsigned hexDigit hex placeIn rowIn answerLine nodeLine rowLine allLines refinesIn wellFormed listsBelow admits takes addNode addRow marksOf called sessionAfter frame lineStep program
+unfolding talks said talk corners over square on lowest lowestFrom items itemsFrom twiceArea refusal compatible faultOf firstOutside firstMisnamed firstRepeat firstFlat firstUnused firstClash closure splitEdges splitAt split refined pairs span G1-4 good taken without coarsened goodNodes pass restored placeAt rowAt meshOf checkNo refineNo coarsenNo checks refines coarsens restores culpritOf sizesFit checkOut refineOut coarsenOut restoreOut setPlace setRow isDigit worth number listed signed unsigned hexDigit hex placeIn rowIn answerLine nodeLine rowLine allLines refinesIn wellFormed listsBelow admits takes addNode addRow marksOf called sessionAfter frame lineStep program
 talks-heard = refl
 
 -- ---- single lines, on tables of any size
@@ -181,5 +181,5 @@ rows =
     []
 
 lines-stepped : map (λ r. r .got) rows ≡ map (λ r. r .expected) rows
-unfolding rows only full tight lowest lowestFrom items itemsFrom twiceArea refusal compatible faultOf firstOutside firstMisnamed firstRepeat firstFlat firstUnused firstClash closure splitEdges splitAt split refined pairs span G1-4 good taken without coarsened goodNodes pass restored placeAt rowAt meshOf checkNo refineNo coarsenNo checks refines coarsens restores carried sizesFit checkOut refineOut coarsenOut restoreOut setPlace setRow isDigit worth number listed signed unsigned hexDigit hex placeIn rowIn answerLine nodeLine rowLine allLines refinesIn wellFormed listsBelow admits takes addNode addRow marksOf called sessionAfter frame lineStep
+unfolding rows only full tight lowest lowestFrom items itemsFrom twiceArea refusal compatible faultOf firstOutside firstMisnamed firstRepeat firstFlat firstUnused firstClash closure splitEdges splitAt split refined pairs span G1-4 good taken without coarsened goodNodes pass restored placeAt rowAt meshOf checkNo refineNo coarsenNo checks refines coarsens restores culpritOf sizesFit checkOut refineOut coarsenOut restoreOut setPlace setRow isDigit worth number listed signed unsigned hexDigit hex placeIn rowIn answerLine nodeLine rowLine allLines refinesIn wellFormed listsBelow admits takes addNode addRow marksOf called sessionAfter frame lineStep
 lines-stepped = refl

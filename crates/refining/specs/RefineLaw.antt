@@ -43,7 +43,7 @@ use Rattle.cut.specs.Cutting.{cutAt, cutAll, splits}
 use Rattle.cut.specs.MeshLaw.{cut-mesh, count-rows, count-mesh}
 use Rattle.refining.specs.declared.Plan.{Plan}
 use Rattle.judging.specs.Judge.{meshIn, early, Admitted}
-use Rattle.judging.specs.Leaving.{left, leaves-refused, leaves-refused-late, leaves-done, leaves-same, call-out}
+use Rattle.judging.specs.Leaving.{lateOut, leaves-refused, leaves-refused-late, leaves-done, leaves-same, call-out}
 use Rattle.refining.specs.Refine.{splitIn, afterIn, fitsIn, planOf, weighed, Weighty, lateNumber, Carry, Pair, bothTables, carried, Planned}
 
 -- ---- 8 and 9, by the notes: each test of `weigh` as the code has it
@@ -247,7 +247,7 @@ carry-done nodes a c rows b d s n t n1 t1 p la q lb fc fd = rw (fc, fd, q, la, l
 
 -- f is what was judged first, k what was judged at last
 module _ (how : Manner) (nodes : List ℤ) (rows s marks : List ℕ) (n0 n t : ℕ) (z : s ≡ replicate (length s) 0) (f : Fault) (e : f ≡ early (given nodes rows s n t) n0 t marks) where
-  refine-out : left (given nodes rows s n t) n0 t marks (lateNumber how nodes rows marks n t) (afterIn how nodes rows marks n t) ≡ refineOut (wayOf how) (given nodes rows s n t) n0 marks
+  refine-out : lateOut (given nodes rows s n t) n0 t marks (lateNumber how nodes rows marks n t) (afterIn how nodes rows marks n t) ≡ refineOut (wayOf how) (given nodes rows s n t) n0 marks
   unfolding refineOut refines refineNo lateNumber meshOf
   refine-out = rw (length-items (rowAt rows) t)
 

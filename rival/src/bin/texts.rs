@@ -111,6 +111,7 @@ fn main() {
     let times = [3, 4, 5, 6, 7].map(|k| blames.iter().filter(|&&number| number == k).count());
     println!("texts: refused 03s with a culprit above 0, by 3 to 7: {times:?}");
     if times.contains(&0) {
+        println!("texts: {count} from seed {first} answered alike, but one of 3 to 7 never came so");
         std::process::exit(1);
     }
     println!("texts: {count} from seed {first} answered alike, {lines} lines");

@@ -340,7 +340,7 @@ fn range_ends() -> Vec<Case> {
 /// Every reason for 1, of every call.
 fn number_1() -> Vec<Case> {
     type Spoil = fn(&mut Tables);
-    let reasons: [(&'static str, Spoil); 8] = [
+    let reasons: [(&'static str, Spoil); 9] = [
         ("1, an odd node table", |g| g.nodes.push(7)),
         ("1, a row table of 3 k + 1", |g| g.rows.push(7)),
         ("1, a row table of 3 k + 2", |g| g.rows.extend([7, 7])),
@@ -349,6 +349,7 @@ fn number_1() -> Vec<Case> {
         ("1, n above NC", |g| g.n = 21),
         ("1, t above TC", |g| g.t = usize::MAX),
         ("1, scratch one short", |g| g.scratch.truncate(4 * 50 - 1)),
+        ("1 before 4", |g| (g.rows[5], g.scratch) = (4, vec![])),
     ];
     let mut all: Vec<Case> =
         [refine(S, 5, &[0]), quarter(S, 5, &[0]), full_pass(S, 5), Call::Restore(5)].map(|call| refused("1, n0 above n", lent(S, 20, 30), call, 1)).into();

@@ -2,8 +2,8 @@
  *
  * Every call takes any lengths, counts and contents, ends, and returns a number. The caller lends the tables; a table is a pointer and
  * a length in numbers (not bytes). What a call asks of its pointers, and cannot test: each is valid, aligned and not null (also where
- * the length is 0); the tables do not overlap; n, t and passes, where they are pointers, are valid, aligned, distinct from each other
- * and outside the tables; and nothing else reads or writes any of these during the call. Marks are only read.
+ * the length is 0); the tables do not overlap; n, t, passes and culprit, where they are pointers, are valid, aligned, distinct from each
+ * other and outside the tables; and nothing else reads or writes any of these during the call. Marks are only read.
  *
  *   nodes    two numbers a node, x and y; room NC = nodes_len / 2, at most 1,024
  *   rows     three numbers a triangle, p q r: p is the newest vertex, q-r the refinement edge; room TC = rows_len / 3, at most 2,048
@@ -11,16 +11,18 @@
  *   marks    one byte for each triangle (refine, quarter) or node (coarsen), 0 or 1; never written
  *   n, t     how many nodes and triangles there are
  *   n0       how many of the nodes belong to the factory mesh
+ *   culprit  the last parameter of every call, written by every call: with 3 to 7 the lowest node or triangle at fault, counted from 0;
+ *            0 with every other number. What it held before does not matter
  *
- * Numbers (the lowest that applies is returned):
+ * Numbers (the lowest that applies is returned), and the culprit:
  *    0  done: the tables hold the new mesh, zeros past the new counts
  *    1  a table length is not a multiple of its row, a room or count is out of bounds, n0 is above n, or scratch is short
  *    2  the mark table has another length, or a byte above 1
- *    3  a coordinate of a node is outside -1,048,576 .. 1,048,576
- *    4  a triangle names a node that is not below n, or one node twice
- *    5  a directed edge (p to q, q to r, r to p) occurs twice
- *    6  a triangle's twice-area is not above 0
- *    7  a node is in no triangle
+ *    3  a coordinate of a node is outside -1,048,576 .. 1,048,576: the lowest such node
+ *    4  a triangle names a node that is not below n, or one node twice: the lowest such triangle
+ *    5  a directed edge (p to q, q to r, r to p) occurs twice: the lowest triangle with one that a lower row already has
+ *    6  a triangle's twice-area is not above 0: the lowest such triangle
+ *    7  a node is in no triangle: the lowest such node
  *    8  an edge to be split has an odd sum of x or of y
  *    9  the new counts are above NC or TC
  *   10  the labelling is not compatible (check only)
@@ -40,19 +42,19 @@ extern "C" {
 
 /* The base check: 0 for a lawful mesh with a compatible labelling. It writes no table but scratch, whatever it returns. */
 uint32_t spoutbeetle_check(int32_t *nodes, size_t nodes_len, uint32_t *rows, size_t rows_len, uint32_t *scratch, size_t scratch_len,
-                           size_t n, size_t t);
+                           size_t n, size_t t, size_t *culprit);
 
 /* Splits the marked triangles, and what must be split with them. After 0, *n and *t are the new counts. */
 uint32_t spoutbeetle_refine(int32_t *nodes, size_t nodes_len, uint32_t *rows, size_t rows_len, uint32_t *scratch, size_t scratch_len,
-                            const uint8_t *marks, size_t marks_len, size_t n0, size_t *n, size_t *t);
+                            const uint8_t *marks, size_t marks_len, size_t n0, size_t *n, size_t *t, size_t *culprit);
 
 /* As spoutbeetle_refine, but all three edges of every marked triangle are split, not its refinement edge alone: it becomes four. */
 uint32_t spoutbeetle_quarter(int32_t *nodes, size_t nodes_len, uint32_t *rows, size_t rows_len, uint32_t *scratch, size_t scratch_len,
-                             const uint8_t *marks, size_t marks_len, size_t n0, size_t *n, size_t *t);
+                             const uint8_t *marks, size_t marks_len, size_t n0, size_t *n, size_t *t, size_t *culprit);
 
 /* Takes the marked nodes that are good: added nodes that can go without leaving a gap. After 0, *n and *t are the new counts. */
 uint32_t spoutbeetle_coarsen(int32_t *nodes, size_t nodes_len, uint32_t *rows, size_t rows_len, uint32_t *scratch, size_t scratch_len,
-                             const uint8_t *marks, size_t marks_len, size_t n0, size_t *n, size_t *t);
+                             const uint8_t *marks, size_t marks_len, size_t n0, size_t *n, size_t *t, size_t *culprit);
 
 /* Coarsens while a good node exists. After 0, *n and *t are the new counts and *passes how many passes were made, 0 passes included;
  * after a refusal *passes is 0. What *passes held before does not matter.
@@ -67,7 +69,13 @@ uint32_t spoutbeetle_coarsen(int32_t *nodes, size_t nodes_len, uint32_t *rows, s
  * Refused calls of any kind may stand in between, with whatever counts, n0, marks and scratch; each call may lend another scratch.
  * Only a short scratch can refuse it then, as 1. */
 uint32_t spoutbeetle_restore(int32_t *nodes, size_t nodes_len, uint32_t *rows, size_t rows_len, uint32_t *scratch, size_t scratch_len,
-                             size_t n0, size_t *n, size_t *t, size_t *passes);
+                             size_t n0, size_t *n, size_t *t, size_t *passes, size_t *culprit);
+
+/* The number and the culprit of an answer in words: what is wrong and where, and the number in brackets, e.g.
+ * "triangle 17 has a directed edge that a lower row already has (5)". A number that names no culprit, or that no call gives, has its words
+ * too. At most size bytes are written to text, its ending 0 among them; text may be null where size is 0. Returns the length of the whole
+ * text, which was cut if that is not below size. It is in spoutbeetle.c beside this header, not in the library, and is not proved. */
+size_t spoutbeetle_words(uint32_t number, size_t culprit, char *text, size_t size);
 
 #ifdef __cplusplus
 }

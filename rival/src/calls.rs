@@ -1,13 +1,14 @@
 //! Check, refine, quarter, coarsen and restore on lent tables.
 use std::collections::{HashMap, HashSet};
 
-/// What a call says: its number, the counts after it, the passes it made.
+/// What a call says: its number, the counts after it, the passes it made, and the lowest node or row at fault.
 #[derive(Clone, Copy, Debug, PartialEq, Eq)]
 pub struct Answer {
     pub number: u32,
     pub n: usize,
     pub t: usize,
     pub passes: usize,
+    pub culprit: usize,
 }
 
 /// The tables that a caller lends, with the counts.
@@ -73,9 +74,14 @@ impl Tables {
         self.t = m.rows.len();
     }
 
-    fn answer(&mut self, number: u32, passes: usize) -> Answer {
+    fn done(&mut self, passes: usize) -> Answer {
         self.scratch.fill(0);
-        Answer { number, n: self.n, t: self.t, passes }
+        Answer { number: 0, n: self.n, t: self.t, passes, culprit: 0 }
+    }
+
+    fn refused(&mut self, number: u32, culprit: usize) -> Answer {
+        self.scratch.fill(0);
+        Answer { number, n: self.n, t: self.t, passes: 0, culprit }
     }
 }
 
@@ -100,37 +106,39 @@ fn pair(a: usize, b: usize) -> (usize, usize) {
     (a.min(b), a.max(b))
 }
 
+fn misnames(r: Row, n: usize) -> bool {
+    r.iter().any(|&k| k >= n) || r[0] == r[1] || r[1] == r[2] || r[2] == r[0]
+}
+
 impl Mesh {
     fn twice_area(&self, r: Row) -> i64 {
         let [p, q, s] = r.map(|k| self.nodes[k]);
         (q.0 - p.0) * (s.1 - p.1) - (s.0 - p.0) * (q.1 - p.1)
     }
 
-    /// The lowest of 3 to 7 that applies, or 0.
-    fn refusal(&self) -> u32 {
-        let n = self.nodes.len();
-        if self.nodes.iter().any(|p| p.0.abs() > FAR || p.1.abs() > FAR) {
-            return 3;
-        }
-        if self.rows.iter().any(|r| r.iter().any(|&k| k >= n) || r[0] == r[1] || r[1] == r[2] || r[2] == r[0]) {
-            return 4;
-        }
-        let mut seen = HashSet::new();
-        for &r in &self.rows {
-            for e in arrows(r) {
-                if !seen.insert(e) {
-                    return 5;
-                }
+    /// The nodes (3 and 7) or rows (4, 5 and 6) that offend against this number, from the lowest up; no lower number applies.
+    fn offenders(&self, number: u32) -> Vec<usize> {
+        let (n, t) = (self.nodes.len(), self.rows.len());
+        match number {
+            3 => (0..n).filter(|&k| self.nodes[k].0.abs() > FAR || self.nodes[k].1.abs() > FAR).collect(),
+            4 => (0..t).filter(|&i| misnames(self.rows[i], n)).collect(),
+            5 => {
+                // a row's own three differ, as it names no node twice
+                let mut lower_have = HashSet::new();
+                (0..t).filter(|&i| arrows(self.rows[i]).map(|e| !lower_have.insert(e)).contains(&true)).collect()
             }
+            6 => (0..t).filter(|&i| self.twice_area(self.rows[i]) <= 0).collect(),
+            7 => {
+                let used: HashSet<usize> = self.rows.iter().flatten().copied().collect();
+                (0..n).filter(|k| !used.contains(k)).collect()
+            }
+            _ => vec![],
         }
-        if self.rows.iter().any(|&r| self.twice_area(r) <= 0) {
-            return 6;
-        }
-        let used: HashSet<usize> = self.rows.iter().flatten().copied().collect();
-        if (0..n).any(|k| !used.contains(&k)) {
-            return 7;
-        }
-        0
+    }
+
+    /// The lowest of 3 to 7 that applies, with its offenders.
+    fn refusal(&self) -> Option<(u32, Vec<usize>)> {
+        (3..=7).map(|k| (k, self.offenders(k))).find(|(_, at_fault)| !at_fault.is_empty())
     }
 
     fn compatible(&self) -> bool {
@@ -284,14 +292,31 @@ fn marks_fit(marks: &[u8], count: usize) -> bool {
     marks.len() == count && marks.iter().all(|&b| b <= 1)
 }
 
-pub fn check(g: &mut Tables) -> Answer {
-    if !g.sizes_fit(0) {
-        return g.answer(1, 0);
+/// The lawful mesh that the tables hold, or the refusal by 1, by 2 unless the marks fit, or by 3 to 7.
+fn lawful(g: &mut Tables, n0: usize, marks_fit: bool) -> Result<Mesh, Answer> {
+    if !g.sizes_fit(n0) {
+        return Err(g.refused(1, 0));
+    }
+    if !marks_fit {
+        return Err(g.refused(2, 0));
     }
     let m = g.mesh();
     match m.refusal() {
-        0 if !m.compatible() => g.answer(10, 0),
-        k => g.answer(k, 0),
+        Some((number, offenders)) => Err(g.refused(number, offenders[0])),
+        None => Ok(m),
+    }
+}
+
+/// All nodes or rows that the answer could have named, the tables being those that the call was given.
+pub fn offenders(given: &Tables, a: Answer) -> Vec<usize> {
+    if a.number < 3 { vec![] } else { given.mesh().offenders(a.number) }
+}
+
+pub fn check(g: &mut Tables) -> Answer {
+    match lawful(g, 0, true) {
+        Ok(m) if m.compatible() => g.done(0),
+        Ok(_) => g.refused(10, 0),
+        Err(refused) => refused,
     }
 }
 
@@ -306,59 +331,41 @@ pub fn quarter(g: &mut Tables, n0: usize, marks: &[u8]) -> Answer {
 }
 
 fn refine_from(starts: Starts, g: &mut Tables, n0: usize, marks: &[u8]) -> Answer {
-    if !g.sizes_fit(n0) {
-        return g.answer(1, 0);
-    }
-    if !marks_fit(marks, g.t) {
-        return g.answer(2, 0);
-    }
-    let m = g.mesh();
-    match m.refusal() {
-        0 => match m.refined(starts, marks) {
-            Err(k) => g.answer(k, 0),
-            Ok(new) if new.nodes.len() > g.nodes.len() / 2 || new.rows.len() > g.rows.len() / 3 => g.answer(9, 0),
-            Ok(new) => {
-                g.store(&new);
-                g.answer(0, 0)
-            }
-        },
-        k => g.answer(k, 0),
+    let fit = marks_fit(marks, g.t);
+    match lawful(g, n0, fit).map(|m| m.refined(starts, marks)) {
+        Ok(Ok(new)) if new.nodes.len() > g.nodes.len() / 2 || new.rows.len() > g.rows.len() / 3 => g.refused(9, 0),
+        Ok(Ok(new)) => {
+            g.store(&new);
+            g.done(0)
+        }
+        Ok(Err(number)) => g.refused(number, 0),
+        Err(refused) => refused,
     }
 }
 
 pub fn coarsen(g: &mut Tables, n0: usize, marks: &[u8]) -> Answer {
-    if !g.sizes_fit(n0) {
-        return g.answer(1, 0);
-    }
-    if !marks_fit(marks, g.n) {
-        return g.answer(2, 0);
-    }
-    let m = g.mesh();
-    match m.refusal() {
-        0 => {
+    let fit = marks_fit(marks, g.n);
+    match lawful(g, n0, fit) {
+        Ok(m) => {
             let new = m.coarsened(n0, |z| marks[z] == 1).unwrap_or(m);
             g.store(&new);
-            g.answer(0, 0)
+            g.done(0)
         }
-        k => g.answer(k, 0),
+        Err(refused) => refused,
     }
 }
 
 pub fn restore(g: &mut Tables, n0: usize) -> Answer {
-    if !g.sizes_fit(n0) {
-        return g.answer(1, 0);
-    }
-    let mut m = g.mesh();
-    match m.refusal() {
-        0 => {
+    match lawful(g, n0, true) {
+        Ok(mut m) => {
             let mut passes = 0;
             while let Some(next) = m.coarsened(n0, |_| true) {
                 m = next;
                 passes += 1;
             }
             g.store(&m);
-            g.answer(0, passes)
+            g.done(passes)
         }
-        k => g.answer(k, 0),
+        Err(refused) => refused,
     }
 }

@@ -1,4 +1,4 @@
-//! The line program of document 01, with `09` of request W1, by an ordinary method.
+//! The line program of document 01, with `09` of request W1 and the culprits of W2, by an ordinary method.
 use crate::calls::{self, Answer, Tables};
 
 const NODES: usize = 512;
@@ -126,5 +126,5 @@ fn marks(digits: &[u64], count: usize) -> Option<Vec<u8>> {
 }
 
 fn answer(out: &mut Vec<u8>, kind: u64, a: Answer) {
-    out.extend(format!("{:02x}{:02x}{:04x}{:04x}{:04x}\n", kind, a.number, a.n, a.t, a.passes).bytes());
+    out.extend(format!("{:02x}{:02x}{:04x}{:04x}{:04x}{:04x}\n", kind, a.number, a.n, a.t, a.passes, a.culprit).bytes());
 }

@@ -134,37 +134,41 @@ pub fn mesh(d: &mut Dice) -> (Tables, usize) {
     (g, n0)
 }
 
-/// Damage of one kind or another, often none.
+/// Damage of one kind or another, now and then none.
 pub fn damage(d: &mut Dice, g: &mut Tables) {
-    match d.below(14) {
-        0 if g.t > 0 => {
-            let k = d.below(3 * g.t);
-            g.rows[k] = d.below(g.n + 2) as u32;
-        }
-        1 if g.n > 0 => {
-            let k = d.below(2 * g.n);
-            g.nodes[k] = [1_048_576, -1_048_576, 1_048_577, -1_048_577, i32::MIN, i32::MAX][d.below(6)];
-        }
-        2 if g.n > 0 => {
-            let k = d.below(2 * g.n);
-            g.nodes[k] += d.below(5) as i32 - 2;
-        }
-        3 => g.n = d.below(g.nodes.len() / 2 + 2),
-        4 => g.t = d.below(g.rows.len() / 3 + 2),
-        5 => {
+    match d.below(16) {
+        0 => g.n = d.below(g.nodes.len() / 2 + 2),
+        1 => g.t = d.below(g.rows.len() / 3 + 2),
+        2 => {
             let k = d.below(g.scratch.len() + 1);
             g.scratch.truncate(k);
         }
-        6 => g.nodes.push(0),
-        7 => g.rows.push(0),
-        8 if g.t > 1 => {
-            let (i, j) = (d.below(g.t), d.below(g.t));
-            for s in 0..3 {
-                g.rows[3 * i + s] = g.rows[3 * j + s];
-            }
-        }
-        9 if d.once_in(8) => g.n = usize::MAX,
-        10 if d.once_in(8) => g.t = usize::MAX / 2,
+        3 => g.nodes.push(0),
+        4 => g.rows.push(0),
+        5 if d.once_in(8) => g.n = usize::MAX,
+        6 if d.once_in(8) => g.t = usize::MAX / 2,
+        7..=12 => strike(d, g),
+        _ => {}
+    }
+}
+
+/// Damage of one kind to up to three nodes or rows.
+pub fn strike(d: &mut Dice, g: &mut Tables) {
+    let kind = d.below(6);
+    for _ in 0..=d.below(3) {
+        strike_one(d, g, kind);
+    }
+}
+
+fn strike_one(d: &mut Dice, g: &mut Tables, kind: usize) {
+    let (node, row) = (d.below(g.n), d.below(g.t));
+    match kind {
+        0 if g.t > 0 => g.rows[3 * row + d.below(3)] = d.below(g.n + 2) as u32,
+        1 if g.t > 0 => g.rows.copy_within(3 * row..3 * row + 3, 3 * d.below(g.t)),
+        2 if g.t > 0 => g.rows.swap(3 * row + 1, 3 * row + 2),
+        3 if g.n > 0 => g.nodes[2 * node + d.below(2)] = [1_048_576, -1_048_576, 1_048_577, -1_048_577, i32::MIN, i32::MAX][d.below(6)],
+        4 if g.n > 0 => g.nodes[2 * node + d.below(2)] += d.below(5) as i32 - 2,
+        5 if g.n > 0 => g.nodes.copy_within(2 * node..2 * node + 2, 2 * d.below(g.n)),
         _ => {}
     }
 }

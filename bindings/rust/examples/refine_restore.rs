@@ -1,28 +1,53 @@
-//! A square in two halves: where a fine rule is printed, its first row is cut in four and then refined once more; then it is restored.
-use spoutbeetle::{check, quarter, refine, restore, Answer, Tables};
+//! A square in two halves: where a fine rule is printed, its first row is cut in four and then refined once more; then it is restored. A
+//! square with a row too many is refused, in words.
+use spoutbeetle::{check, quarter, refine, restore, Answer, Refusal, Tables};
 
-fn main() {
-    let (nc, tc) = (16, 32);
-    let mut nodes = vec![0i32; 2 * nc];
-    let mut rows = vec![0u32; 3 * tc];
-    let mut scratch = vec![0u32; 4 * (nc + tc)];
-    nodes[..8].copy_from_slice(&[0, 0, 8, 0, 8, 8, 0, 8]);
-    rows[..6].copy_from_slice(&[1, 2, 0, 3, 0, 2]);
-    let base = (nodes.clone(), rows.clone());
-    let (mut n, mut t) = (4, 2);
+const NC: usize = 16;
+const TC: usize = 32;
 
-    let a = check(Tables { nodes: &mut nodes, rows: &mut rows, scratch: &mut scratch, n, t });
-    println!("check {}", a.number);
-    let steps: [(&str, fn(Tables, usize, &[u8]) -> Answer); 2] = [("quarter", quarter), ("refine", refine)];
-    for (name, call) in steps {
-        let mut marks = vec![0u8; t];
-        marks[0] = 1;
-        let a = call(Tables { nodes: &mut nodes, rows: &mut rows, scratch: &mut scratch, n, t }, 4, &marks);
-        (n, t) = (a.n, a.t);
-        println!("{name} {}: {n} nodes, {t} triangles", a.number);
+/// A mesh with its tables.
+struct Sheet {
+    nodes: [i32; 2 * NC],
+    rows: [u32; 3 * TC],
+    scratch: [u32; 4 * (NC + TC)],
+    n: usize,
+    t: usize,
+}
+
+impl Sheet {
+    fn square() -> Sheet {
+        let mut sheet = Sheet { nodes: [0; 2 * NC], rows: [0; 3 * TC], scratch: [0; 4 * (NC + TC)], n: 4, t: 2 };
+        sheet.nodes[..8].copy_from_slice(&[0, 0, 8, 0, 8, 8, 0, 8]);
+        sheet.rows[..6].copy_from_slice(&[1, 2, 0, 3, 0, 2]);
+        sheet
     }
-    let a = restore(Tables { nodes: &mut nodes, rows: &mut rows, scratch: &mut scratch, n, t }, 4);
-    println!("restore {}: {} nodes, {} triangles, {} passes", a.number, a.n, a.t, a.passes);
-    assert!(base == (nodes, rows), "the base is back");
-    println!("the base is back: yes");
+
+    /// Makes a call on the tables, and keeps the counts that it leaves.
+    fn call(&mut self, made: impl FnOnce(Tables) -> Result<Answer, Refusal>) -> Result<Answer, Refusal> {
+        let a = made(Tables { nodes: &mut self.nodes, rows: &mut self.rows, scratch: &mut self.scratch, n: self.n, t: self.t })?;
+        (self.n, self.t) = (a.n, a.t);
+        Ok(a)
+    }
+}
+
+fn main() -> Result<(), Refusal> {
+    let mut sheet = Sheet::square();
+    let a = sheet.call(check)?;
+    println!("check: {} nodes, {} triangles", a.n, a.t);
+    let a = sheet.call(|g| quarter(g, 4, &[1, 0]))?;
+    println!("quarter: {} nodes, {} triangles", a.n, a.t);
+    let a = sheet.call(|g| refine(g, 4, &[1, 0, 0, 0, 0, 0]))?;
+    println!("refine: {} nodes, {} triangles", a.n, a.t);
+    let a = sheet.call(|g| restore(g, 4))?;
+    println!("restore: {} nodes, {} triangles, {} passes", a.n, a.t, a.passes);
+    let base = Sheet::square();
+    assert!(sheet.nodes == base.nodes && sheet.rows == base.rows, "the base is back");
+    println!("the base is back");
+
+    sheet.rows.copy_within(0..3, 6);
+    sheet.t = 3;
+    if let Err(refusal) = sheet.call(check) {
+        println!("check, row 0 once more: {refusal}");
+    }
+    Ok(())
 }

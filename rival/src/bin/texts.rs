@@ -1,18 +1,24 @@
 //! The line program against the rival's, on random text, good and bad. Usage: texts PROGRAM COUNT [SEED].
-use rival::random::{grid, Dice};
+//! A run in which a refused 03 never gave one of 3 to 7 with a culprit above 0 fails: it is to be longer.
+use rival::random::{grid, lend, strike, Dice};
 use std::io::Write;
 use std::process::{Command, Stdio};
 
-/// A base, most of the time a good one.
-fn base(d: &mut Dice, text: &mut Vec<u8>) {
+/// A base, spoilt if it is to be: some of its nodes or rows, or rows left out.
+fn base(d: &mut Dice, spoilt: bool, text: &mut Vec<u8>) {
     let (w, h) = (1 + d.below(3), 1 + d.below(3));
     let (nodes, rows) = grid(w, h, 1 << d.below(7));
-    for p in nodes {
-        text.extend(format!("01{:08x}{:08x}\n", p.0, p.1).bytes());
+    let mut g = lend(d, &nodes, &rows);
+    if spoilt && d.once_in(5) {
+        g.t = d.below(g.t);
+    } else if spoilt {
+        strike(d, &mut g);
     }
-    for r in rows {
-        let row = if d.once_in(200) { [r[0], r[2], r[1]] } else { r };
-        text.extend(format!("02{:04x}{:04x}{:04x}\n", row[0], row[1], row[2]).bytes());
+    for p in g.nodes[..2 * g.n].chunks(2) {
+        text.extend(format!("01{:08x}{:08x}\n", p[0], p[1]).bytes());
+    }
+    for r in g.rows[..3 * g.t].chunks(3) {
+        text.extend(format!("02{:04x}{:04x}{:04x}\n", r[0], r[1], r[2]).bytes());
     }
     text.extend(b"03\n");
 }
@@ -40,10 +46,13 @@ fn garbage(d: &mut Dice, text: &mut Vec<u8>) {
 fn random_text(d: &mut Dice) -> Vec<u8> {
     let mut text = vec![];
     let mut most = 8;
-    base(d, &mut text);
+    while d.once_in(2) {
+        base(d, true, &mut text);
+    }
+    base(d, false, &mut text);
     for _ in 0..d.below(40) {
         match d.below(12) {
-            0 => base(d, &mut text),
+            0 => base(d, false, &mut text),
             1 => garbage(d, &mut text),
             2 => text.extend(b"06\n"),
             3 => text.extend(b"07\n"),
@@ -76,12 +85,19 @@ fn run(program: &str, text: &[u8]) -> Vec<u8> {
     out
 }
 
+/// The number of each refused 03 among the answers, if its culprit is above 0.
+fn blamed(answers: &[u8]) -> Vec<u8> {
+    let lines = answers.split(|&b| b == b'\n').filter(|line| line.starts_with(b"03") && !line.ends_with(b"0000"));
+    lines.map(|line| line[3] - b'0').collect()
+}
+
 fn main() {
     let mut words = std::env::args().skip(1);
     let program = words.next().expect("the program's path");
     let count: u64 = words.next().map_or(500, |w| w.parse().expect("a count"));
     let first: u64 = words.next().map_or(1, |w| w.parse().expect("a seed"));
     let mut lines = 0;
+    let mut blames = vec![];
     for seed in first..first + count {
         let text = random_text(&mut Dice::new(seed));
         let (ours, theirs) = (run(&program, &text), rival::lines::program(&text));
@@ -90,6 +106,13 @@ fn main() {
             std::process::exit(1);
         }
         lines += theirs.iter().filter(|&&b| b == b'\n').count();
+        blames.extend(blamed(&theirs));
+    }
+    let times = [3, 4, 5, 6, 7].map(|k| blames.iter().filter(|&&number| number == k).count());
+    println!("texts: refused 03s with a culprit above 0, by 3 to 7: {times:?}");
+    if times.contains(&0) {
+        println!("texts: {count} from seed {first} answered alike, but one of 3 to 7 never came so");
+        std::process::exit(1);
     }
     println!("texts: {count} from seed {first} answered alike, {lines} lines");
 }

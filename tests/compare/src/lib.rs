@@ -1,5 +1,6 @@
-//! The proved calls and the rival's behind one face, so that both can be driven alike.
+//! The proved calls, by their exported form and by the Rust wrapper, and the rival's behind one face, so that all can be driven alike.
 use rival::calls::{self, Answer, Tables};
+use spoutbeetle::ffi;
 
 /// A call with what it is given besides the tables.
 #[derive(Clone, Debug)]
@@ -11,17 +12,49 @@ pub enum Call {
     Restore(usize),
 }
 
+/// By the exported calls. What is only written, passes and culprit, holds sevens before.
 pub fn proved(call: &Call, g: &mut Tables) -> Answer {
+    let (mut n, mut t, mut passes, mut culprit) = (g.n, g.t, 0, 7777);
+    let (nodes, nodes_len) = (g.nodes.as_mut_ptr(), g.nodes.len());
+    let (rows, rows_len) = (g.rows.as_mut_ptr(), g.rows.len());
+    let (scratch, scratch_len) = (g.scratch.as_mut_ptr(), g.scratch.len());
+    // SAFETY: the pointers and lengths are those of live, distinct vectors and numbers.
+    let number = unsafe {
+        let mut marked = |call: ffi::Marked, n0: usize, marks: &[u8]| {
+            call(nodes, nodes_len, rows, rows_len, scratch, scratch_len, marks.as_ptr(), marks.len(), n0, &mut n, &mut t, &mut culprit)
+        };
+        match call {
+            Call::Refine(n0, marks) => marked(ffi::spoutbeetle_refine, *n0, marks),
+            Call::Quarter(n0, marks) => marked(ffi::spoutbeetle_quarter, *n0, marks),
+            Call::Coarsen(n0, marks) => marked(ffi::spoutbeetle_coarsen, *n0, marks),
+            Call::Check => ffi::spoutbeetle_check(nodes, nodes_len, rows, rows_len, scratch, scratch_len, n, t, &mut culprit),
+            Call::Restore(n0) => {
+                passes = 7777;
+                ffi::spoutbeetle_restore(nodes, nodes_len, rows, rows_len, scratch, scratch_len, *n0, &mut n, &mut t, &mut passes, &mut culprit)
+            }
+        }
+    };
+    (g.n, g.t) = (n, t);
+    Answer { number, n, t, passes, culprit }
+}
+
+/// By the Rust wrapper, whose refusal leaves the counts to the caller.
+pub fn wrapped(call: &Call, g: &mut Tables) -> Answer {
     let lent = spoutbeetle::Tables { nodes: &mut g.nodes, rows: &mut g.rows, scratch: &mut g.scratch, n: g.n, t: g.t };
-    let a = match call {
+    let said = match call {
         Call::Check => spoutbeetle::check(lent),
         Call::Refine(n0, marks) => spoutbeetle::refine(lent, *n0, marks),
         Call::Quarter(n0, marks) => spoutbeetle::quarter(lent, *n0, marks),
         Call::Coarsen(n0, marks) => spoutbeetle::coarsen(lent, *n0, marks),
         Call::Restore(n0) => spoutbeetle::restore(lent, *n0),
     };
-    (g.n, g.t) = (a.n, a.t);
-    Answer { number: a.number, n: a.n, t: a.t, passes: a.passes }
+    match said {
+        Ok(a) => {
+            (g.n, g.t) = (a.n, a.t);
+            Answer { number: 0, n: a.n, t: a.t, passes: a.passes, culprit: 0 }
+        }
+        Err(r) => Answer { number: r.number(), n: g.n, t: g.t, passes: 0, culprit: r.node().or(r.triangle()).unwrap_or(0) },
+    }
 }
 
 pub fn rival(call: &Call, g: &mut Tables) -> Answer {

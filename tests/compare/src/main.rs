@@ -1,8 +1,9 @@
-//! Drives the proved library and the rival with the same random calls and compares answers and every table entry.
-//! Usage: compare COUNT [SEED]. The first difference is made smaller by taking rows away, shown with its seed, and the run fails.
-//! A run in which a call never gave one of the numbers that it may answer fails too: it is to be longer.
-use compare::{proved, rival as other, Call};
-use rival::calls::Tables;
+//! Drives the proved library, by its exported calls and by the wrapper, and the rival with the same random calls and compares answers and
+//! every table entry. Usage: compare COUNT [SEED]. The first difference is made smaller by taking rows away, shown with its seed, and the
+//! run fails. A run in which a call never gave one of the numbers that it may answer, or one of 3 to 7 never with a culprit above 0 or
+//! never with several at fault, fails too: it is to be longer.
+use compare::{proved, rival as other, wrapped, Call};
+use rival::calls::{offenders, Answer, Tables};
 use rival::random::{damage, mesh, Dice};
 use std::collections::BTreeMap;
 
@@ -39,9 +40,32 @@ fn random_call(d: &mut Dice, g: &Tables, base: usize) -> Call {
     }
 }
 
+/// How often a call gave a number, how often with a culprit above 0, and how often with several at fault.
+#[derive(Default)]
+struct Times {
+    given: u64,
+    above: u64,
+    several: u64,
+}
+
+fn made(call: &Call, given: &Tables, by: fn(&Call, &mut Tables) -> Answer) -> (Answer, Tables) {
+    let mut left = given.clone();
+    (by(call, &mut left), left)
+}
+
 fn differ(call: &Call, given: &Tables) -> bool {
-    let (mut ours, mut theirs) = (given.clone(), given.clone());
-    proved(call, &mut ours) != other(call, &mut theirs) || ours != theirs
+    let theirs = made(call, given, other);
+    made(call, given, proved) != theirs || made(call, given, wrapped) != theirs
+}
+
+fn name(call: &Call) -> &'static str {
+    match call {
+        Call::Check => "check",
+        Call::Refine(..) => "refine",
+        Call::Quarter(..) => "quarter",
+        Call::Coarsen(..) => "coarsen",
+        Call::Restore(..) => "restore",
+    }
 }
 
 /// Rows taken away one by one as long as the two still differ.
@@ -61,40 +85,56 @@ fn smaller(call: &Call, given: &Tables) -> Tables {
     least
 }
 
+/// One random call, by all three; the number that they give is counted.
+fn compare_one(seed: u64, seen: &mut BTreeMap<(&str, u32), Times>) {
+    let mut d = Dice::new(seed);
+    let (mut given, base) = mesh(&mut d);
+    damage(&mut d, &mut given);
+    let call = random_call(&mut d, &given, base);
+    if differ(&call, &given) {
+        let least = smaller(&call, &given);
+        let [ours, wrapper, theirs] = [proved, wrapped, other].map(|by| made(&call, &least, by).0);
+        println!("seed {seed}: they differ on {call:?}\nexported {ours:?}\nwrapper {wrapper:?}\nrival {theirs:?}\nsmallest tables found {least:?}");
+        std::process::exit(1);
+    }
+    let said = made(&call, &given, proved).0;
+    let times = seen.entry((name(&call), said.number)).or_default();
+    times.given += 1;
+    times.above += (said.culprit > 0) as u64;
+    times.several += (offenders(&given, said).len() > 1) as u64;
+}
+
+/// What the calls said, and what of it was never seen.
+fn tell(seen: &BTreeMap<(&str, u32), Times>) -> Vec<String> {
+    let mut missed = vec![];
+    for (kind, numbers) in NUMBERS {
+        let told = numbers.iter().map(|&k| match seen.get(&(kind, k)) {
+            Some(times) if (3..=7).contains(&k) => {
+                missed.extend((times.above == 0).then(|| format!("{kind} {k} with a culprit above 0")));
+                missed.extend((times.several == 0).then(|| format!("{kind} {k} with several at fault")));
+                format!("{k} {} times ({} with a culprit above 0, {} with several at fault)", times.given, times.above, times.several)
+            }
+            Some(times) => format!("{k} {} times", times.given),
+            None => {
+                missed.push(format!("{kind} {k}"));
+                format!("{k} never")
+            }
+        });
+        println!("{kind} said {}", told.collect::<Vec<_>>().join(", "));
+    }
+    missed
+}
+
 fn main() {
     let mut words = std::env::args().skip(1);
     let count: u64 = words.next().map_or(20_000, |w| w.parse().expect("a count"));
     let first: u64 = words.next().map_or(1, |w| w.parse().expect("a seed"));
-    let mut seen: BTreeMap<(&str, u32), u64> = BTreeMap::new();
-    for seed in first..first + count {
-        let mut d = Dice::new(seed);
-        let (mut given, base) = mesh(&mut d);
-        damage(&mut d, &mut given);
-        let call = random_call(&mut d, &given, base);
-        let (mut ours, mut theirs) = (given.clone(), given.clone());
-        let (a, b) = (proved(&call, &mut ours), other(&call, &mut theirs));
-        if a != b || ours != theirs {
-            println!("seed {seed}: they differ on {call:?}\nproved {a:?}\nrival {b:?}\nsmallest tables found {:?}", smaller(&call, &given));
-            std::process::exit(1);
-        }
-        let kind = match call {
-            Call::Check => "check",
-            Call::Refine(..) => "refine",
-            Call::Quarter(..) => "quarter",
-            Call::Coarsen(..) => "coarsen",
-            Call::Restore(..) => "restore",
-        };
-        *seen.entry((kind, a.number)).or_default() += 1;
-    }
-    let mut missed = vec![];
-    for (kind, numbers) in NUMBERS {
-        let given = seen.iter().filter(|(key, _)| key.0 == kind);
-        println!("{kind} said {}", given.map(|(key, times)| format!("{} {times} times", key.1)).collect::<Vec<_>>().join(", "));
-        missed.extend(numbers.iter().filter(|&&k| !seen.contains_key(&(kind, k))).map(|k| format!("{kind} {k}")));
-    }
+    let mut seen = BTreeMap::new();
+    (first..first + count).for_each(|seed| compare_one(seed, &mut seen));
+    let missed = tell(&seen);
     if !missed.is_empty() {
         println!("compare: {count} calls from seed {first} agree, but were never answered: {}", missed.join(", "));
         std::process::exit(1);
     }
-    println!("compare: {count} calls from seed {first} agree; every number was given");
+    println!("compare: {count} calls from seed {first} agree; every number was given, 3 to 7 with culprits above 0 and with several at fault");
 }

@@ -1,7 +1,9 @@
-//! Document 01's hand meshes, those of request W1, and every refusal, run through the proved library and the rival. Usage: hand.
+//! Document 01's hand meshes, those of request W1, and every refusal with its culprit, run through the proved library, by its exported calls
+//! and by the wrapper, and through the rival. Usage: hand.
 //! Entries past the counts and scratch hold sevens before each call: after 0 they are zero, after a refusal the tables are as they were.
-use compare::{proved, rival as other, Call};
+use compare::{proved, rival as other, wrapped, Call};
 use rival::calls::{Answer, Tables};
+use rival::random::grid;
 
 /// Places of nodes, and rows.
 type Mesh = (&'static [(i32, i32)], &'static [[u32; 3]]);
@@ -111,10 +113,12 @@ const ENDS_QUARTERED: Mesh = (
 /// The refinement edge has even sums, the sides have not.
 const ODD_SIDES: Mesh = (&[(1, 1), (4, 0), (0, 4)], &[[0, 1, 2]]);
 const ODD_SIDES_REFINED: Mesh = (&[(1, 1), (4, 0), (0, 4), (2, 2)], &[[3, 0, 1], [3, 2, 0]]);
+/// Rows 1 and 2 name a node that is not there, and one node twice.
+const MISNAMED: Mesh = (S.0, &[[1, 2, 0], [3, 0, 4], [2, 2, 0]]);
 /// Row 0's edges have even sums, the refinement edge that its side draws in has not.
 const ODD_NEIGHBOUR: Mesh = (&[(0, 4), (8, 4), (0, 12), (3, 0)], &[[0, 1, 2], [1, 0, 3]]);
 
-/// A call, what it is given, and what 01 or W1 says of it.
+/// A call, what it is given, and what 01, W1 or W2 says of it.
 struct Case {
     name: &'static str,
     given: Tables,
@@ -122,6 +126,7 @@ struct Case {
     number: u32,
     after: Mesh,
     passes: usize,
+    culprit: usize,
 }
 
 /// The mesh in tables of these rooms.
@@ -135,12 +140,12 @@ fn lent(mesh: Mesh, nc: usize, tc: usize) -> Tables {
 
 /// A call that is done and leaves this mesh.
 fn done(name: &'static str, given: Mesh, call: Call, after: Mesh, passes: usize) -> Case {
-    Case { name, given: lent(given, 20, 30), call, number: 0, after, passes }
+    Case { name, given: lent(given, 20, 30), call, number: 0, after, passes, culprit: 0 }
 }
 
-/// A call that is refused.
+/// A call that is refused and names nobody.
 fn refused(name: &'static str, given: Tables, call: Call, number: u32) -> Case {
-    Case { name, given, call, number, after: EMPTY, passes: 0 }
+    Case { name, given, call, number, after: EMPTY, passes: 0, culprit: 0 }
 }
 
 /// Marks: 1 at the places listed, 0 elsewhere.
@@ -231,6 +236,9 @@ fn number_2() -> Vec<Case> {
         refused("2, quarter, a byte of 2", s(), Call::Quarter(4, vec![0, 2]), 2),
         refused("2, coarsen, a mark a row", s(), Call::Coarsen(4, vec![0, 0]), 2),
         refused("2, coarsen, a byte of 255", s(), Call::Coarsen(4, vec![0, 0, 0, 255]), 2),
+        refused("2 before 4, refine", lent(MISNAMED, 20, 30), Call::Refine(4, vec![1]), 2),
+        refused("2 before 4, quarter", lent(MISNAMED, 20, 30), Call::Quarter(4, vec![2, 0, 0]), 2),
+        refused("2 before 4, coarsen", lent(MISNAMED, 20, 30), Call::Coarsen(4, vec![]), 2),
     ]
 }
 
@@ -238,6 +246,7 @@ fn number_2() -> Vec<Case> {
 fn numbers_8_to_10() -> Vec<Case> {
     vec![
         refused("case 7, R is not compatible", lent(R, 20, 30), Call::Check, 10),
+        refused("10, by rows above the lowest", lent(CHAIN, 20, 30), Call::Check, 10),
         refused("case 10, marked", lent(SMALL, 20, 30), refine(SMALL, 3, &[0]), 8),
         refused("case 11, no room for a node", lent(S, 4, 30), refine(S, 4, &[0]), 9),
         refused("9, no room for two rows", lent(S, 20, 3), refine(S, 4, &[0]), 9),
@@ -251,32 +260,70 @@ fn numbers_8_to_10() -> Vec<Case> {
     ]
 }
 
-/// Every call but the check takes n0; all answer 3 to 7 alike.
-fn by_all_calls(name: &'static str, given: Mesh, number: u32) -> Vec<Case> {
-    let n0 = 0;
-    [Call::Check, refine(given, n0, &[]), quarter(given, n0, &[]), coarsen(given, n0, &[]), Call::Restore(n0)]
-        .map(|call| refused(name, lent(given, 20, 30), call, number))
+/// Every call but the check takes n0; all answer 3 to 7 alike, and name the same culprit.
+fn by_all_calls(name: &'static str, given: Tables, number: u32, culprit: usize) -> Vec<Case> {
+    let (nodes, rows) = (vec![0; given.n], vec![0; given.t]);
+    [Call::Check, Call::Refine(0, rows.clone()), Call::Quarter(0, rows), Call::Coarsen(0, nodes), Call::Restore(0)]
+        .map(|call| Case { culprit, ..refused(name, given.clone(), call, number) })
         .into()
 }
 
+/// Each of 3 to 7, and who is named.
 fn numbers_3_to_7() -> Vec<Case> {
-    let wrong: [(&'static str, Mesh, u32); 14] = [
-        ("case 12, x = 1,048,577", (&[(1048577, 0), (0, 4), (0, 0)], &[[0, 1, 2]]), 3),
-        ("x = -1,048,577", (&[(-1048577, 0), (0, 0), (0, 4)], &[[0, 1, 2]]), 3),
-        ("y = 1,048,577", (&[(0, 1048577), (0, 0), (4, 0)], &[[0, 1, 2]]), 3),
-        ("y = -1,048,577", (&[(0, -1048577), (4, 0), (0, 0)], &[[0, 1, 2]]), 3),
-        ("x = the lowest number of 32 bits", (&[(i32::MIN, 0), (0, 0), (0, 4)], &[[0, 1, 2]]), 3),
-        ("4, a node not below n", (S.0, &[[1, 2, 0], [3, 0, 4]]), 4),
-        ("4, a node number of 32 ones", (S.0, &[[1, 2, 0], [3, u32::MAX, 2]]), 4),
-        ("4, one node twice", (S.0, &[[1, 2, 0], [3, 0, 3]]), 4),
-        ("5, a directed edge twice", (S.0, &[[1, 2, 0], [3, 2, 0]]), 5),
-        ("5, one row twice", (S.0, &[[1, 2, 0], [3, 0, 2], [3, 0, 2]]), 5),
-        ("6, no area", (&[(0, 0), (4, 0), (8, 0)], &[[0, 1, 2]]), 6),
-        ("6, the other way round", (&[(0, 0), (0, 8), (8, 0)], &[[0, 1, 2]]), 6),
-        ("7, a node in no triangle", (S.0, &[[1, 2, 0]]), 7),
-        ("3 before 4 to 7", (&[(9999999, 0), (0, 0)], &[[0, 0, 5], [0, 0, 5]]), 3),
+    let wrong: [(&'static str, Mesh, u32, usize); 14] = [
+        ("case 12, x = 1,048,577", (&[(1048577, 0), (0, 4), (0, 0)], &[[0, 1, 2]]), 3, 0),
+        ("x = -1,048,577", (&[(-1048577, 0), (0, 0), (0, 4)], &[[0, 1, 2]]), 3, 0),
+        ("y = 1,048,577", (&[(0, 0), (4, 0), (0, 1048577)], &[[0, 1, 2]]), 3, 2),
+        ("y = -1,048,577", (&[(4, 0), (0, -1048577), (0, 0)], &[[0, 1, 2]]), 3, 1),
+        ("x = the lowest number of 32 bits", (&[(i32::MIN, 0), (0, 0), (0, 4)], &[[0, 1, 2]]), 3, 0),
+        ("4, a node not below n", (S.0, &[[1, 2, 0], [3, 0, 4]]), 4, 1),
+        ("4, a node number of 32 ones", (S.0, &[[1, 2, 0], [3, u32::MAX, 2]]), 4, 1),
+        ("4, one node twice", (S.0, &[[1, 2, 0], [3, 0, 3]]), 4, 1),
+        ("5, a directed edge twice", (S.0, &[[1, 2, 0], [3, 2, 0]]), 5, 1),
+        ("5, one row twice", (S.0, &[[1, 2, 0], [3, 0, 2], [3, 0, 2]]), 5, 2),
+        ("6, no area", (&[(0, 0), (4, 0), (8, 0)], &[[0, 1, 2]]), 6, 0),
+        ("6, the other way round", (&[(0, 0), (0, 8), (8, 0)], &[[0, 1, 2]]), 6, 0),
+        ("7, a node in no triangle", (S.0, &[[1, 2, 0]]), 7, 3),
+        ("3 before 4 to 7", (&[(9999999, 0), (0, 0)], &[[0, 0, 5], [0, 0, 5]]), 3, 0),
     ];
-    wrong.into_iter().flat_map(|(name, mesh, number)| by_all_calls(name, mesh, number)).collect()
+    wrong.into_iter().flat_map(|(name, mesh, number, culprit)| by_all_calls(name, lent(mesh, 20, 30), number, culprit)).collect()
+}
+
+/// Several are at fault: "the lowest offending number", and "for 5 the lowest triangle with a directed edge that a lower row already has".
+fn lowest_culprits() -> Vec<Case> {
+    let wrong: [(&'static str, Mesh, u32, usize); 9] = [
+        ("3, nodes 1 and 3", (&[(0, 0), (8, 2000000), (8, 8), (-2000000, 8)], S.1), 3, 1),
+        ("4, rows 1 and 2", MISNAMED, 4, 1),
+        ("5, row 2 as row 1, row 3 as row 0", (S.0, &[[1, 2, 0], [3, 0, 2], [3, 0, 2], [1, 2, 0]]), 5, 2),
+        ("5, row 2 as row 0, row 3 as row 1", (S.0, &[[1, 2, 0], [3, 0, 2], [1, 2, 0], [3, 0, 2]]), 5, 2),
+        ("5, three rows alike", (S.0, &[[3, 0, 2], [1, 2, 0], [1, 2, 0], [1, 2, 0]]), 5, 2),
+        ("5, by other corners of the rows", (S.0, &[[3, 0, 2], [1, 2, 0], [2, 0, 3], [0, 1, 2]]), 5, 2),
+        ("6, rows 1 and 2", (&[(0, 0), (8, 0), (8, 8), (4, 4), (8, 4)], &[[1, 2, 0], [3, 0, 2], [4, 2, 1]]), 6, 1),
+        ("7, nodes 1 and 4", (&[(0, 0), (8, 0), (8, 8), (0, 8), (4, 4)], &[[3, 0, 2]]), 7, 1),
+        ("4 at row 1, 5 to 7 lower", (&[(0, 0), (0, 0), (0, 0), (0, 0), (9, 9)], &[[1, 2, 0], [1, 2, 2], [1, 2, 0]]), 4, 1),
+    ];
+    wrong.into_iter().flat_map(|(name, mesh, number, culprit)| by_all_calls(name, lent(mesh, 20, 30), number, culprit)).collect()
+}
+
+/// A grid of 1,024 nodes and 1,922 rows, and one row more: the last node or the last row is at fault.
+fn last_culprits() -> Vec<Case> {
+    let (nodes, mut rows) = grid(31, 31, 8);
+    rows.push([0, 2, 64]);
+    let given = Tables { nodes: nodes.iter().flat_map(|p| [p.0, p.1]).collect(), rows: rows.concat(), scratch: vec![7; 20000], n: 1024, t: 1923 };
+    type Spoil = fn(&mut Tables);
+    let wrong: [(&'static str, Spoil, u32, usize); 5] = [
+        ("3, the last node", |g| g.nodes[2047] = i32::MAX, 3, 1023),
+        ("4, the last row", |g| g.rows[3 * 1922] = 1024, 4, 1922),
+        ("5, the last row", |g| g.rows[3 * 1922 + 2] = 35, 5, 1922),
+        ("6, the last row", |g| g.rows[3 * 1922 + 2] = 4, 6, 1922),
+        ("7, the last node", |g| g.t = 1920, 7, 1023),
+    ];
+    let spoilt = |spoil: Spoil| {
+        let mut g = given.clone();
+        spoil(&mut g);
+        g
+    };
+    wrong.into_iter().flat_map(|(name, spoil, number, culprit)| by_all_calls(name, spoilt(spoil), number, culprit)).collect()
 }
 
 /// Case 12: each end of the range passes.
@@ -293,7 +340,7 @@ fn range_ends() -> Vec<Case> {
 /// Every reason for 1, of every call.
 fn number_1() -> Vec<Case> {
     type Spoil = fn(&mut Tables);
-    let reasons: [(&'static str, Spoil); 8] = [
+    let reasons: [(&'static str, Spoil); 9] = [
         ("1, an odd node table", |g| g.nodes.push(7)),
         ("1, a row table of 3 k + 1", |g| g.rows.push(7)),
         ("1, a row table of 3 k + 2", |g| g.rows.extend([7, 7])),
@@ -302,6 +349,7 @@ fn number_1() -> Vec<Case> {
         ("1, n above NC", |g| g.n = 21),
         ("1, t above TC", |g| g.t = usize::MAX),
         ("1, scratch one short", |g| g.scratch.truncate(4 * 50 - 1)),
+        ("1 before 4", |g| (g.rows[5], g.scratch) = (4, vec![])),
     ];
     let mut all: Vec<Case> =
         [refine(S, 5, &[0]), quarter(S, 5, &[0]), full_pass(S, 5), Call::Restore(5)].map(|call| refused("1, n0 above n", lent(S, 20, 30), call, 1)).into();
@@ -328,24 +376,29 @@ fn expected(case: &Case) -> (Answer, Tables) {
         _ => given.clone(),
     };
     after.scratch = vec![0; given.scratch.len()];
-    (Answer { number: case.number, n: after.n, t: after.t, passes: case.passes }, after)
+    (Answer { number: case.number, n: after.n, t: after.t, passes: case.passes, culprit: case.culprit }, after)
 }
 
 /// Runs the case; says what is wrong, if anything.
 fn fault(case: &Case, by: fn(&Call, &mut Tables) -> Answer) -> Option<String> {
     let mut left = case.given.clone();
     let said = by(&case.call, &mut left);
-    let wanted = expected(case);
-    ((said, &left) != (wanted.0, &wanted.1)).then(|| format!("{}: {:?}\nsaid {said:?}, {left:?}\nnot {wanted:?}", case.name, case.call))
+    let (wanted, after) = expected(case);
+    if said != wanted {
+        Some(format!("{}: {:?}\nsaid {said:?}\nnot {wanted:?}", case.name, case.call))
+    } else {
+        (left != after).then(|| format!("{}: {:?}\nleft {left:?}\nnot {after:?}", case.name, case.call))
+    }
 }
 
 fn main() {
-    let parts = [hand_meshes(), quarter_meshes(), range_ends(), number_1(), number_2(), numbers_3_to_7(), numbers_8_to_10()];
-    let cases: Vec<Case> = parts.into_iter().flatten().collect();
-    let faults: Vec<String> = cases.iter().flat_map(|c| [fault(c, proved), fault(c, other)]).flatten().collect();
+    let done = [hand_meshes(), quarter_meshes(), range_ends()];
+    let refused = [number_1(), number_2(), numbers_3_to_7(), lowest_culprits(), last_culprits(), numbers_8_to_10()];
+    let cases: Vec<Case> = done.into_iter().chain(refused).flatten().collect();
+    let faults: Vec<String> = cases.iter().flat_map(|c| [fault(c, proved), fault(c, wrapped), fault(c, other)]).flatten().collect();
     for f in &faults {
         println!("hand: {f}");
     }
-    println!("hand: {} cases by the library and by the rival, {} wrong", cases.len(), faults.len());
+    println!("hand: {} cases by the exported calls, by the wrapper and by the rival, {} wrong", cases.len(), faults.len());
     std::process::exit(!faults.is_empty() as i32);
 }

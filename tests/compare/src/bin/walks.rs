@@ -47,6 +47,7 @@ fn walk(seed: u64) -> Told {
         };
         let mut next = g.clone();
         let a = proved(&call, &mut next);
+        assert_eq!(a.culprit, 0, "seed {seed}: a lawful mesh has no culprit");
         if a.number == 0 && called_with == n0 {
             *kind += 1;
             g = next;

@@ -1,0 +1,11 @@
+//! The exported calls as spoutbeetle.h declares them; it says what they ask of their pointers.
+extern "C" {
+    pub fn spoutbeetle_check(nodes: *mut i32, nodes_len: usize, rows: *mut u32, rows_len: usize, scratch: *mut u32, scratch_len: usize, n: usize, t: usize, culprit: *mut usize) -> u32;
+    pub fn spoutbeetle_refine(nodes: *mut i32, nodes_len: usize, rows: *mut u32, rows_len: usize, scratch: *mut u32, scratch_len: usize, marks: *const u8, marks_len: usize, n0: usize, n: *mut usize, t: *mut usize, culprit: *mut usize) -> u32;
+    pub fn spoutbeetle_quarter(nodes: *mut i32, nodes_len: usize, rows: *mut u32, rows_len: usize, scratch: *mut u32, scratch_len: usize, marks: *const u8, marks_len: usize, n0: usize, n: *mut usize, t: *mut usize, culprit: *mut usize) -> u32;
+    pub fn spoutbeetle_coarsen(nodes: *mut i32, nodes_len: usize, rows: *mut u32, rows_len: usize, scratch: *mut u32, scratch_len: usize, marks: *const u8, marks_len: usize, n0: usize, n: *mut usize, t: *mut usize, culprit: *mut usize) -> u32;
+    pub fn spoutbeetle_restore(nodes: *mut i32, nodes_len: usize, rows: *mut u32, rows_len: usize, scratch: *mut u32, scratch_len: usize, n0: usize, n: *mut usize, t: *mut usize, passes: *mut usize, culprit: *mut usize) -> u32;
+}
+
+/// A call that takes marks.
+pub type Marked = unsafe extern "C" fn(*mut i32, usize, *mut u32, usize, *mut u32, usize, *const u8, usize, usize, *mut usize, *mut usize, *mut usize) -> u32;

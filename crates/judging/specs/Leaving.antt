@@ -10,8 +10,8 @@ use lib.IntN.{ℤ, pos}
 use lib.ListN.{length, replicate, length-replicate}
 use Rattle.lists.specs.Lists.{cases}
 use Rattle.meaning.specs.declared.Answer.{Answer}
-use Rattle.meaning.specs.Mesh.{Mesh}
 use Rattle.meaning.specs.declared.Fault.{Fault}
+use Rattle.meaning.specs.Mesh.{Mesh}
 use Rattle.meaning.specs.Lawful.{fault, faultOf, refusal}
 use Rattle.meaning.specs.Tables.{Given, given, Outcome, outcome, answer, meshOf, flatNodes, flatRows, filled}
 use Rattle.meaning.specs.Calls.{Reply, culpritOf, says, unless, orElse, marksFit, sizesFit, untouched, leavesBy, leaves, sized}
@@ -35,6 +35,9 @@ first-of f late o = go (f .number) refl
     go : (j : ℕ) → f .number ≡ j → f ≡ orLateBy j f late
     go zero e = absurd (o e)
     go (suc j) e = refl
+
+abbrev leavesFor : Given → Mesh → Fault → Outcome
+leavesFor g after f = leavesBy g (f .number) after 0 (f .at)
 
 -- the number of a call that wants k marks and judges `late` at last: 1 comes first, and then 2
 module _ (g : Given) (n0 k : ℕ) (marks : List ℕ) (late : ℕ) where
@@ -60,13 +63,10 @@ module _ (g : Given) (n0 k : ℕ) (marks : List ℕ) (late : ℕ) where
     abbrev pub lateOut : Outcome
     lateOut = sized g n0 (leaves g (says lateNo (meshOf g) after 0))
 
-    abbrev leavesFor : Fault → Outcome
-    leavesFor f = leavesBy g (f .number) after 0 (f .at)
-
-    lateOut-is : lateOut ≡ leavesFor (orLate (early g n0 k marks) late)
-    lateOut-is = go (sizesFit g n0) lateNo ∙ ap leavesFor verdict
+    lateOut-is : lateOut ≡ leavesFor g after (orLate (early g n0 k marks) late)
+    lateOut-is = go (sizesFit g n0) lateNo ∙ ap (leavesFor g after) verdict
       where
-        go : (b : Bool) (j : ℕ) → cases b (leaves g (says j (meshOf g) after 0)) (untouched g 1 0) ≡ leavesFor (cases b (fault j (culpritOf (meshOf g) j)) (fault 1 0))
+        go : (b : Bool) (j : ℕ) → cases b (leaves g (says j (meshOf g) after 0)) (untouched g 1 0) ≡ leavesFor g after (cases b (fault j (culpritOf (meshOf g) j)) (fault 1 0))
         go true zero = refl
         go true (suc j) = refl
         go false j = refl
@@ -82,7 +82,7 @@ module _ (nodes : List ℤ) (rows s marks : List ℕ) (n0 n t k late : ℕ) (aft
   leaves-refused r o h =
       let g = given nodes rows s n t in
       let v : f ≡ orLate (early g n0 k marks) late = first-of f late o ∙ ap (λ (x : Fault). orLate x late) e in
-      rw h (untouched-is (f .number) (f .at) o) ∙ ap (λ (x : Fault). leavesBy g (x .number) after 0 (x .at)) v ∙ sym (lateOut-is g n0 k marks late after)
+      rw h (untouched-is (f .number) (f .at) o) ∙ ap (leavesFor g after) v ∙ sym (lateOut-is g n0 k marks late after)
 
   module _ (y : f .number ≡ 0) where
     late-is : fault late 0 ≡ orLate (early (given nodes rows s n t) n0 k marks) late
@@ -91,7 +91,7 @@ module _ (nodes : List ℤ) (rows s marks : List ℕ) (n0 n t k late : ℕ) (aft
     pub leaves-refused-late : (r : Answer) (j : ℕ) → j ≡ late → (j ≡ 0 → ⊥) → r ≡ answer j n t 0 0 → outcome r nodes rows s ≡ lateOut (given nodes rows s n t) n0 k marks late after
     leaves-refused-late r j d o h =
         let g = given nodes rows s n t in
-        rw h (untouched-is j 0 o) ∙ ap (λ (i : ℕ). leavesBy g i after 0 0) d ∙ ap (λ (x : Fault). leavesBy g (x .number) after 0 (x .at)) late-is ∙ sym (lateOut-is g n0 k marks late after)
+        rw h (untouched-is j 0 o) ∙ ap (λ (i : ℕ). leavesBy g i after 0 0) d ∙ ap (leavesFor g after) late-is ∙ sym (lateOut-is g n0 k marks late after)
 
     -- done: both tables hold the mesh after
     pub leaves-done : (r : Answer) (a : List ℤ) (b : List ℕ) (n1 t1 : ℕ) → late ≡ 0 → n1 ≡ length (after .nodes) → t1 ≡ length (after .tris) →
@@ -99,7 +99,7 @@ module _ (nodes : List ℤ) (rows s marks : List ℕ) (n0 n t k late : ℕ) (aft
         outcome r a b s ≡ lateOut (given nodes rows s n t) n0 k marks late after
     leaves-done r a b n1 t1 d p q x y h =
         let g = given nodes rows s n t in
-        rw (h, x, y, p, q) (ap (outcome _ _ _) z) ∙ ap (λ (j : ℕ). leavesBy g j after 0 0) (sym d) ∙ ap (λ (x : Fault). leavesBy g (x .number) after 0 (x .at)) late-is ∙ sym (lateOut-is g n0 k marks late after)
+        rw (h, x, y, p, q) (ap (outcome _ _ _) z) ∙ ap (λ (j : ℕ). leavesBy g j after 0 0) (sym d) ∙ ap (leavesFor g after) late-is ∙ sym (lateOut-is g n0 k marks late after)
 
 -- ---- scratch before the call does not matter, but for its length
 

@@ -8,14 +8,16 @@ use Prim.Native.Nat.{ℕ, zero, suc, _≤_, _<_}
 use native.Mathlib.Decide.{decLt}
 use native.Mathlib.Omega.{arith}
 use lib.Dec.{eqb}
+use lib.IntN.{pos}
+use lib.Signed.{_<ℤ_}
 use lib.ListN.{length}
 use borrow.Author.Tests.{eqb-true, eqb-false, eq-eqb}
 use Rattle.lists.specs.declared.Found.{Found}
 use Rattle.lists.specs.declared.Found.the-variants.{At, Nothing}
-use Rattle.lists.specs.Lists.{all, cases}
+use Rattle.lists.specs.Lists.{all, cases, count}
 use Rattle.meaning.specs.declared.Fault.{Fault}
-use Rattle.meaning.specs.Mesh.{Mesh}
-use Rattle.meaning.specs.Lawful.{First, Other, Names, names-3, names-4, names-5, names-6, names-7, names-none, firstOutside, firstMisnamed, firstRepeat, firstFlat, firstUnused, orLater, faultOf, refusal, compatible}
+use Rattle.meaning.specs.Mesh.{Mesh, at, holdsNode, twiceArea}
+use Rattle.meaning.specs.Lawful.{InRange, Named, First, Repeats, Other, Names, names-3, names-4, names-5, names-6, names-7, names-none, firstOutside, firstMisnamed, firstRepeat, firstFlat, firstUnused, rowOf, orLater, faultOf, refusal, compatible}
 use Rattle.meaning.specs.Split.{Way, splitEdges, started, halves, refined}
 use Rattle.meaning.specs.Tables.{Room}
 use Rattle.meaning.specs.Calls.{culpritOf, unless, orElse, marksFit, fits, checkNo, refineNo, coarsenNo}
@@ -36,6 +38,48 @@ fault-names m =
     (names-or-later m 7 (firstUnused m) _ (λ i e. names-7 (first-7 m i e))
     (names-none 0 (inl (omega arith)))))))
 
+-- ---- number by number
+
+-- 3 to 7 are not among the others
+other-no : {X : Type 0} {k : ℕ} → 3 ≤ k → k ≤ 7 → Other k → X
+other-no a b (inl h) = absurd (omega arith)
+other-no a b (inr h) = absurd (omega arith)
+
+module _ {m : Mesh} where
+  -- WHAT 3 NAMES: a node out of range, all below it being in range.
+  pub named-3 : {z : ℕ} → Names m 3 z → First (length (m .nodes)) (λ j. ¬ InRange (at m j)) (λ j. InRange (at m j)) z
+  named-3 (names-3 f) = f
+  named-3 (names-none k o) = other-no (omega arith) (omega arith) o
+
+  -- WHAT 4 NAMES: a row that names a node that is not there or one node twice, no lower row doing so.
+  pub named-4 : {z : ℕ} → Names m 4 z → First (length (m .tris)) (λ i. ¬ Named (length (m .nodes)) (rowOf (m .tris) i)) (λ i. Named (length (m .nodes)) (rowOf (m .tris) i)) z
+  named-4 (names-4 f) = f
+  named-4 (names-none k o) = other-no (omega arith) (omega arith) o
+
+  -- WHAT 5 NAMES: a row with a directed edge that a lower row has, no lower row having one that a still lower row has.
+  pub named-5 : {z : ℕ} → Names m 5 z → First (length (m .tris)) (Repeats (m .tris)) (λ i. ¬ Repeats (m .tris) i) z
+  named-5 (names-5 f) = f
+  named-5 (names-none k o) = other-no (omega arith) (omega arith) o
+
+  -- WHAT 6 NAMES: a row whose twice-area is not above 0, that of every lower row being so.
+  pub named-6 : {z : ℕ} → Names m 6 z → First (length (m .tris)) (λ i. ¬ (pos 0 <ℤ twiceArea m (rowOf (m .tris) i))) (λ i. pos 0 <ℤ twiceArea m (rowOf (m .tris) i)) z
+  named-6 (names-6 f) = f
+  named-6 (names-none k o) = other-no (omega arith) (omega arith) o
+
+  -- WHAT 7 NAMES: a node in no row, all below it being in one.
+  pub named-7 : {z : ℕ} → Names m 7 z → First (length (m .nodes)) (λ j. count (holdsNode j) (m .tris) ≡ 0) (λ j. 1 ≤ count (holdsNode j) (m .tris)) z
+  named-7 (names-7 f) = f
+  named-7 (names-none k o) = other-no (omega arith) (omega arith) o
+
+  -- AND EVERY OTHER NUMBER: 0.
+  pub named-0 : {k z : ℕ} → Names m k z → Other k → z ≡ 0
+  named-0 (names-3 f) o = other-no (omega arith) (omega arith) o
+  named-0 (names-4 f) o = other-no (omega arith) (omega arith) o
+  named-0 (names-5 f) o = other-no (omega arith) (omega arith) o
+  named-0 (names-6 f) o = other-no (omega arith) (omega arith) o
+  named-0 (names-7 f) o = other-no (omega arith) (omega arith) o
+  named-0 (names-none k p) o = refl
+
 -- ---- one culprit
 
 first-one : {end : ℕ} {Faulty Sound : ℕ → Type 0} {y z : ℕ} → ((j : ℕ) → Faulty j → Sound j → ⊥) → First end Faulty Sound y → First end Faulty Sound z → y ≡ z
@@ -46,32 +90,14 @@ first-one {y = y} {z = z} apart a b = go (decLt y z) (decLt z y)
     go (no n) (yes l) = absurd (apart z (b .at-fault) (a .sound-below z l))
     go (no n) (no l) = omega arith
 
--- 3 to 7 are not among the others
-other-no : {X : Type 0} {k : ℕ} → 3 ≤ k → k ≤ 7 → Other k → X
-other-no a b (inl h) = absurd (omega arith)
-other-no a b (inr h) = absurd (omega arith)
-
-names-other : {m : Mesh} {k z : ℕ} → Names m k z → Other k → z ≡ 0
-names-other (names-3 f) o = other-no (omega arith) (omega arith) o
-names-other (names-4 f) o = other-no (omega arith) (omega arith) o
-names-other (names-5 f) o = other-no (omega arith) (omega arith) o
-names-other (names-6 f) o = other-no (omega arith) (omega arith) o
-names-other (names-7 f) o = other-no (omega arith) (omega arith) o
-names-other (names-none k p) o = refl
-
 -- A MESH AND A NUMBER NAME ONE CULPRIT.
 pub names-one : {m : Mesh} {k y z : ℕ} → Names m k y → Names m k z → y ≡ z
-names-one (names-3 f) (names-3 g) = first-one (λ j a b. a b) f g
-names-one (names-3 f) (names-none k o) = other-no (omega arith) (omega arith) o
-names-one (names-4 f) (names-4 g) = first-one (λ j a b. a b) f g
-names-one (names-4 f) (names-none k o) = other-no (omega arith) (omega arith) o
-names-one (names-5 f) (names-5 g) = first-one (λ j a b. b a) f g
-names-one (names-5 f) (names-none k o) = other-no (omega arith) (omega arith) o
-names-one (names-6 f) (names-6 g) = first-one (λ j a b. a b) f g
-names-one (names-6 f) (names-none k o) = other-no (omega arith) (omega arith) o
-names-one (names-7 f) (names-7 g) = first-one (λ j a b. omega arith) f g
-names-one (names-7 f) (names-none k o) = other-no (omega arith) (omega arith) o
-names-one (names-none k o) b = sym (names-other b o)
+names-one (names-3 f) b = first-one (λ j x y. x y) f (named-3 b)
+names-one (names-4 f) b = first-one (λ j x y. x y) f (named-4 b)
+names-one (names-5 f) b = first-one (λ j x y. y x) f (named-5 b)
+names-one (names-6 f) b = first-one (λ j x y. x y) f (named-6 b)
+names-one (names-7 f) b = first-one (λ j x y. omega arith) f (named-7 b)
+names-one (names-none k o) b = sym (named-0 b o)
 
 -- So what names a culprit names no other.
 pub names-exact : {m : Mesh} {k y : ℕ} → Names m k y → (z : ℕ) → (y ≡ z) ↔ Names m k z
@@ -95,7 +121,7 @@ culprit-names m k due = go (eqb k (faultOf m .number)) refl due
 
 -- "All other answers, later numbers too, carry 0 there."
 pub culprit-none : (m : Mesh) (k : ℕ) → Other k → culpritOf m k ≡ 0
-culprit-none m k o = names-other (culprit-names m k (inr o)) o
+culprit-none m k o = named-0 (culprit-names m k (inr o)) o
 
 -- the number that a mesh draws carries its fault's node or row
 pub culprit-own : (m : Mesh) → culpritOf m (refusal m) ≡ faultOf m .at
@@ -108,7 +134,7 @@ unfolding culpritOf refusal
 culprit-lawful m k e = go (eqb k (faultOf m .number))
   where
     go : (b : Bool) → cases b (faultOf m .at) 0 ≡ 0
-    go true = names-other (fault-names m) (inl (omega arith))
+    go true = named-0 (fault-names m) (inl (omega arith))
     go false = refl
 
 module _ (m : Mesh) where

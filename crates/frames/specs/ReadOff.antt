@@ -21,15 +21,15 @@ use Rattle.frames.specs.Answered.{WholeHeld}
 use Rattle.frames.specs.Stays.{pick, of-called}
 
 -- what is said with a number is what the number names
-record Named (g : Given) (o : Outcome) : Type 0 where
+record Blames (g : Given) (o : Outcome) : Type 0 where
   names : Names (meshOf g) (o .answer .number) (o .answer .culprit)
 
 module _ (h : Held) (kind : ℕ) (fields : List ℕ) where
-  called-named : Named (givenBy h) (called h kind fields)
-  called-named =
+  called-blames : Blames (givenBy h) (called h kind fields)
+  called-blames =
       let g : Given = givenBy h in
       let n0 : ℕ = h .session .n0 in
-      of-called (Named g) h kind fields (pick (Named g) (eqb (checkOut g .answer .number) 0) (record { names = check-names g }) (record { names = check-names g }))
+      of-called (Blames g) h kind fields (pick (Blames g) (eqb (checkOut g .answer .number) 0) (record { names = check-names g }) (record { names = check-names g }))
       (λ k marks. record { names = refine-names g n0 (wayOf k) marks })
       (λ marks. record { names = coarsen-names g n0 marks })
       (record { names = restore-names g n0 })
@@ -48,6 +48,6 @@ pub culprit-read-off : (h : Held) (ol kind : ℕ) (fields : List ℕ) → WholeH
     Names (meshOf (givenBy h)) (called h kind fields .answer .number) (number 4 (frame h kind fields .text) 16)
 unfolding frame
 culprit-read-off h ol kind fields w a b c =
-    let n = called-named h kind fields .names in
+    let n = called-blames h kind fields .names in
     let f = few n (omega (arith, nodes-count (givenBy h), w .few-nodes)) (omega (arith, rows-count (givenBy h), w .few-rows)) in
     rw (ne-eqb kind 1 a, ne-eqb kind 2 b, ne-eqb kind 7 c, culprit-read kind (called h kind fields .answer) f) n

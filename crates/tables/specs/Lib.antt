@@ -2,4 +2,5 @@ pub mod Arrow
 pub mod Sized
 pub mod Put
 pub mod PutLaw
+pub mod Slots
 pub mod Ready

@@ -4,3 +4,5 @@ pub mod Put
 pub mod PutLaw
 pub mod Slots
 pub mod Ready
+pub mod Walk
+pub mod Join

@@ -37,7 +37,7 @@ pub place-set-same : (l : List ℤ) (k : ℕ) (a : Place) → 2 * k + 2 ≤ leng
 place-set-same = nodes-table .same
 
 -- a part to the end comes back as zeros, in the form of needs
-tail-filled : {A : Type 0} (xs ys : List A) (a : ℕ) (v : A) → a ≤ length xs → ys ≡ replicate (length (midOf a (length xs - a) xs)) v →
+pub tail-filled : {A : Type 0} (xs ys : List A) (a : ℕ) (v : A) → a ≤ length xs → ys ≡ replicate (length (midOf a (length xs - a) xs)) v →
     putMid a (length xs - a) xs ys ≡ take a xs ++ replicate (length xs - a) v
 tail-filled {A} xs ys a v h e =
     ap (λ (l : List A). take a xs ++ (ys ++ l)) (post-is a (length xs) xs h ∙ drop-length xs)

@@ -1,17 +1,32 @@
 -- What the neighbour search asks of scratch: the index of the first t rows stands from `indexAt` on. Only this crate opens `Ready`;
--- others know these laws, and what `add_row` ensures. The index is empty for now, so that `Ready` holds sizes alone. Assumes nothing.
-use mathlib.Core.Path.{_≡_}
+-- others know these laws, and what `add_row` ensures. The index lists, for each node, the slots that name it: slot k is number k of the
+-- triangle table, in row k / 3. Assumes nothing.
+use mathlib.Core.Path.{_≡_, refl, sym, ap, _∙_}
 use mathlib.Core.List.{List}
-use Prim.Native.Nat.{ℕ, _*_, _≤_, _<_}
+use Prim.Native.Nat.{ℕ, zero, suc, _+_, _-_, _*_, _/_, _%_, _≤_, _<_}
 use native.Mathlib.Omega.{arith}
-use lib.ListN.{length, set, drop, replicate, length-set}
-use lib.Seq.{drop-set-lt}
+use lib.ListN.{length, getD, set, drop, replicate, length-set, getD-replicate}
+use lib.Seq.{drop-set-lt, getD-drop}
+use Rattle.meaning.specs.declared.Tri.{Tri}
 use Rattle.meaning.specs.Tables.{rowAt}
-use Rattle.tables.specs.Sized.{Sized, indexAt}
+use Rattle.tables.specs.Sized.{Sized, indexAt, slotsOf}
+use Rattle.tables.specs.Slots.{Listed, listed-start, listed-kept, listed-agree, listed-free}
 
+-- the node that slot k names
+abbrev pub nodeAt : List ℕ → ℕ → ℕ
+nodeAt rows k = getD rows k 0
+
+-- `held` slots are listed, each under the node that it named when it joined: as the first t rows do now. Rows from t on may have changed
+-- since, or be no longer asked about
 pub record Indexed (scratch : List ℕ) (nc : ℕ) (rows : List ℕ) (t : ℕ) : Type 0 where
   pub sizes : Sized nc (length rows) (length scratch)
-  pub in-table : 3 * t ≤ length rows
+  pub held : ℕ
+  pub names : ℕ → ℕ
+  pub enough : 3 * t ≤ held
+  pub in-table : held ≤ slotsOf (length rows)
+  pub in-range : (k : ℕ) → k < held → names k < nc
+  pub same : (k : ℕ) → k < 3 * t → names k ≡ nodeAt rows k
+  pub listed : Listed names nc (slotsOf (length rows)) (indexAt nc (length rows)) held scratch
 
 unfoldable pub Ready : List ℕ → ℕ → List ℕ → ℕ → Type 0
 Ready scratch nc rows t = Indexed scratch nc rows t
@@ -19,7 +34,17 @@ Ready scratch nc rows t = Indexed scratch nc rows t
 -- no row is in the index of a scratch that is all zero
 pub ready-start : (scratch rows : List ℕ) (nc : ℕ) → Sized nc (length rows) (length scratch) → scratch ≡ replicate (length scratch) 0 → Ready scratch nc rows 0
 unfolding Ready
-ready-start scratch rows nc z e = record { sizes = z; in-table = omega arith }
+ready-start scratch rows nc z e = record {
+  sizes = z;
+  held = 0;
+  names = nodeAt rows;
+  enough = omega arith;
+  in-table = omega arith;
+  in-range = λ k h. absurd (omega arith);
+  same = λ k h. refl;
+  listed = listed-start (nodeAt rows) nc (slotsOf (length rows)) (indexAt nc (length rows)) scratch (let a = z .scratch in omega arith)
+      (λ k a h. (ap (λ (v : List ℕ). getD v k 0) e ∙ getD-replicate (length scratch) k 0 0 h));
+}
 
 -- the sizes are as they were at the start
 pub ready-sized : (scratch rows : List ℕ) (nc t : ℕ) → Ready scratch nc rows t → Sized nc (length rows) (length scratch)
@@ -29,19 +54,59 @@ ready-sized scratch rows nc t r = r .sizes
 -- the rows are in the table
 pub ready-rows : (scratch rows : List ℕ) (nc t : ℕ) → Ready scratch nc rows t → 3 * t ≤ length rows
 unfolding Ready
-ready-rows scratch rows nc t r = r .in-table
+ready-rows scratch rows nc t r = let a = r .enough in let b = r .in-table in omega arith
 
 -- the notes do not matter
 pub ready-kept : (scratch scratch′ rows : List ℕ) (nc t : ℕ) → length scratch′ ≡ length scratch → drop (indexAt nc (length rows)) scratch′ ≡ drop (indexAt nc (length rows)) scratch →
     Ready scratch nc rows t → Ready scratch′ nc rows t
 unfolding Ready
-ready-kept scratch scratch′ rows nc t l d r = record { sizes = rw l (r .sizes); in-table = r .in-table }
+ready-kept scratch scratch′ rows nc t l d r = record {
+  sizes = rw l (r .sizes);
+  held = r .held;
+  names = r .names;
+  enough = r .enough;
+  in-table = r .in-table;
+  in-range = r .in-range;
+  same = r .same;
+  listed = listed-kept (r .names) nc (slotsOf (length rows)) (indexAt nc (length rows)) (r .held) scratch scratch′ (λ k h. same-at k (indexAt nc (length rows)) h d) (r .listed);
+}
+  where
+    same-at : (k o : ℕ) → o ≤ k → drop o scratch′ ≡ drop o scratch → getD scratch′ k 0 ≡ getD scratch k 0
+    same-at k o h d =
+        let e : o + (k - o) ≡ k = omega arith in
+        rw e at (sym (getD-drop o scratch′ (k - o) 0) ∙ ap (λ (v : List ℕ). getD v (k - o) 0) d ∙ getD-drop o scratch (k - o) 0)
+
+-- corner c of a row, where c is 0, 1 or 2
+unfoldable pub cornerOf : Tri → ℕ → ℕ
+cornerOf w zero = w .p
+cornerOf w (suc zero) = w .q
+cornerOf w (suc (suc c)) = w .r
+
+-- slot k is corner k % 3 of row k / 3
+pub slot-corner : (rows : List ℕ) (k : ℕ) → nodeAt rows k ≡ cornerOf (rowAt rows (k / 3)) (k % 3)
+unfolding cornerOf rowAt
+slot-corner rows k = go (k / 3) (k % 3) (omega arith) (omega arith)
+  where
+    go : (i c : ℕ) → k ≡ 3 * i + c → c < 3 → nodeAt rows k ≡ cornerOf (rowAt rows i) c
+    go i zero e h = ap (nodeAt rows) (omega arith)
+    go i (suc zero) e h = ap (nodeAt rows) e
+    go i (suc (suc zero)) e h = ap (nodeAt rows) e
+    go i (suc (suc (suc c))) e h = absurd (omega arith)
 
 -- fewer rows: the search reads only these, so that the others may have changed
 pub ready-fewer : (scratch rows rows′ : List ℕ) (nc t i : ℕ) → i ≤ t → length rows′ ≡ length rows → ((j : ℕ) → j < i → rowAt rows′ j ≡ rowAt rows j) →
     Ready scratch nc rows t → Ready scratch nc rows′ i
 unfolding Ready
-ready-fewer scratch rows rows′ nc t i h e a r = record { sizes = rw e (r .sizes); in-table = let b = r .in-table in omega arith }
+ready-fewer scratch rows rows′ nc t i h e a r = record {
+  sizes = rw e (r .sizes);
+  held = r .held;
+  names = r .names;
+  enough = let b = r .enough in omega arith;
+  in-table = rw e (r .in-table);
+  in-range = r .in-range;
+  same = λ k u. (r .same k (omega arith) ∙ slot-corner rows k ∙ ap (λ (w : Tri). cornerOf w (k % 3)) (sym (a (k / 3) (omega arith))) ∙ sym (slot-corner rows′ k));
+  listed = rw e (r .listed);
+}
 
 -- ---- from the laws above
 

@@ -12,6 +12,10 @@ pub record Sized (nc tl sl : ℕ) : Type 0 where
 abbrev pub indexAt : ℕ → ℕ → ℕ
 indexAt nc tl = 2 * nc + tl / 3
 
+-- slots of a triangle table: the numbers of its rows
+abbrev pub slotsOf : ℕ → ℕ
+slotsOf tl = 3 * (tl / 3)
+
 -- the row names nodes below nc
 pub record Corners (nc : ℕ) (w : Tri) : Type 0 where
   pub p-in : w .p < nc

@@ -1,35 +1,32 @@
-use mathlib.Core.Path.{_≡_}
-use Prim.Native.Nat.{_≤_, _-_}
 use Rattle.tables.specs.Ready.{Ready}
-use Rattle.tables.specs.Arrow.{arrowAt}
-use Rattle.lists.specs.Search.{lowest}
-use Rattle.lists.specs.SearchLaw.{searching}
+use Rattle.tables.specs.Walk.{outside-x, outside-y, rarer-end, rarer-below}
 use borrow.Author.Needs.{needs}
 use Rattle.tables.proofs.find_edge.Statement.{statement}
 use Rattle.tables.proofs.find_edge.Tie as tie
 
-abbrev Inv-loop : tie.InvT-loop
-Inv-loop rows scratch nc t x y i₀ i = (i ≤ t) × (lowest (arrowAt rows x y) i t ≡ lowest (arrowAt rows x y) 0 t)
+returns : tie.Need-returns
+returns c = search (needs, outside-x)
 
-abbrev μ-loop : tie.MeasureT-loop
-μ-loop rows scratch nc t x y i₀ i = t - i
+returns-2 : tie.Need-returns-2
+returns-2 c = search (needs, outside-y)
 
-edge-at-requires : tie.Need-edge-at-requires Inv-loop μ-loop
+index-at-requires : tie.Need-index-at-requires
 unfolding Ready
-edge-at-requires c κs = search needs
+index-at-requires c κs = search needs
 
-returns : tie.Need-returns Inv-loop μ-loop
-returns c = search (needs, searching)
+add-rarer : tie.Need-add-rarer
+unfolding Ready
+add-rarer c = search needs
 
-loop-again : tie.Need-loop-again Inv-loop μ-loop
-loop-again c = search (needs, searching)
+rarer-requires : tie.Need-rarer-requires
+unfolding Ready
+rarer-requires c κs = search needs
 
-returns-2 : tie.Need-returns-2 Inv-loop μ-loop
-returns-2 c = search (needs, searching)
+walk-requires : tie.Need-walk-requires
+walk-requires c κs = (search needs, (search (needs, rarer-below), search (needs, rarer-end)))
 
 pub find-edge-spec : {M : Type 1} → statement M
 find-edge-spec =
     tie.close
     (tie.spec
-    Inv-loop μ-loop (λ c. search needs) edge-at-requires returns (λ c. search needs) (λ c. search needs)
-    loop-again returns-2)
+    returns returns-2 index-at-requires add-rarer rarer-requires walk-requires (λ c. search needs))

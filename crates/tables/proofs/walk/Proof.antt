@@ -1,0 +1,64 @@
+use Rattle.tables.specs.Ready.{Ready}
+use Rattle.tables.specs.Walk.{Walk, walk-start, walk-rows, walk-some, walk-room, walk-next, walk-turn, walk-end}
+use borrow.Author.Needs.{needs}
+use Rattle.tables.proofs.walk.Statement.{statement}
+use Rattle.tables.proofs.walk.Tie as tie
+
+abbrev Inv-loop : tie.InvT-loop
+Inv-loop rows scratch nc t x y v o m₀ left₀ f₀ m left f = Walk scratch nc rows t x y v m left f
+
+abbrev μ-loop : tie.MeasureT-loop
+μ-loop rows scratch nc t x y v o m₀ left₀ f₀ m left f = left
+
+index-at-requires : tie.Need-index-at-requires Inv-loop μ-loop
+unfolding Ready
+index-at-requires c κs = search needs
+
+add-note-at : tie.Need-add-note-at Inv-loop μ-loop
+unfolding Ready
+add-note-at c = search needs
+
+note-at-requires : tie.Need-note-at-requires Inv-loop μ-loop
+unfolding Ready
+note-at-requires c κs = search needs
+
+add-note-at-2 : tie.Need-add-note-at-2 Inv-loop μ-loop
+unfolding Ready
+add-note-at-2 c = search needs
+
+add-note-at-3 : tie.Need-add-note-at-3 Inv-loop μ-loop
+unfolding Ready
+add-note-at-3 c = search needs
+
+note-at-requires-2 : tie.Need-note-at-requires-2 Inv-loop μ-loop
+unfolding Ready
+note-at-requires-2 c κs = search needs
+
+loop-holds : tie.Need-loop-holds Inv-loop μ-loop
+loop-holds c = search (needs, walk-start)
+
+slot-requires : tie.Need-slot-requires Inv-loop μ-loop
+slot-requires c κs = search (needs, walk-some)
+
+seen-requires : tie.Need-seen-requires Inv-loop μ-loop
+seen-requires c κs = search (needs, walk-rows)
+
+note-at-requires-3 : tie.Need-note-at-requires-3 Inv-loop μ-loop
+note-at-requires-3 c κs = search (needs, walk-room)
+
+sub-m : tie.Need-sub-m Inv-loop μ-loop
+sub-m c = search (needs, walk-next)
+
+loop-again : tie.Need-loop-again Inv-loop μ-loop
+loop-again c = search (needs, walk-turn)
+
+returns : tie.Need-returns Inv-loop μ-loop
+returns c = search (needs, walk-end)
+
+pub walk-spec : {M : Type 1} → statement M
+walk-spec =
+    tie.close
+    (tie.spec
+    Inv-loop μ-loop index-at-requires add-note-at note-at-requires add-note-at-2 add-note-at-3
+    note-at-requires-2 loop-holds slot-requires seen-requires (λ c. search needs) (λ c. search needs)
+    (λ c. search needs) note-at-requires-3 sub-m (λ c. search needs) (λ c. search needs) loop-again returns)

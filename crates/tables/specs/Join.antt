@@ -1,0 +1,171 @@
+-- A row joins the index, slot by slot; and the index made anew. Assumes nothing.
+use mathlib.Core.Path.{_≡_, refl, sym, ap, _∙_}
+use mathlib.Core.List.{List, _++_}
+use Prim.Native.Nat.{ℕ, zero, suc, _+_, _-_, _*_, _/_, _%_, _^_, _≤_, _<_}
+use native.Mathlib.Omega.{arith}
+use native.Mathlib.Decide.{ℕ-discrete}
+use mathlib.Core.Bool.{Bool, true, false}
+use borrow.Rule.Slice.PartMut.{putMid, midOf}
+use lib.Dec.{eqb, ltb}
+use borrow.Author.Tests.{eqb-true, ltb-true, ltb-false}
+use lib.ListN.{length, getD, set, take, replicate, length-append, length-replicate, getD-replicate}
+use lib.Seq.{take-set-le, length-take-le, take-append-le, take-take, getD-append-add}
+use Rattle.meaning.specs.declared.Tri.{Tri}
+use Rattle.meaning.specs.Tables.{rowAt}
+use Rattle.tables.specs.Sized.{Sized, Corners, indexAt, slotsOf}
+use Rattle.tables.specs.PutLaw.{tail-filled}
+use Rattle.tables.specs.Slots.{Listed, joinSlot, top, many, top-le, many-le, three-length, listed-start, listed-agree, listed-free, listed-join}
+use Rattle.tables.specs.Ready.{Ready, nodeAt, cornerOf, slot-corner}
+
+-- the first n slots name nodes below nc
+abbrev pub Named : ℕ → List ℕ → ℕ → Type 0
+Named nc rows n = (k : ℕ) → k < n → nodeAt rows k < nc
+
+-- the first n slots are in the index, and no others
+pub record Exact (scratch : List ℕ) (nc : ℕ) (rows : List ℕ) (n : ℕ) : Type 0 where
+  pub sizes : Sized nc (length rows) (length scratch)
+  pub in-table : n ≤ slotsOf (length rows)
+  pub in-range : Named nc rows n
+  pub listed : Listed (nodeAt rows) nc (slotsOf (length rows)) (indexAt nc (length rows)) n scratch
+
+-- slot k is not in the index
+abbrev pub isFree : List ℕ → ℕ → List ℕ → ℕ → Bool
+isFree scratch nc rows k = eqb (getD scratch (indexAt nc (length rows) + 2 * nc + k) 0) 0
+
+-- ---- one slot
+
+module _ (s : List ℕ) (nc : ℕ) (rows : List ℕ) (k o v : ℕ) (x : Exact s nc rows k) (b : o ≡ indexAt nc (length rows)) (i : v ≡ nodeAt rows k) (r : nodeAt rows k < nc) where
+  -- its numbers fit
+  pub head-small : (a : ℕ) → a ≡ getD s (o + v) 0 → a + 1 < 2 ^ 32
+  head-small a f =
+      let e : getD s (o + v) 0 ≡ top (nodeAt rows) v k = rw b (x .listed .heads v (omega arith)) in
+      let t = top-le (nodeAt rows) v k in let c = x .in-table in let d = x .sizes .few-rows in omega arith
+
+  pub count-small : (a : ℕ) → a ≡ getD s (o + nc + v) 0 → a + 1 < 2 ^ 32
+  count-small a f =
+      let e : getD s (o + nc + v) 0 ≡ many (nodeAt rows) v k = rw b (x .listed .counts v (omega arith)) in
+      let t = many-le (nodeAt rows) v k in let c = x .in-table in let d = x .sizes .few-rows in omega arith
+
+  module _ (h : k < slotsOf (length rows)) (a c : ℕ) (s₁ s₂ s₃ : List ℕ) (e : a ≡ getD s (o + v) 0) (f : c ≡ getD s (o + nc + v) 0)
+      (g₁ : s₁ ≡ set s (o + 2 * nc + k) (a + 1)) (g₂ : s₂ ≡ set s₁ (o + v) (k + 1)) (g₃ : s₃ ≡ set s₂ (o + nc + v) (c + 1)) where
+    slot-put : s₃ ≡ joinSlot nc (indexAt nc (length rows)) k (nodeAt rows k) s
+    unfolding joinSlot
+    slot-put = rw (← i, ← b, ← e, ← f, ← g₁, ← g₂) g₃
+
+    pub exact-join : Exact s₃ nc rows (k + 1)
+    exact-join =
+        let o′ : ℕ = indexAt nc (length rows) in
+        let fits : o′ + 2 * nc + slotsOf (length rows) ≤ length s = (let z = x .sizes .scratch in omega arith) in
+        let l : length s₃ ≡ length s = join-length in
+        let n : suc k ≡ k + 1 = omega arith in
+        record {
+          sizes = rw l (x .sizes);
+          in-table = omega arith;
+          in-range = λ j u. in-range-too j u (ℕ-discrete j k);
+          listed = rw slot-put (rw n at (listed-join (nodeAt rows) nc (slotsOf (length rows)) o′ k s r h fits (x .listed)));
+        }
+      where
+        join-length : length s₃ ≡ length s
+        join-length = rw (g₃, g₂, g₁) (three-length s (o + 2 * nc + k) (o + v) (o + nc + v) (a + 1) (k + 1) (c + 1))
+
+        in-range-too : (j : ℕ) → j < k + 1 → Dec (j ≡ k) → nodeAt rows j < nc
+        in-range-too j u (yes z) = rw z r
+        in-range-too j u (no z) = x .in-range j (omega arith)
+
+    pub notes-join : take (indexAt nc (length rows)) s₃ ≡ take (indexAt nc (length rows)) s
+    notes-join = rw (← b) (rw (g₃, g₂, g₁)
+        (take-set-le o (set (set s (o + 2 * nc + k) (a + 1)) (o + v) (k + 1)) (o + nc + v) (c + 1) (omega arith)
+        ∙ take-set-le o (set s (o + 2 * nc + k) (a + 1)) (o + v) (k + 1) (omega arith) ∙ take-set-le o s (o + 2 * nc + k) (a + 1) (omega arith)))
+
+-- ---- no slot: what stands from `indexAt` on is zero
+
+module _ (s ys : List ℕ) (nc : ℕ) (rows : List ℕ) (o : ℕ) (z : Sized nc (length rows) (length s)) (b : o ≡ indexAt nc (length rows)) (e : ys ≡ replicate (length (midOf o (length s - o) s)) 0) where
+  in-scratch : o ≤ length s
+  in-scratch = let a = z .scratch in omega arith
+
+  blanked : putMid o (length s - o) s ys ≡ take o s ++ replicate (length s - o) 0
+  blanked = tail-filled s ys o 0 in-scratch e
+
+  long : length (putMid o (length s - o) s ys) ≡ length s
+  long = rw (blanked, length-append (take o s) (replicate (length s - o) 0), length-take-le o s in-scratch, length-replicate {A = ℕ} (length s - o) 0) (let a = in-scratch in omega arith)
+
+  zero-at : (k : ℕ) → o ≤ k → k < length s → getD (putMid o (length s - o) s ys) k 0 ≡ 0
+  zero-at k u h =
+      let n : length (take o s) + (k - o) ≡ k = rw (length-take-le o s in-scratch) (omega arith) in
+      ap (λ (v : List ℕ). getD v k 0) blanked
+      ∙ (rw n at (getD-append-add (take o s) (replicate (length s - o) 0) (k - o) 0)) ∙ getD-replicate (length s - o) (k - o) 0 0 (omega arith)
+
+  pub exact-blank : Exact (putMid o (length s - o) s ys) nc rows 0
+  exact-blank = record {
+    sizes = rw long z;
+    in-table = omega arith;
+    in-range = λ k u. absurd (omega arith);
+    listed = listed-start (nodeAt rows) nc (slotsOf (length rows)) (indexAt nc (length rows)) (putMid o (length s - o) s ys)
+        (let a = z .scratch in let l = long in omega arith) (λ k u h. (let l = long in zero-at k (omega arith) (omega arith)));
+  }
+
+  pub notes-blank : take (indexAt nc (length rows)) (putMid o (length s - o) s ys) ≡ take (indexAt nc (length rows)) s
+  notes-blank = rw (← b, blanked) (let l = length-take-le o s in-scratch in take-append-le o (take o s) (replicate (length s - o) 0) (omega arith) ∙ take-take o o s (omega arith))
+
+-- ---- in the form of needs
+
+pub notes-on : (k : ℕ) (s s′ s₀ : List ℕ) → take k s′ ≡ take k s → take k s ≡ take k s₀ → take k s′ ≡ take k s₀
+notes-on k s s′ s₀ e f = e ∙ f
+
+pub free-at : (s : List ℕ) (nc : ℕ) (rows : List ℕ) (k o n : ℕ) → o ≡ indexAt nc (length rows) → n ≡ getD s (o + 2 * nc + k) 0 → eqb n 0 ≡ isFree s nc rows k
+free-at s nc rows k o n e f = rw (← e, ← f)
+
+pub named-at : (nc : ℕ) (rows : List ℕ) (n k : ℕ) → Named nc rows n → k < n → nodeAt rows k < nc
+named-at nc rows n k h l = h k l
+
+pub exact-end : (s : List ℕ) (nc : ℕ) (rows : List ℕ) (k n : ℕ) → k ≤ n → n ≤ k → Exact s nc rows k → Exact s nc rows n
+exact-end s nc rows k n a b x = let q : k ≡ n = omega arith in rw q at x
+
+-- ---- all rows
+
+-- no slot of a later row is in, where the next row's first is not
+pub exact-ready : (s : List ℕ) (nc : ℕ) (rows : List ℕ) (i : ℕ) (b : Bool) → Ready s nc rows i → b ≡ isFree s nc rows (3 * i) → b ≡ true → Exact s nc rows (3 * i)
+unfolding Ready
+exact-ready s nc rows i b r e f =
+    let o : ℕ = indexAt nc (length rows) in
+    let l = r .listed in
+    let a = listed-free (r .names) nc (slotsOf (length rows)) o (r .held) (3 * i) s l (eqb-true (getD s (o + 2 * nc + 3 * i) 0) 0 (sym e ∙ f)) in
+    let g = r .enough in
+    let q : r .held ≡ 3 * i = omega arith in
+    record {
+      sizes = r .sizes;
+      in-table = let c = r .in-table in omega arith;
+      in-range = λ k u. (let c = r .same k u in let d = r .in-range k (omega arith) in omega arith);
+      listed = listed-agree (r .names) nc (slotsOf (length rows)) o (nodeAt rows) (3 * i) s (r .same) (rw q at l);
+    }
+
+pub ready-exact : (s : List ℕ) (nc : ℕ) (rows : List ℕ) (i : ℕ) → Exact s nc rows (3 * i + 3) → Ready s nc rows (i + 1)
+unfolding Ready
+ready-exact s nc rows i x = record {
+  sizes = x .sizes;
+  held = 3 * i + 3;
+  names = nodeAt rows;
+  enough = omega arith;
+  in-table = x .in-table;
+  in-range = x .in-range;
+  same = λ k u. refl;
+  listed = x .listed;
+}
+
+corners-in : (nc : ℕ) (w : Tri) → Corners nc w → (c : ℕ) → cornerOf w c < nc
+unfolding cornerOf
+corners-in nc w h zero = h .p-in
+corners-in nc w h (suc zero) = h .q-in
+corners-in nc w h (suc (suc c)) = h .r-in
+
+-- the rows that are in name nodes in range, and so does the next
+pub ready-named : (s : List ℕ) (nc : ℕ) (rows : List ℕ) (i : ℕ) → Ready s nc rows i → Corners nc (rowAt rows i) → Named nc rows (3 * i + 3)
+unfolding Ready
+ready-named s nc rows i r c k u = go (ltb k (3 * i)) refl
+  where
+    go : (b : Bool) → ltb k (3 * i) ≡ b → nodeAt rows k < nc
+    go true q = let h = ltb-true k (3 * i) q in let e = r .same k h in let a = r .enough in let d = r .in-range k (omega arith) in omega arith
+    go false q =
+        let h = ltb-false k (3 * i) q in
+        let a : k / 3 ≡ i = omega arith in
+        rw (slot-corner rows k, a) (corners-in nc (rowAt rows i) c (k % 3))

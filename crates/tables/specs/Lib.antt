@@ -6,3 +6,4 @@ pub mod Slots
 pub mod Ready
 pub mod Walk
 pub mod Join
+pub mod Turns

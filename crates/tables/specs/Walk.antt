@@ -23,9 +23,13 @@ use Rattle.tables.specs.Sized.{indexAt}
 use Rattle.tables.specs.Slots.{top, many, top-le, top-key, many-top, many-here, many-none}
 use Rattle.tables.specs.Ready.{Ready, Indexed, nodeAt}
 
--- of two nodes the one that fewer slots name; z is where the counts stand
-abbrev pub rarer : List ℕ → ℕ → ℕ → ℕ → ℕ
-rarer s z x y = cases (leb (getD s (z + x) 0) (getD s (z + y) 0)) x y
+-- how many slots name node v, by the index
+abbrev pub countAt : List ℕ → ℕ → List ℕ → ℕ → ℕ
+countAt s nc rows v = getD s (indexAt nc (length rows) + nc + v) 0
+
+-- of two nodes the one that fewer slots name
+abbrev pub rarer : List ℕ → ℕ → List ℕ → ℕ → ℕ → ℕ
+rarer s nc rows x y = cases (leb (countAt s nc rows x) (countAt s nc rows y)) x y
 
 -- slot k is one of the first t rows', and its row holds x→y
 unfoldable pub hits : List ℕ → ℕ → ℕ → ℕ → ℕ → Bool
@@ -178,22 +182,22 @@ module _ (rows : List ℕ) (t x y k : ℕ) (f : Found) where
 
 -- ---- which end
 
-module _ (s : List ℕ) (z x y : ℕ) where
-  pub rarer-x : getD s (z + x) 0 ≤ getD s (z + y) 0 → x ≡ rarer s z x y
-  rarer-x h = rw (le-leb (getD s (z + x) 0) (getD s (z + y) 0) h)
+module _ (s : List ℕ) (nc : ℕ) (rows : List ℕ) (x y : ℕ) where
+  pub rarer-x : (o : ℕ) → o ≡ indexAt nc (length rows) → getD s (o + nc + x) 0 ≤ getD s (o + nc + y) 0 → x ≡ rarer s nc rows x y
+  rarer-x o e h = rw (le-leb (countAt s nc rows x) (countAt s nc rows y) (rw e at h))
 
-  pub rarer-y : getD s (z + y) 0 < getD s (z + x) 0 → y ≡ rarer s z x y
-  rarer-y h = rw (lt-leb (getD s (z + x) 0) (getD s (z + y) 0) h)
+  pub rarer-y : (o : ℕ) → o ≡ indexAt nc (length rows) → getD s (o + nc + y) 0 < getD s (o + nc + x) 0 → y ≡ rarer s nc rows x y
+  rarer-y o e h = rw (lt-leb (countAt s nc rows x) (countAt s nc rows y) (rw e at h))
 
-  pub rarer-end : (v : ℕ) → v ≡ rarer s z x y → EndOf x y v
-  rarer-end v e = rw e (go (leb (getD s (z + x) 0) (getD s (z + y) 0)))
+  pub rarer-end : (v : ℕ) → v ≡ rarer s nc rows x y → EndOf x y v
+  rarer-end v e = rw e (go (leb (countAt s nc rows x) (countAt s nc rows y)))
     where
       go : (c : Bool) → EndOf x y (cases c x y)
       go true = from-x
       go false = from-y
 
-  pub rarer-below : (v nc : ℕ) → v ≡ rarer s z x y → x < nc → y < nc → v < nc
-  rarer-below v nc e a b = go (rarer-end v e)
+  pub rarer-below : (v : ℕ) → v ≡ rarer s nc rows x y → x < nc → y < nc → v < nc
+  rarer-below v e a b = go (rarer-end v e)
     where
       go : {v : ℕ} → EndOf x y v → v < nc
       go from-x = a

@@ -2,23 +2,22 @@
 // `indexAt` are notes of the running call; from there on stands the index of the search, which only this crate reads and writes.
 ghost use mathlib.Core.Path.{_≡_};
 ghost use mathlib.Core.List.{_++_};
-ghost use Prim.Native.Nat.{_+_, _-_, _*_, _/_, _≤_, _<_};
+ghost use Prim.Native.Nat.{_+_, _*_, _≤_, _<_};
 ghost use lib.ListN.{length, take, drop, replicate, getD, set};
-ghost use Rattle.lists.specs.declared.Found.the-variants.{At};
-ghost use Rattle.lists.specs.Lists.{isFound, cases};
+ghost use Rattle.lists.specs.Lists.{isFound};
 ghost use lib.IntN.{pos};
 ghost use Rattle.lists.specs.Search.{lowest, items};
 ghost use Rattle.meaning.specs.Mesh.{arrow, holdsArrow};
 ghost use Rattle.meaning.specs.Tables.{rowAt, placeAt, flatRows, flatNodes, filled};
 ghost use Rattle.tables.specs.Arrow.{arrowAt};
 ghost use Rattle.tables.specs.Put.{setRow, setPlace};
-ghost use Rattle.tables.specs.Sized.{Sized, indexAt, slotsOf, Corners};
-ghost use Rattle.tables.specs.Ready.{Ready, nodeAt};
-ghost use Rattle.tables.specs.Walk.{rarer, hits, EndOf};
-ghost use Rattle.tables.specs.Join.{Named, Exact, isFree};
+ghost use Rattle.tables.specs.Sized.{indexAt, Corners};
+ghost use Rattle.tables.specs.Ready.{Ready};
 use lists::Found;
 use meaning::Place;
 use meaning::Tri;
+
+mod index; // index.rt: the index of the neighbour search
 
 // ---- rows and places
 
@@ -165,70 +164,6 @@ fn edge_at(rows: &[u32], x: u32, y: u32, i: usize) -> bool
     has_edge(row_at(rows, i), x, y)
 }
 
-// Where the index begins in scratch. From there on stand, for each node, the number of the highest slot that names it; for each node,
-// how many slots do; for each slot, one more than the number of the next lower slot that names the same node. Slot k is number k of the
-// triangle table, and its number is k + 1.
-fn index_at(rows: &[u32], nc: usize) -> usize
-    requires { ⌜ nc ≤ 65_536 ⌝ }
-    ensures { λ r. ⌜ r ≡ indexAt nc (length (now (rows .entry))) ⌝ }
-{
-    2 * nc + rows.len() / 3
-}
-
-// Of two nodes the one that fewer slots name. The counts stand at z and on.
-fn rarer(scratch: &[u32], z: usize, x: u32, y: u32) -> u32
-    requires { ⌜ z + x < length (now scratch) ⌝ }
-    requires { ⌜ z + y < length (now scratch) ⌝ }
-    ensures { λ r. ⌜ r ≡ rarer (now (scratch .entry)) z x y ⌝ }
-{
-    if scratch[z + x as usize] <= scratch[z + y as usize] {
-        return x;
-    }
-    y
-}
-
-// The last hit, when slot k is met.
-fn seen(rows: &[u32], t: usize, x: u32, y: u32, k: usize, f: Found) -> Found
-    requires { ⌜ 3 * t ≤ length (now rows) ⌝ }
-    ensures { λ r. ⌜ r ≡ cases (hits (now (rows .entry)) t x y k) (At (k / 3)) f ⌝ }
-{
-    if k >= 3 * t {
-        return f;
-    }
-    if edge_at(rows, x, y, k / 3) {
-        return Found::At(k / 3);
-    }
-    f
-}
-
-// The slot of number m.
-fn slot(m: u32) -> usize
-    requires { ⌜ (m ≡ 0 → ⊥) ⌝ }
-    ensures { λ r. ⌜ r ≡ m - 1 ⌝ }
-{
-    m as usize - 1
-}
-
-// Along the slots that name v, one end of x→y: as many turns as there are. They fall, so that the last hit is the lowest row.
-fn walk(rows: &[u32], scratch: &[u32], nc: usize, t: usize, x: u32, y: u32, v: u32) -> Found
-    requires { ⌜ Ready (now scratch) nc (now rows) t ⌝ }
-    requires { ⌜ v < nc ⌝ }
-    requires { ⌜ EndOf x y v ⌝ }
-    ensures { λ r. ⌜ r ≡ lowest (arrowAt (now (rows .entry)) x y) 0 t ⌝ }
-{
-    let o = index_at(rows, nc);
-    let mut m = note_at(scratch, o + v as usize);
-    let mut left = note_at(scratch, o + nc + v as usize);
-    let mut f = Found::Nothing;
-    while left != 0 {
-        let k = slot(m);
-        f = seen(rows, t, x, y, k, f);
-        m = note_at(scratch, o + 2 * nc + k) - 1;
-        left -= 1;
-    }
-    f
-}
-
 // The lowest of the first t rows that holds x→y. The index of these rows stands in scratch.
 pub fn find_edge(rows: &[u32], scratch: &[u32], nc: usize, t: usize, x: u32, y: u32) -> Found
     requires { ⌜ Ready (now scratch) nc (now rows) t ⌝ }
@@ -240,62 +175,8 @@ pub fn find_edge(rows: &[u32], scratch: &[u32], nc: usize, t: usize, x: u32, y: 
     if y as usize >= nc {
         return Found::Nothing;
     }
-    let v = rarer(scratch, index_at(rows, nc) + nc, x, y);
-    walk(rows, scratch, nc, t, x, y, v)
-}
-
-// ---- the index grows
-
-// Slot k joins the index, which holds the slots below it and no others.
-fn join_slot(rows: &[u32], scratch: &mut [u32], nc: usize, k: usize)
-    requires { ⌜ Exact (now scratch) nc (now rows) k ⌝ }
-    requires { ⌜ k < slotsOf (length (now rows)) ⌝ }
-    requires { ⌜ nodeAt (now rows) k < nc ⌝ }
-    ensures notes { λ _. ⌜ take (indexAt nc (length (now (rows .entry)))) (now (scratch .exit)) ≡ take (indexAt nc (length (now (rows .entry)))) (now (scratch .entry)) ⌝ }
-    ensures exact { λ _. ⌜ Exact (now (scratch .exit)) nc (now (rows .entry)) (k + 1) ⌝ }
-{
-    let o = index_at(rows, nc);
-    let v = note_at(rows, k);
-    let highest = note_at(scratch, o + v as usize);
-    let many = note_at(scratch, o + nc + v as usize);
-    put_note(scratch, o + 2 * nc + k, highest + 1);
-    put_note(scratch, o + v as usize, k as u32 + 1);
-    put_note(scratch, o + nc + v as usize, many + 1);
-}
-
-// The slots from `from` up to n join the index, which holds those below and no others.
-fn join_slots(rows: &[u32], scratch: &mut [u32], nc: usize, from: usize, n: usize)
-    requires { ⌜ Exact (now scratch) nc (now rows) from ⌝ }
-    requires { ⌜ from ≤ n ⌝ }
-    requires { ⌜ n ≤ slotsOf (length (now rows)) ⌝ }
-    requires { ⌜ Named nc (now rows) n ⌝ }
-    ensures notes { λ _. ⌜ take (indexAt nc (length (now (rows .entry)))) (now (scratch .exit)) ≡ take (indexAt nc (length (now (rows .entry)))) (now (scratch .entry)) ⌝ }
-    ensures exact { λ _. ⌜ Exact (now (scratch .exit)) nc (now (rows .entry)) n ⌝ }
-{
-    let mut k = from;
-    while k < n {
-        join_slot(rows, scratch, nc, k);
-        k += 1;
-    }
-}
-
-// No slot is in the index after.
-fn clear_index(rows: &[u32], scratch: &mut [u32], nc: usize)
-    requires { ⌜ Sized nc (length (now rows)) (length (now scratch)) ⌝ }
-    ensures notes { λ _. ⌜ take (indexAt nc (length (now (rows .entry)))) (now (scratch .exit)) ≡ take (indexAt nc (length (now (rows .entry)))) (now (scratch .entry)) ⌝ }
-    ensures exact { λ _. ⌜ Exact (now (scratch .exit)) nc (now (rows .entry)) 0 ⌝ }
-{
-    let o = index_at(rows, nc);
-    clear(&mut scratch[o..]);
-}
-
-// Slot k is not in the index.
-fn is_free(rows: &[u32], scratch: &[u32], nc: usize, k: usize) -> bool
-    requires { ⌜ Sized nc (length (now rows)) (length (now scratch)) ⌝ }
-    requires { ⌜ k < slotsOf (length (now rows)) ⌝ }
-    ensures { λ r. ⌜ r ≡ isFree (now (scratch .entry)) nc (now (rows .entry)) k ⌝ }
-{
-    note_at(scratch, index_at(rows, nc) + 2 * nc + k) == 0
+    let v = index::rarer(rows, scratch, nc, x, y);
+    index::walk(rows, scratch, nc, t, x, y, v)
 }
 
 // Row i joins the index, which holds the rows below it. No note changes. Where rows that were cut off are still in, it is made anew.
@@ -306,10 +187,10 @@ pub fn add_row(rows: &[u32], scratch: &mut [u32], nc: usize, i: usize)
     ensures notes { λ _. ⌜ take (indexAt nc (length (now (rows .entry)))) (now (scratch .exit)) ≡ take (indexAt nc (length (now (rows .entry)))) (now (scratch .entry)) ⌝ }
     ensures ready { λ _. ⌜ Ready (now (scratch .exit)) nc (now (rows .entry)) (i + 1) ⌝ }
 {
-    if is_free(rows, scratch, nc, 3 * i) {
-        join_slots(rows, scratch, nc, 3 * i, 3 * i + 3);
+    if index::is_free(rows, scratch, nc, 3 * i) {
+        index::join_slots(rows, scratch, nc, 3 * i, 3 * i + 3);
         return;
     }
-    clear_index(rows, scratch, nc);
-    join_slots(rows, scratch, nc, 0, 3 * i + 3);
+    index::clear_index(rows, scratch, nc);
+    index::join_slots(rows, scratch, nc, 0, 3 * i + 3);
 }

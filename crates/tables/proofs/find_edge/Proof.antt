@@ -10,14 +10,6 @@ returns c = search (needs, outside-x)
 returns-2 : tie.Need-returns-2
 returns-2 c = search (needs, outside-y)
 
-index-at-requires : tie.Need-index-at-requires
-unfolding Ready
-index-at-requires c κs = search needs
-
-add-rarer : tie.Need-add-rarer
-unfolding Ready
-add-rarer c = search needs
-
 rarer-requires : tie.Need-rarer-requires
 unfolding Ready
 rarer-requires c κs = search needs
@@ -26,7 +18,5 @@ walk-requires : tie.Need-walk-requires
 walk-requires c κs = (search needs, (search (needs, rarer-below), search (needs, rarer-end)))
 
 pub find-edge-spec : {M : Type 1} → statement M
-find-edge-spec =
-    tie.close
-    (tie.spec
-    returns returns-2 index-at-requires add-rarer rarer-requires walk-requires (λ c. search needs))
+find-edge-spec = tie.close (tie.spec
+    returns returns-2 rarer-requires walk-requires (λ c. search needs))

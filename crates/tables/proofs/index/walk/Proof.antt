@@ -1,8 +1,8 @@
 use Rattle.tables.specs.Ready.{Ready}
 use Rattle.tables.specs.Walk.{Walk, walk-start, walk-rows, walk-some, walk-room, walk-next, walk-turn, walk-end}
 use borrow.Author.Needs.{needs}
-use Rattle.tables.proofs.walk.Statement.{statement}
-use Rattle.tables.proofs.walk.Tie as tie
+use Rattle.tables.proofs.index.walk.Statement.{statement}
+use Rattle.tables.proofs.index.walk.Tie as tie
 
 abbrev Inv-loop : tie.InvT-loop
 Inv-loop rows scratch nc t x y v o m₀ left₀ f₀ m left f = Walk scratch nc rows t x y v m left f

@@ -4,8 +4,8 @@ use lib.ListN.{length, take}
 use Rattle.tables.specs.Sized.{indexAt}
 use Rattle.tables.specs.Join.{Exact, exact-end, notes-on, named-at}
 use borrow.Author.Needs.{needs}
-use Rattle.tables.proofs.join_slots.Statement.{statement}
-use Rattle.tables.proofs.join_slots.Tie as tie
+use Rattle.tables.proofs.index.join_slots.Statement.{statement}
+use Rattle.tables.proofs.index.join_slots.Tie as tie
 
 abbrev Inv-loop : tie.InvT-loop
 Inv-loop rows scratch₀ nc from n k₀ scratch k = (k ≤ n) × (length scratch ≡ length scratch₀) × (take (indexAt nc (length rows)) scratch ≡ take (indexAt nc (length rows)) scratch₀) × Exact scratch nc rows k

@@ -1,7 +1,7 @@
 use Rattle.tables.specs.Join.{head-small, count-small, exact-join, notes-join}
 use borrow.Author.Needs.{needs}
-use Rattle.tables.proofs.join_slot.Statement.{statement}
-use Rattle.tables.proofs.join_slot.Tie as tie
+use Rattle.tables.proofs.index.join_slot.Statement.{statement}
+use Rattle.tables.proofs.index.join_slot.Tie as tie
 
 add-put-note-3 : tie.Need-add-put-note-3
 add-put-note-3 c = search (needs, head-small)

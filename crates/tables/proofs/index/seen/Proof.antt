@@ -1,8 +1,8 @@
 use native.Mathlib.Omega.{arith}
 use Rattle.tables.specs.Walk.{seen-past, seen-hit, seen-other}
 use borrow.Author.Needs.{needs}
-use Rattle.tables.proofs.seen.Statement.{statement}
-use Rattle.tables.proofs.seen.Tie as tie
+use Rattle.tables.proofs.index.seen.Statement.{statement}
+use Rattle.tables.proofs.index.seen.Tie as tie
 
 returns : tie.Need-returns
 returns c = seen-past _ _ _ _ _ _ (omega arith)

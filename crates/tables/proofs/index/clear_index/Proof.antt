@@ -1,7 +1,7 @@
 use Rattle.tables.specs.Join.{exact-blank, notes-blank}
 use borrow.Author.Needs.{needs}
-use Rattle.tables.proofs.clear_index.Statement.{statement}
-use Rattle.tables.proofs.clear_index.Tie as tie
+use Rattle.tables.proofs.index.clear_index.Statement.{statement}
+use Rattle.tables.proofs.index.clear_index.Tie as tie
 
 returns : tie.Need-returns
 returns c = (search (needs, notes-blank), search (needs, exact-blank))

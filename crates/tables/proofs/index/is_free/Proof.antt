@@ -1,7 +1,7 @@
 use Rattle.tables.specs.Join.{free-at}
 use borrow.Author.Needs.{needs}
-use Rattle.tables.proofs.is_free.Statement.{statement}
-use Rattle.tables.proofs.is_free.Tie as tie
+use Rattle.tables.proofs.index.is_free.Statement.{statement}
+use Rattle.tables.proofs.index.is_free.Tie as tie
 
 returns : tie.Need-returns
 returns c = search (needs, free-at)

@@ -1,0 +1,137 @@
+// The index of the neighbour search, in scratch from `indexAt` on. Slot k is number k of the triangle table: it names a node, and it is
+// in row k / 3. A slot's number is k + 1, and 0 is none. With o for `indexAt` and nc for the room of nodes:
+//   o + v           the number of the highest slot that names node v
+//   o + nc + v      how many slots name it
+//   o + 2 nc + k    one more than the number of the next lower slot that names the node of slot k; 0 where slot k is not in
+ghost use mathlib.Core.Path.{_≡_};
+ghost use Prim.Native.Nat.{_+_, _-_, _*_, _/_, _≤_, _<_};
+ghost use lib.ListN.{length, take};
+ghost use Rattle.lists.specs.declared.Found.the-variants.{At};
+ghost use Rattle.lists.specs.Lists.{cases};
+ghost use Rattle.lists.specs.Search.{lowest};
+ghost use Rattle.tables.specs.Arrow.{arrowAt};
+ghost use Rattle.tables.specs.Sized.{Sized, indexAt, slotsOf};
+ghost use Rattle.tables.specs.Ready.{Ready, nodeAt};
+ghost use Rattle.tables.specs.Walk.{rarer, hits, EndOf};
+ghost use Rattle.tables.specs.Join.{Named, Exact, isFree};
+use lists::Found;
+
+// Where it begins.
+fn index_at(rows: &[u32], nc: usize) -> usize
+    requires { ⌜ nc ≤ 65_536 ⌝ }
+    ensures { λ r. ⌜ r ≡ indexAt nc (length (now (rows .entry))) ⌝ }
+{
+    2 * nc + rows.len() / 3
+}
+
+// ---- a search
+
+// Of two nodes the one that fewer slots name.
+pub fn rarer(rows: &[u32], scratch: &[u32], nc: usize, x: u32, y: u32) -> u32
+    requires { ⌜ Sized nc (length (now rows)) (length (now scratch)) ⌝ }
+    requires { ⌜ x < nc ⌝ }
+    requires { ⌜ y < nc ⌝ }
+    ensures { λ r. ⌜ r ≡ rarer (now (scratch .entry)) nc (now (rows .entry)) x y ⌝ }
+{
+    let o = index_at(rows, nc);
+    if scratch[o + nc + x as usize] <= scratch[o + nc + y as usize] {
+        return x;
+    }
+    y
+}
+
+// The last hit, when slot k is met.
+fn seen(rows: &[u32], t: usize, x: u32, y: u32, k: usize, f: Found) -> Found
+    requires { ⌜ 3 * t ≤ length (now rows) ⌝ }
+    ensures { λ r. ⌜ r ≡ cases (hits (now (rows .entry)) t x y k) (At (k / 3)) f ⌝ }
+{
+    if k >= 3 * t {
+        return f;
+    }
+    if crate::edge_at(rows, x, y, k / 3) {
+        return Found::At(k / 3);
+    }
+    f
+}
+
+// The slot of number m.
+fn slot(m: u32) -> usize
+    requires { ⌜ (m ≡ 0 → ⊥) ⌝ }
+    ensures { λ r. ⌜ r ≡ m - 1 ⌝ }
+{
+    m as usize - 1
+}
+
+// Along the slots that name v, one end of x→y: as many turns as there are. They fall, so that the last hit is the lowest row.
+pub fn walk(rows: &[u32], scratch: &[u32], nc: usize, t: usize, x: u32, y: u32, v: u32) -> Found
+    requires { ⌜ Ready (now scratch) nc (now rows) t ⌝ }
+    requires { ⌜ v < nc ⌝ }
+    requires { ⌜ EndOf x y v ⌝ }
+    ensures { λ r. ⌜ r ≡ lowest (arrowAt (now (rows .entry)) x y) 0 t ⌝ }
+{
+    let o = index_at(rows, nc);
+    let mut m = crate::note_at(scratch, o + v as usize);
+    let mut left = crate::note_at(scratch, o + nc + v as usize);
+    let mut f = Found::Nothing;
+    while left != 0 {
+        let k = slot(m);
+        f = seen(rows, t, x, y, k, f);
+        m = crate::note_at(scratch, o + 2 * nc + k) - 1;
+        left -= 1;
+    }
+    f
+}
+
+// ---- rows join
+
+// Slot k joins the index, which holds the slots below it and no others.
+fn join_slot(rows: &[u32], scratch: &mut [u32], nc: usize, k: usize)
+    requires { ⌜ Exact (now scratch) nc (now rows) k ⌝ }
+    requires { ⌜ k < slotsOf (length (now rows)) ⌝ }
+    requires { ⌜ nodeAt (now rows) k < nc ⌝ }
+    ensures notes { λ _. ⌜ take (indexAt nc (length (now (rows .entry)))) (now (scratch .exit)) ≡ take (indexAt nc (length (now (rows .entry)))) (now (scratch .entry)) ⌝ }
+    ensures exact { λ _. ⌜ Exact (now (scratch .exit)) nc (now (rows .entry)) (k + 1) ⌝ }
+{
+    let o = index_at(rows, nc);
+    let v = crate::note_at(rows, k);
+    let highest = crate::note_at(scratch, o + v as usize);
+    let many = crate::note_at(scratch, o + nc + v as usize);
+    crate::put_note(scratch, o + 2 * nc + k, highest + 1);
+    crate::put_note(scratch, o + v as usize, k as u32 + 1);
+    crate::put_note(scratch, o + nc + v as usize, many + 1);
+}
+
+// The slots from `from` up to n join the index, which holds those below and no others.
+pub fn join_slots(rows: &[u32], scratch: &mut [u32], nc: usize, from: usize, n: usize)
+    requires { ⌜ Exact (now scratch) nc (now rows) from ⌝ }
+    requires { ⌜ from ≤ n ⌝ }
+    requires { ⌜ n ≤ slotsOf (length (now rows)) ⌝ }
+    requires { ⌜ Named nc (now rows) n ⌝ }
+    ensures notes { λ _. ⌜ take (indexAt nc (length (now (rows .entry)))) (now (scratch .exit)) ≡ take (indexAt nc (length (now (rows .entry)))) (now (scratch .entry)) ⌝ }
+    ensures exact { λ _. ⌜ Exact (now (scratch .exit)) nc (now (rows .entry)) n ⌝ }
+{
+    let mut k = from;
+    while k < n {
+        join_slot(rows, scratch, nc, k);
+        k += 1;
+    }
+}
+
+// No slot is in the index after.
+pub fn clear_index(rows: &[u32], scratch: &mut [u32], nc: usize)
+    requires { ⌜ Sized nc (length (now rows)) (length (now scratch)) ⌝ }
+    ensures notes { λ _. ⌜ take (indexAt nc (length (now (rows .entry)))) (now (scratch .exit)) ≡ take (indexAt nc (length (now (rows .entry)))) (now (scratch .entry)) ⌝ }
+    ensures exact { λ _. ⌜ Exact (now (scratch .exit)) nc (now (rows .entry)) 0 ⌝ }
+{
+    let o = index_at(rows, nc);
+    crate::clear(&mut scratch[o..]);
+}
+
+// Slot k is not in the index.
+pub fn is_free(rows: &[u32], scratch: &[u32], nc: usize, k: usize) -> bool
+    requires { ⌜ Sized nc (length (now rows)) (length (now scratch)) ⌝ }
+    requires { ⌜ k < slotsOf (length (now rows)) ⌝ }
+    ensures { λ r. ⌜ r ≡ isFree (now (scratch .entry)) nc (now (rows .entry)) k ⌝ }
+{
+    crate::note_at(scratch, index_at(rows, nc) + 2 * nc + k) == 0
+}

@@ -9,12 +9,12 @@ use borrow.Rule.Slice.PartMut.{putMid, midOf}
 use lib.Dec.{eqb, ltb}
 use borrow.Author.Tests.{eqb-true, ltb-true, ltb-false}
 use lib.ListN.{length, getD, set, take, replicate, length-append, length-replicate, getD-replicate}
-use lib.Seq.{take-set-le, length-take-le, take-append-le, take-take, getD-append-add}
+use lib.Seq.{length-take-le, take-append-le, take-take, getD-append-add}
 use Rattle.meaning.specs.declared.Tri.{Tri}
 use Rattle.meaning.specs.Tables.{rowAt}
 use Rattle.tables.specs.Sized.{Sized, Corners, indexAt, slotsOf}
 use Rattle.tables.specs.PutLaw.{tail-filled}
-use Rattle.tables.specs.Slots.{Listed, joinSlot, top, many, top-le, many-le, three-length, listed-start, listed-agree, listed-free, listed-join}
+use Rattle.tables.specs.Slots.{Listed, joinSlot, top-le, many-le, join-length, join-take, listed-start, listed-agree, listed-free, listed-join}
 use Rattle.tables.specs.Ready.{Ready, nodeAt, cornerOf, slot-corner}
 
 -- the first n slots name nodes below nc
@@ -34,48 +34,38 @@ isFree scratch nc rows k = eqb (getD scratch (indexAt nc (length rows) + 2 * nc 
 
 -- ---- one slot
 
+pub slot-put : (nc o k v a c : ℕ) (s s₁ s₂ s₃ : List ℕ) → a ≡ getD s (o + v) 0 → c ≡ getD s (o + nc + v) 0 → s₁ ≡ set s (o + 2 * nc + k) (a + 1) → s₂ ≡ set s₁ (o + v) (k + 1) →
+    s₃ ≡ set s₂ (o + nc + v) (c + 1) → s₃ ≡ joinSlot nc o k v s
+unfolding joinSlot
+slot-put nc o k v a c s s₁ s₂ s₃ e f g₁ g₂ g₃ = rw (← e, ← f, ← g₁, ← g₂) g₃
+
 module _ (s : List ℕ) (nc : ℕ) (rows : List ℕ) (k o v : ℕ) (x : Exact s nc rows k) (b : o ≡ indexAt nc (length rows)) (i : v ≡ nodeAt rows k) (r : nodeAt rows k < nc) where
-  -- its numbers fit
-  pub head-small : (a : ℕ) → a ≡ getD s (o + v) 0 → a + 1 < 2 ^ 32
-  head-small a f =
-      let e : getD s (o + v) 0 ≡ top (nodeAt rows) v k = rw b (x .listed .heads v (omega arith)) in
-      let t = top-le (nodeAt rows) v k in let c = x .in-table in let d = x .sizes .few-rows in omega arith
+  -- no more slots than have joined
+  pub head-small : getD s (o + v) 0 ≤ k
+  head-small = rw (b, x .listed .heads v (omega arith)) (top-le (nodeAt rows) v k)
 
-  pub count-small : (a : ℕ) → a ≡ getD s (o + nc + v) 0 → a + 1 < 2 ^ 32
-  count-small a f =
-      let e : getD s (o + nc + v) 0 ≡ many (nodeAt rows) v k = rw b (x .listed .counts v (omega arith)) in
-      let t = many-le (nodeAt rows) v k in let c = x .in-table in let d = x .sizes .few-rows in omega arith
+  pub count-small : getD s (o + nc + v) 0 ≤ k
+  count-small = rw (b, x .listed .counts v (omega arith)) (many-le (nodeAt rows) v k)
 
-  module _ (h : k < slotsOf (length rows)) (a c : ℕ) (s₁ s₂ s₃ : List ℕ) (e : a ≡ getD s (o + v) 0) (f : c ≡ getD s (o + nc + v) 0)
-      (g₁ : s₁ ≡ set s (o + 2 * nc + k) (a + 1)) (g₂ : s₂ ≡ set s₁ (o + v) (k + 1)) (g₃ : s₃ ≡ set s₂ (o + nc + v) (c + 1)) where
-    slot-put : s₃ ≡ joinSlot nc (indexAt nc (length rows)) k (nodeAt rows k) s
-    unfolding joinSlot
-    slot-put = rw (← i, ← b, ← e, ← f, ← g₁, ← g₂) g₃
-
-    pub exact-join : Exact s₃ nc rows (k + 1)
+  module _ (h : k < slotsOf (length rows)) (s′ : List ℕ) (e : s′ ≡ joinSlot nc o k v s) where
+    pub exact-join : Exact s′ nc rows (k + 1)
     exact-join =
-        let o′ : ℕ = indexAt nc (length rows) in
-        let fits : o′ + 2 * nc + slotsOf (length rows) ≤ length s = (let z = x .sizes .scratch in omega arith) in
-        let l : length s₃ ≡ length s = join-length in
+        let l : length s′ ≡ length s = rw e (join-length nc o k v s) in
+        let fits : indexAt nc (length rows) + 2 * nc + slotsOf (length rows) ≤ length s = (let z = x .sizes .scratch in omega arith) in
         let n : suc k ≡ k + 1 = omega arith in
         record {
           sizes = rw l (x .sizes);
           in-table = omega arith;
           in-range = λ j u. in-range-too j u (ℕ-discrete j k);
-          listed = rw slot-put (rw n at (listed-join (nodeAt rows) nc (slotsOf (length rows)) o′ k s r h fits (x .listed)));
+          listed = rw (e, i, b) (rw n at (listed-join (nodeAt rows) nc (slotsOf (length rows)) (indexAt nc (length rows)) k s r h fits (x .listed)));
         }
       where
-        join-length : length s₃ ≡ length s
-        join-length = rw (g₃, g₂, g₁) (three-length s (o + 2 * nc + k) (o + v) (o + nc + v) (a + 1) (k + 1) (c + 1))
-
         in-range-too : (j : ℕ) → j < k + 1 → Dec (j ≡ k) → nodeAt rows j < nc
         in-range-too j u (yes z) = rw z r
         in-range-too j u (no z) = x .in-range j (omega arith)
 
-    pub notes-join : take (indexAt nc (length rows)) s₃ ≡ take (indexAt nc (length rows)) s
-    notes-join = rw (← b) (rw (g₃, g₂, g₁)
-        (take-set-le o (set (set s (o + 2 * nc + k) (a + 1)) (o + v) (k + 1)) (o + nc + v) (c + 1) (omega arith)
-        ∙ take-set-le o (set s (o + 2 * nc + k) (a + 1)) (o + v) (k + 1) (omega arith) ∙ take-set-le o s (o + 2 * nc + k) (a + 1) (omega arith)))
+pub notes-join : (s s′ : List ℕ) (nc : ℕ) (rows : List ℕ) (k o v : ℕ) → o ≡ indexAt nc (length rows) → s′ ≡ joinSlot nc o k v s → take (indexAt nc (length rows)) s′ ≡ take (indexAt nc (length rows)) s
+notes-join s s′ nc rows k o v b e = rw (e, ← b) (join-take nc o k v s)
 
 -- ---- no slot: what stands from `indexAt` on is zero
 

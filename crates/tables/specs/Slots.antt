@@ -9,8 +9,8 @@ use native.Mathlib.Omega.{arith}
 use native.Mathlib.Decide.{ℕ-discrete}
 use borrow.Author.Tests.{eqb-true, eq-eqb, ne-eqb, ltb-true, ltb-false}
 use lib.Dec.{eqb, ltb}
-use lib.ListN.{length, getD, set, length-set}
-use lib.Seq.{getD-set-same, getD-set-other}
+use lib.ListN.{length, getD, set, take, length-set}
+use lib.Seq.{getD-set-same, getD-set-other, take-set-le}
 use Rattle.lists.specs.Lists.{cases, sucIf}
 
 -- the highest slot below n with the key v, one too large; 0 where there is none
@@ -107,7 +107,7 @@ module _ (key key′ : ℕ → ℕ) (v : ℕ) where
 -- ---- what is read after three puts
 
 module _ (s : List ℕ) (a b c x y z : ℕ) where
-  pub three-length : length (putThree s a b c x y z) ≡ length s
+  three-length : length (putThree s a b c x y z) ≡ length s
   three-length = length-set (set (set s a x) b y) c z ∙ length-set (set s a x) b y ∙ length-set s a x
 
   three-first : a < length s → a ≢ b → a ≢ c → getD (putThree s a b c x y z) a 0 ≡ x
@@ -121,6 +121,19 @@ module _ (s : List ℕ) (a b c x y z : ℕ) where
 
   three-other : (p : ℕ) → p ≢ a → p ≢ b → p ≢ c → getD (putThree s a b c x y z) p 0 ≡ getD s p 0
   three-other p d e f = getD-set-other (set (set s a x) b y) c p z 0 f ∙ getD-set-other (set s a x) b p y 0 e ∙ getD-set-other s a p x 0 d
+
+module _ (keys o k v : ℕ) (s : List ℕ) where
+  pub join-length : length (joinSlot keys o k v s) ≡ length s
+  unfolding joinSlot
+  join-length = three-length s (o + 2 * keys + k) (o + v) (o + keys + v) _ _ _
+
+  -- nothing below o changes
+  pub join-take : take o (joinSlot keys o k v s) ≡ take o s
+  unfolding joinSlot
+  join-take =
+      take-set-le o (set (set s (o + 2 * keys + k) (getD s (o + v) 0 + 1)) (o + v) (k + 1)) (o + keys + v) (getD s (o + keys + v) 0 + 1) (omega arith)
+      ∙ take-set-le o (set s (o + 2 * keys + k) (getD s (o + v) 0 + 1)) (o + v) (k + 1) (omega arith)
+      ∙ take-set-le o s (o + 2 * keys + k) (getD s (o + v) 0 + 1) (omega arith)
 
 -- ---- laws of the lists
 

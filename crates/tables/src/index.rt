@@ -5,12 +5,13 @@
 //   o + 2 nc + k    one more than the number of the next lower slot that names the node of slot k; 0 where slot k is not in
 ghost use mathlib.Core.Path.{_≡_};
 ghost use Prim.Native.Nat.{_+_, _-_, _*_, _/_, _≤_, _<_};
-ghost use lib.ListN.{length, take};
+ghost use lib.ListN.{length, take, getD};
 ghost use Rattle.lists.specs.declared.Found.the-variants.{At};
 ghost use Rattle.lists.specs.Lists.{cases};
 ghost use Rattle.lists.specs.Search.{lowest};
 ghost use Rattle.tables.specs.Arrow.{arrowAt};
 ghost use Rattle.tables.specs.Sized.{Sized, indexAt, slotsOf};
+ghost use Rattle.tables.specs.Slots.{joinSlot};
 ghost use Rattle.tables.specs.Ready.{Ready, nodeAt};
 ghost use Rattle.tables.specs.Walk.{rarer, hits, EndOf};
 ghost use Rattle.tables.specs.Join.{Named, Exact, isFree};
@@ -84,6 +85,20 @@ pub fn walk(rows: &[u32], scratch: &[u32], nc: usize, t: usize, x: u32, y: u32, 
 
 // ---- rows join
 
+// Slot k, which names v, is put in front of the slots that name v. The index begins at o.
+fn put_slot(scratch: &mut [u32], o: usize, nc: usize, k: usize, v: u32)
+    requires { ⌜ (v < nc) × (k < 262_144) × (o + 2 * nc + k < length (now scratch)) ⌝ }
+    requires { ⌜ getD (now scratch) (o + v) 0 ≤ k ⌝ }
+    requires { ⌜ getD (now scratch) (o + nc + v) 0 ≤ k ⌝ }
+    ensures { λ _. ⌜ now (scratch .exit) ≡ joinSlot nc o k v (now (scratch .entry)) ⌝ }
+{
+    let highest = crate::note_at(scratch, o + v as usize);
+    let many = crate::note_at(scratch, o + nc + v as usize);
+    crate::put_note(scratch, o + 2 * nc + k, highest + 1);
+    crate::put_note(scratch, o + v as usize, k as u32 + 1);
+    crate::put_note(scratch, o + nc + v as usize, many + 1);
+}
+
 // Slot k joins the index, which holds the slots below it and no others.
 fn join_slot(rows: &[u32], scratch: &mut [u32], nc: usize, k: usize)
     requires { ⌜ Exact (now scratch) nc (now rows) k ⌝ }
@@ -93,12 +108,7 @@ fn join_slot(rows: &[u32], scratch: &mut [u32], nc: usize, k: usize)
     ensures exact { λ _. ⌜ Exact (now (scratch .exit)) nc (now (rows .entry)) (k + 1) ⌝ }
 {
     let o = index_at(rows, nc);
-    let v = crate::note_at(rows, k);
-    let highest = crate::note_at(scratch, o + v as usize);
-    let many = crate::note_at(scratch, o + nc + v as usize);
-    crate::put_note(scratch, o + 2 * nc + k, highest + 1);
-    crate::put_note(scratch, o + v as usize, k as u32 + 1);
-    crate::put_note(scratch, o + nc + v as usize, many + 1);
+    put_slot(scratch, o, nc, k, rows[k]);
 }
 
 // The slots from `from` up to n join the index, which holds those below and no others.

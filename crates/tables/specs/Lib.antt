@@ -6,4 +6,5 @@ pub mod Slots
 pub mod Ready
 pub mod Walk
 pub mod Join
+pub mod IndexCase
 pub mod Turns

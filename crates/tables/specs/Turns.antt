@@ -2,14 +2,14 @@
 -- directed edges of a lawful mesh that is never quadratic. Assumes nothing.
 use mathlib.Core.Bool.{Bool, true, false, _&&_}
 use mathlib.Core.List.{List, [], _∷_}
-use mathlib.Core.Path.{_≡_, refl, sym}
-use Prim.Native.Nat.{ℕ, zero, suc, min, _+_, _-_, _*_, _≤_}
+use mathlib.Core.Path.{_≡_, refl, sym, _∙_}
+use Prim.Native.Nat.{ℕ, zero, suc, min, _+_, _-_, _*_, _≤_, _<_}
 use native.Mathlib.Nat.{mul-le-mul, mul-le-mul-left}
 use native.Mathlib.Omega.{arith}
 use lib.Dec.{eqb, leb}
 use lib.ListN.{length, getD}
 use borrow.Author.Tests.{leb-true, leb-false}
-use Rattle.lists.specs.Lists.{count, sucIf, joined}
+use Rattle.lists.specs.Lists.{cases, count, sucIf, joined}
 use Rattle.lists.specs.ListsLaw.{All-of, count-append}
 use Rattle.lists.specs.ItemsLaw.{joined-append, items-none, items-snoc}
 use Rattle.lists.specs.Search.{items}
@@ -19,6 +19,8 @@ use Rattle.meaning.specs.Mesh.{Mesh, Arrow, tri, arrow, arrows, sameArrow}
 use Rattle.meaning.specs.Lawful.{Lawful}
 use Rattle.meaning.specs.Tables.{rowAt}
 use Rattle.tables.specs.Slots.{many}
+use Rattle.tables.specs.Walk.{countAt, rarer}
+use Rattle.tables.specs.Join.{Exact}
 
 -- how many of the directed edges go out of node v
 abbrev outOf : List Arrow → ℕ → ℕ
@@ -178,6 +180,19 @@ many-named l v (suc t) =
     let b = named-row l v t in
     let c = many-named l v t in
     rw e (omega arith)
+
+-- what the code counts down from as it walks: as many corners as are x, or are y, whichever are fewer
+pub search-turns : (s : List ℕ) (nc : ℕ) (rows : List ℕ) (t x y : ℕ) → Exact s nc rows (3 * t) → x < nc → y < nc →
+    countAt s nc rows (rarer s nc rows x y) ≡ min (timesNamed (items (rowAt rows) 0 t) x) (timesNamed (items (rowAt rows) 0 t) y)
+search-turns s nc rows t x y e a b = go (leb (countAt s nc rows x) (countAt s nc rows y)) refl
+  where
+    counted : (v : ℕ) → v < nc → countAt s nc rows v ≡ timesNamed (items (rowAt rows) 0 t) v
+    counted v h = e .listed .counts v h ∙ many-named rows v t
+
+    go : (c : Bool) → leb (countAt s nc rows x) (countAt s nc rows y) ≡ c →
+        countAt s nc rows (cases c x y) ≡ min (timesNamed (items (rowAt rows) 0 t) x) (timesNamed (items (rowAt rows) 0 t) y)
+    go true q = let h = leb-true (countAt s nc rows x) (countAt s nc rows y) q in let f = counted x a in let g = counted y b in omega arith
+    go false q = let h = leb-false (countAt s nc rows x) (countAt s nc rows y) q in let f = counted x a in let g = counted y b in omega arith
 
 -- ---- computed
 

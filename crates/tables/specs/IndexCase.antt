@@ -2,10 +2,8 @@
 use mathlib.Core.Path.{_≡_, refl}
 use mathlib.Core.List.{List, [], _∷_}
 use Prim.Native.Nat.{ℕ}
-use lib.ListN.{getD, replicate}
-use Rattle.lists.specs.declared.Found.{Found}
+use lib.ListN.{replicate}
 use Rattle.lists.specs.declared.Found.the-variants.{At, Nothing}
-use Rattle.lists.specs.Loops.{down}
 use Rattle.lists.specs.Search.{iter, iterFrom}
 use Rattle.meaning.specs.Tables.{rowAt}
 use Rattle.tables.specs.Arrow.{arrowAt}
@@ -16,23 +14,23 @@ use Rattle.tables.specs.Walk.{rarer, hits, back, passes}
 rows : List ℕ
 rows = 1 ∷ 2 ∷ 0 ∷ 3 ∷ 0 ∷ 2 ∷ []
 
--- scratch after so many slots joined
-joined : ℕ → List ℕ
-joined n = iter (λ k s. joinSlot 4 10 k (nodeAt rows k) s) 0 n (replicate 24 0)
+-- scratch after so many slots after
+after : ℕ → List ℕ
+after n = iter (λ k s. joinSlot 4 10 k (nodeAt rows k) s) 0 n (replicate 24 0)
 
 -- ten notes; each node's highest slot; how many name it; the next of each slot
-all-six : joined 6 ≡ 0 ∷ 0 ∷ 0 ∷ 0 ∷ 0 ∷ 0 ∷ 0 ∷ 0 ∷ 0 ∷ 0 ∷ 5 ∷ 1 ∷ 6 ∷ 4 ∷ 2 ∷ 1 ∷ 2 ∷ 1 ∷ 1 ∷ 1 ∷ 1 ∷ 1 ∷ 4 ∷ 3 ∷ []
-unfolding joined rows iter iterFrom joinSlot
+all-six : after 6 ≡ 0 ∷ 0 ∷ 0 ∷ 0 ∷ 0 ∷ 0 ∷ 0 ∷ 0 ∷ 0 ∷ 0 ∷ 5 ∷ 1 ∷ 6 ∷ 4 ∷ 2 ∷ 1 ∷ 2 ∷ 1 ∷ 1 ∷ 1 ∷ 1 ∷ 1 ∷ 4 ∷ 3 ∷ []
+unfolding after rows iter iterFrom joinSlot
 all-six = refl
 
 -- the first row alone: the slots of the second are free
-first-row : joined 3 ≡ 0 ∷ 0 ∷ 0 ∷ 0 ∷ 0 ∷ 0 ∷ 0 ∷ 0 ∷ 0 ∷ 0 ∷ 3 ∷ 1 ∷ 2 ∷ 0 ∷ 1 ∷ 1 ∷ 1 ∷ 0 ∷ 1 ∷ 1 ∷ 1 ∷ 0 ∷ 0 ∷ 0 ∷ []
-unfolding joined rows iter iterFrom joinSlot
+first-row : after 3 ≡ 0 ∷ 0 ∷ 0 ∷ 0 ∷ 0 ∷ 0 ∷ 0 ∷ 0 ∷ 0 ∷ 0 ∷ 3 ∷ 1 ∷ 2 ∷ 0 ∷ 1 ∷ 1 ∷ 1 ∷ 0 ∷ 1 ∷ 1 ∷ 1 ∷ 0 ∷ 0 ∷ 0 ∷ []
+unfolding after rows iter iterFrom joinSlot
 first-row = refl
 
 -- 3→0 is sought from 3, which one slot names; 0→3 too
-fewer-name-3 : rarer (joined 6) 4 rows 3 0 ∷ rarer (joined 6) 4 rows 0 3 ∷ [] ≡ 3 ∷ 3 ∷ []
-unfolding joined rows iter iterFrom joinSlot
+fewer-name-3 : rarer (after 6) 4 rows 3 0 ∷ rarer (after 6) 4 rows 0 3 ∷ [] ≡ 3 ∷ 3 ∷ []
+unfolding after rows iter iterFrom joinSlot
 fewer-name-3 = refl
 
 -- along all slots: 3→0 is in row 1, and past the limit of one row; 0→3 in none

@@ -1,7 +1,7 @@
 -- A row joins the index, slot by slot; and the index made anew. Assumes nothing.
 use mathlib.Core.Path.{_≡_, refl, sym, ap, _∙_}
 use mathlib.Core.List.{List, _++_}
-use Prim.Native.Nat.{ℕ, zero, suc, _+_, _-_, _*_, _/_, _%_, _^_, _≤_, _<_}
+use Prim.Native.Nat.{ℕ, zero, suc, _+_, _-_, _*_, _/_, _%_, _≤_, _<_}
 use native.Mathlib.Omega.{arith}
 use native.Mathlib.Decide.{ℕ-discrete}
 use mathlib.Core.Bool.{Bool, true, false}
@@ -18,14 +18,14 @@ use Rattle.tables.specs.Slots.{Listed, joinSlot, top-le, many-le, join-l
 use Rattle.tables.specs.Ready.{Ready, nodeAt, cornerOf, slot-corner}
 
 -- the first n slots name nodes below nc
-abbrev pub Named : ℕ → List ℕ → ℕ → Type 0
-Named nc rows n = (k : ℕ) → k < n → nodeAt rows k < nc
+abbrev pub InRange : ℕ → List ℕ → ℕ → Type 0
+InRange nc rows n = (k : ℕ) → k < n → nodeAt rows k < nc
 
 -- the first n slots are in the index, and no others
 pub record Exact (scratch : List ℕ) (nc : ℕ) (rows : List ℕ) (n : ℕ) : Type 0 where
   pub sizes : Sized nc (length rows) (length scratch)
   pub in-table : n ≤ slotsOf (length rows)
-  pub in-range : Named nc rows n
+  pub in-range : InRange nc rows n
   pub listed : Listed (nodeAt rows) nc (slotsOf (length rows)) (indexAt nc (length rows)) n scratch
 
 -- slot k is not in the index
@@ -105,8 +105,8 @@ notes-on k s s′ s₀ e f = e ∙ f
 pub free-at : (s : List ℕ) (nc : ℕ) (rows : List ℕ) (k o n : ℕ) → o ≡ indexAt nc (length rows) → n ≡ getD s (o + 2 * nc + k) 0 → eqb n 0 ≡ isFree s nc rows k
 free-at s nc rows k o n e f = rw (← e, ← f)
 
-pub named-at : (nc : ℕ) (rows : List ℕ) (n k : ℕ) → Named nc rows n → k < n → nodeAt rows k < nc
-named-at nc rows n k h l = h k l
+pub in-range-at : (nc : ℕ) (rows : List ℕ) (n k : ℕ) → InRange nc rows n → k < n → nodeAt rows k < nc
+in-range-at nc rows n k h l = h k l
 
 pub exact-end : (s : List ℕ) (nc : ℕ) (rows : List ℕ) (k n : ℕ) → k ≤ n → n ≤ k → Exact s nc rows k → Exact s nc rows n
 exact-end s nc rows k n a b x = let q : k ≡ n = omega arith in rw q at x
@@ -149,9 +149,9 @@ corners-in nc w h (suc zero) = h .q-in
 corners-in nc w h (suc (suc c)) = h .r-in
 
 -- the rows that are in name nodes in range, and so does the next
-pub ready-named : (s : List ℕ) (nc : ℕ) (rows : List ℕ) (i : ℕ) → Ready s nc rows i → Corners nc (rowAt rows i) → Named nc rows (3 * i + 3)
+pub ready-in-range : (s : List ℕ) (nc : ℕ) (rows : List ℕ) (i : ℕ) → Ready s nc rows i → Corners nc (rowAt rows i) → InRange nc rows (3 * i + 3)
 unfolding Ready
-ready-named s nc rows i r c k u = go (ltb k (3 * i)) refl
+ready-in-range s nc rows i r c k u = go (ltb k (3 * i)) refl
   where
     go : (b : Bool) → ltb k (3 * i) ≡ b → nodeAt rows k < nc
     go true q = let h = ltb-true k (3 * i) q in let e = r .same k h in let a = r .enough in let d = r .in-range k (omega arith) in omega arith

@@ -1,6 +1,6 @@
 -- Lists of slots in a list of numbers: for each key its highest slot, how many there are, and for each slot the next lower one with the
 -- same key. A slot's number is one too large, and 0 is none; a slot joins in front, so that a list falls. Assumes nothing.
-use mathlib.Core.Path.{_≡_, refl, sym, ap, _∙_}
+use mathlib.Core.Path.{_≡_, refl, ap, _∙_}
 use mathlib.Core.Logic.{_≢_}
 use mathlib.Core.Bool.{Bool, true, false}
 use mathlib.Core.List.{List}

@@ -44,12 +44,12 @@ back p (suc n) f = back p n (cases (p n) (At (n / 3)) f)
 abbrev pub passes : List ℕ → ℕ → ℕ → ℕ → (ℕ → ℕ) → ℕ → ℕ → Bool
 passes rows t x y names v k = hits rows t x y k && eqb (names k) v
 
--- the walk along the list of v has come to the slot of number m, `left` slots are left, and f is the last hit
-pub record Walk (s : List ℕ) (nc : ℕ) (rows : List ℕ) (t x y v m left : ℕ) (f : Found) : Type 0 where
+-- the walk along the list of v has come to the slot of number m, `ahead` slots are ahead, and f is the last hit
+pub record Walk (s : List ℕ) (nc : ℕ) (rows : List ℕ) (t x y v m ahead : ℕ) (f : Found) : Type 0 where
   pub ready : Indexed s nc rows t
   pub within : m ≤ ready .held
-  pub named : (k : ℕ) → m ≡ suc k → ready .names k ≡ v
-  pub counted : left ≡ many (ready .names) v m
+  pub names-v : (k : ℕ) → m ≡ suc k → ready .names k ≡ v
+  pub counted : ahead ≡ many (ready .names) v m
   pub rest : back (passes rows t x y (ready .names) v) m f ≡ lowest (arrowAt rows x y) 0 t
 
 -- v is one of the two
@@ -227,29 +227,29 @@ module _ (s : List ℕ) (nc : ℕ) (rows : List ℕ) (t x y : ℕ) (r : Ready s 
   pub outside-y : nc ≤ y → Nothing ≡ lowest (arrowAt rows x y) 0 t
   outside-y = outside y from-y
 
-pub walk-start : (s : List ℕ) (nc : ℕ) (rows : List ℕ) (t x y v o m left : ℕ) → Ready s nc rows t → EndOf x y v → v < nc → o ≡ indexAt nc (length rows) → m ≡ getD s (o + v) 0 →
-    left ≡ getD s (o + nc + v) 0 → Walk s nc rows t x y v m left Nothing
+pub walk-start : (s : List ℕ) (nc : ℕ) (rows : List ℕ) (t x y v o m ahead : ℕ) → Ready s nc rows t → EndOf x y v → v < nc → o ≡ indexAt nc (length rows) → m ≡ getD s (o + v) 0 →
+    ahead ≡ getD s (o + nc + v) 0 → Walk s nc rows t x y v m ahead Nothing
 unfolding Ready
-walk-start s nc rows t x y v o m left r w u e g h =
+walk-start s nc rows t x y v o m ahead r w u e g h =
     let q : m ≡ top (r .names) v (r .held) = (rw e at g) ∙ r .listed .heads v u in
     record {
       ready = r;
       within = rw q (top-le (r .names) v (r .held));
-      named = λ k z. top-key (r .names) v (r .held) k (sym q ∙ z);
+      names-v = λ k z. top-key (r .names) v (r .held) k (sym q ∙ z);
       counted = (rw e at h) ∙ r .listed .counts v u ∙ rw q (sym (many-top (r .names) v (r .held)));
       rest = rw q (sym (back-top (hits rows t x y) (r .names) v (r .held) Nothing) ∙ walk-whole s nc rows t x y v r w);
     }
 
-module _ (s : List ℕ) (nc : ℕ) (rows : List ℕ) (t x y v m left : ℕ) (f : Found) (w : Walk s nc rows t x y v m left f) where
+module _ (s : List ℕ) (nc : ℕ) (rows : List ℕ) (t x y v m ahead : ℕ) (f : Found) (w : Walk s nc rows t x y v m ahead f) where
   pub walk-rows : 3 * t ≤ length rows
   walk-rows = let a = w .ready .in-table in let b = w .ready .enough in omega arith
 
-  pub walk-end : left ≡ 0 → f ≡ lowest (arrowAt rows x y) 0 t
+  pub walk-end : ahead ≡ 0 → f ≡ lowest (arrowAt rows x y) 0 t
   walk-end e =
       sym (back-none (passes rows t x y (w .ready .names) v) m f
       (λ k l. rw (many-none (w .ready .names) v m k (sym (w .counted) ∙ e) l) (and-no (hits rows t x y k)))) ∙ w .rest
 
-  module _ (u : left ≡ 0 → ⊥) where
+  module _ (u : ahead ≡ 0 → ⊥) where
     -- there is a slot
     pub walk-some : m ≡ 0 → ⊥
     unfolding many
@@ -265,7 +265,7 @@ module _ (s : List ℕ) (nc : ℕ) (rows : List ℕ) (t x y v m left : ℕ) (f :
       next-is : getD s (o + 2 * nc + k) 0 ≡ top (w .ready .names) v k + 1
       next-is =
           let c = w .within in let d = at-slot in
-          rw z (w .ready .listed .nexts k (omega arith) ∙ ap (λ (b : ℕ). top (w .ready .names) b k + 1) (w .named k d))
+          rw z (w .ready .listed .nexts k (omega arith) ∙ ap (λ (b : ℕ). top (w .ready .names) b k + 1) (w .names-v k d))
 
       pub walk-next : (n : ℕ) → n ≡ getD s (o + 2 * nc + k) 0 → 1 ≤ n
       walk-next n e = let a = next-is in omega arith
@@ -274,23 +274,23 @@ module _ (s : List ℕ) (nc : ℕ) (rows : List ℕ) (t x y v m left : ℕ) (f :
       unfolding back
       past g e =
           let c : hits rows t x y k && eqb (w .ready .names k) v ≡ hits rows t x y k =
-          rw (eq-eqb (w .ready .names k) v (w .named k at-slot)) (and-yes (hits rows t x y k)) in
+          rw (eq-eqb (w .ready .names k) v (w .names-v k at-slot)) (and-yes (hits rows t x y k)) in
           let a = rw at-slot at (w .rest) in
           ap (back (passes rows t x y (w .ready .names) v) k) (e ∙ ap (λ (b : Bool). cases b (At (k / 3)) f) (sym c)) ∙ a
 
-      pub walk-turn : (n m′ left′ : ℕ) (g : Found) → g ≡ cases (hits rows t x y k) (At (k / 3)) f → n ≡ getD s (o + 2 * nc + k) 0 → m′ ≡ n - 1 → left′ ≡ left - 1 →
-          Walk s nc rows t x y v m′ left′ g
-      walk-turn n m′ left′ g e h i j =
+      pub walk-turn : (n m′ ahead′ : ℕ) (g : Found) → g ≡ cases (hits rows t x y k) (At (k / 3)) f → n ≡ getD s (o + 2 * nc + k) 0 → m′ ≡ n - 1 → ahead′ ≡ ahead - 1 →
+          Walk s nc rows t x y v m′ ahead′ g
+      walk-turn n m′ ahead′ g e h i j =
           let names : ℕ → ℕ = w .ready .names in
           let a = top-le names v k in
           let b : m′ ≡ top names v k = (let c = next-is in omega arith) in
           let c = w .within in
           let d = at-slot in
-          let l : left ≡ suc (many names v k) = w .counted ∙ rw d (many-here names v k (w .named k d)) in
+          let l : ahead ≡ suc (many names v k) = w .counted ∙ rw d (many-here names v k (w .names-v k d)) in
           record {
             ready = w .ready;
             within = omega arith;
-            named = λ j z. top-key names v k j (sym b ∙ z);
+            names-v = λ j z. top-key names v k j (sym b ∙ z);
             counted = rw b (omega arith ∙ sym (many-top names v k));
             rest = rw b (sym (back-top (hits rows t x y) names v k g) ∙ past g e);
           }

@@ -14,7 +14,7 @@ ghost use Rattle.tables.specs.Sized.{Sized, indexAt, slotsOf};
 ghost use Rattle.tables.specs.Slots.{joinSlot};
 ghost use Rattle.tables.specs.Ready.{Ready, nodeAt};
 ghost use Rattle.tables.specs.Walk.{rarer, hits, EndOf};
-ghost use Rattle.tables.specs.Join.{Named, Exact, isFree};
+ghost use Rattle.tables.specs.Join.{InRange, Exact, isFree};
 use lists::Found;
 
 // Where it begins.
@@ -72,13 +72,13 @@ pub fn walk(rows: &[u32], scratch: &[u32], nc: usize, t: usize, x: u32, y: u32, 
 {
     let o = index_at(rows, nc);
     let mut m = crate::note_at(scratch, o + v as usize);
-    let mut left = crate::note_at(scratch, o + nc + v as usize);
+    let mut ahead = crate::note_at(scratch, o + nc + v as usize);
     let mut f = Found::Nothing;
-    while left != 0 {
+    while ahead != 0 {
         let k = slot(m);
         f = seen(rows, t, x, y, k, f);
         m = crate::note_at(scratch, o + 2 * nc + k) - 1;
-        left -= 1;
+        ahead -= 1;
     }
     f
 }
@@ -116,7 +116,7 @@ pub fn join_slots(rows: &[u32], scratch: &mut [u32], nc: usize, from: usize, n: 
     requires { ⌜ Exact (now scratch) nc (now rows) from ⌝ }
     requires { ⌜ from ≤ n ⌝ }
     requires { ⌜ n ≤ slotsOf (length (now rows)) ⌝ }
-    requires { ⌜ Named nc (now rows) n ⌝ }
+    requires { ⌜ InRange nc (now rows) n ⌝ }
     ensures notes { λ _. ⌜ take (indexAt nc (length (now (rows .entry)))) (now (scratch .exit)) ≡ take (indexAt nc (length (now (rows .entry)))) (now (scratch .entry)) ⌝ }
     ensures exact { λ _. ⌜ Exact (now (scratch .exit)) nc (now (rows .entry)) n ⌝ }
 {

@@ -1,5 +1,5 @@
 use Rattle.tables.specs.Ready.{Ready}
-use Rattle.tables.specs.Join.{exact-ready, ready-exact, ready-named, notes-on}
+use Rattle.tables.specs.Join.{exact-ready, ready-exact, ready-in-range, notes-on}
 use borrow.Author.Needs.{needs}
 use Rattle.tables.proofs.add_row.Statement.{statement}
 use Rattle.tables.proofs.add_row.Tie as tie
@@ -9,7 +9,7 @@ unfolding Ready
 is-free-requires c κs = search needs
 
 join-slots-requires : tie.Need-join-slots-requires
-join-slots-requires c κs = (search (needs, exact-ready), (search needs, (search needs, search (needs, ready-named))))
+join-slots-requires c κs = (search (needs, exact-ready), (search needs, (search needs, search (needs, ready-in-range))))
 
 returns : tie.Need-returns
 returns c = (search needs, search (needs, ready-exact))
@@ -19,7 +19,7 @@ unfolding Ready
 clear-index-requires c κs = search needs
 
 join-slots-requires-2 : tie.Need-join-slots-requires-2
-join-slots-requires-2 c κs = (search needs, (search needs, (search needs, search (needs, ready-named))))
+join-slots-requires-2 c κs = (search needs, (search needs, (search needs, search (needs, ready-in-range))))
 
 returns-2 : tie.Need-returns-2
 returns-2 c = (search (needs, notes-on), search (needs, ready-exact))

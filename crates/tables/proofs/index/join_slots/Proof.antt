@@ -2,7 +2,7 @@ use mathlib.Core.Path.{_≡_}
 use Prim.Native.Nat.{_≤_, _-_}
 use lib.ListN.{length, take}
 use Rattle.tables.specs.Sized.{indexAt}
-use Rattle.tables.specs.Join.{Exact, exact-end, notes-on, named-at}
+use Rattle.tables.specs.Join.{Exact, exact-end, notes-on, in-range-at}
 use borrow.Author.Needs.{needs}
 use Rattle.tables.proofs.index.join_slots.Statement.{statement}
 use Rattle.tables.proofs.index.join_slots.Tie as tie
@@ -14,7 +14,7 @@ abbrev μ-loop : tie.MeasureT-loop
 μ-loop rows scratch₀ nc from n k₀ scratch k = n - k
 
 join-slot-requires : tie.Need-join-slot-requires Inv-loop μ-loop
-join-slot-requires c κs = (search needs, (search needs, search named-at))
+join-slot-requires c κs = (search needs, (search needs, search in-range-at))
 
 loop-again : tie.Need-loop-again Inv-loop μ-loop
 loop-again c = (search needs, search needs, search notes-on, search needs)

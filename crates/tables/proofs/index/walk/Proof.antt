@@ -5,10 +5,10 @@ use Rattle.tables.proofs.index.walk.Statement.{statement}
 use Rattle.tables.proofs.index.walk.Tie as tie
 
 abbrev Inv-loop : tie.InvT-loop
-Inv-loop rows scratch nc t x y v o m₀ left₀ f₀ m left f = Walk scratch nc rows t x y v m left f
+Inv-loop rows scratch nc t x y v o m₀ ahead₀ f₀ m ahead f = Walk scratch nc rows t x y v m ahead f
 
 abbrev μ-loop : tie.MeasureT-loop
-μ-loop rows scratch nc t x y v o m₀ left₀ f₀ m left f = left
+μ-loop rows scratch nc t x y v o m₀ ahead₀ f₀ m ahead f = ahead
 
 index-at-requires : tie.Need-index-at-requires Inv-loop μ-loop
 unfolding Ready

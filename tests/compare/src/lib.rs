@@ -1,4 +1,6 @@
 //! The proved calls, by their exported form and by the Rust wrapper, and the rival's behind one face, so that all can be driven alike.
+pub mod meshes;
+
 use rival::calls::{self, Answer, Tables};
 use spoutbeetle::ffi;
 
@@ -10,6 +12,18 @@ pub enum Call {
     Quarter(usize, Vec<u8>),
     Coarsen(usize, Vec<u8>),
     Restore(usize),
+}
+
+impl Call {
+    pub fn name(&self) -> &'static str {
+        match self {
+            Call::Check => "check",
+            Call::Refine(..) => "refine",
+            Call::Quarter(..) => "quarter",
+            Call::Coarsen(..) => "coarsen",
+            Call::Restore(..) => "restore",
+        }
+    }
 }
 
 /// By the exported calls. What is only written, passes and culprit, holds sevens before.
@@ -65,4 +79,43 @@ pub fn rival(call: &Call, g: &mut Tables) -> Answer {
         Call::Coarsen(n0, marks) => calls::coarsen(g, *n0, marks),
         Call::Restore(n0) => calls::restore(g, *n0),
     }
+}
+
+/// What the call says, and the tables that it leaves.
+pub fn made(call: &Call, given: &Tables, by: fn(&Call, &mut Tables) -> Answer) -> (Answer, Tables) {
+    let mut left = given.clone();
+    (by(call, &mut left), left)
+}
+
+fn differ(call: &Call, given: &Tables) -> bool {
+    let theirs = made(call, given, rival);
+    made(call, given, proved) != theirs || made(call, given, wrapped) != theirs
+}
+
+/// Rows taken away one by one as long as the two still differ.
+fn smaller(call: &Call, given: &Tables) -> Tables {
+    let mut least = given.clone();
+    let mut i = 0;
+    while i < least.t.min(least.rows.len() / 3) {
+        let mut fewer = least.clone();
+        fewer.rows.drain(3 * i..3 * i + 3);
+        fewer.t -= 1;
+        if !matches!(call, Call::Refine(..) | Call::Quarter(..)) && differ(call, &fewer) {
+            least = fewer;
+        } else {
+            i += 1;
+        }
+    }
+    least
+}
+
+/// What all three say and leave, every table entry compared. Where they differ, the tables are made smaller and shown, and the run fails.
+pub fn agreed(seed: u64, call: &Call, given: &Tables) -> (Answer, Tables) {
+    if differ(call, given) {
+        let least = smaller(call, given);
+        let [ours, wrapper, theirs] = [proved, wrapped, rival].map(|by| made(call, &least, by).0);
+        println!("seed {seed}: they differ on {call:?}\nexported {ours:?}\nwrapper {wrapper:?}\nrival {theirs:?}\nsmallest tables found {least:?}");
+        std::process::exit(1);
+    }
+    made(call, given, rival)
 }

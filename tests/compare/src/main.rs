@@ -2,8 +2,8 @@
 //! every table entry. Usage: compare COUNT [SEED]. The first difference is made smaller by taking rows away, shown with its seed, and the
 //! run fails. A run in which a call never gave one of the numbers that it may answer, or one of 3 to 7 never with a culprit above 0 or
 //! never with several at fault, fails too: it is to be longer.
-use compare::{proved, rival as other, wrapped, Call};
-use rival::calls::{offenders, Answer, Tables};
+use compare::{agreed, Call};
+use rival::calls::{offenders, Tables};
 use rival::random::{damage, mesh, Dice};
 use std::collections::BTreeMap;
 
@@ -48,57 +48,14 @@ struct Times {
     several: u64,
 }
 
-fn made(call: &Call, given: &Tables, by: fn(&Call, &mut Tables) -> Answer) -> (Answer, Tables) {
-    let mut left = given.clone();
-    (by(call, &mut left), left)
-}
-
-fn differ(call: &Call, given: &Tables) -> bool {
-    let theirs = made(call, given, other);
-    made(call, given, proved) != theirs || made(call, given, wrapped) != theirs
-}
-
-fn name(call: &Call) -> &'static str {
-    match call {
-        Call::Check => "check",
-        Call::Refine(..) => "refine",
-        Call::Quarter(..) => "quarter",
-        Call::Coarsen(..) => "coarsen",
-        Call::Restore(..) => "restore",
-    }
-}
-
-/// Rows taken away one by one as long as the two still differ.
-fn smaller(call: &Call, given: &Tables) -> Tables {
-    let mut least = given.clone();
-    let mut i = 0;
-    while i < least.t {
-        let mut fewer = least.clone();
-        fewer.rows.drain(3 * i..3 * i + 3);
-        fewer.t -= 1;
-        if !matches!(call, Call::Refine(..) | Call::Quarter(..)) && differ(call, &fewer) {
-            least = fewer;
-        } else {
-            i += 1;
-        }
-    }
-    least
-}
-
 /// One random call, by all three; the number that they give is counted.
 fn compare_one(seed: u64, seen: &mut BTreeMap<(&str, u32), Times>) {
     let mut d = Dice::new(seed);
     let (mut given, base) = mesh(&mut d);
     damage(&mut d, &mut given);
     let call = random_call(&mut d, &given, base);
-    if differ(&call, &given) {
-        let least = smaller(&call, &given);
-        let [ours, wrapper, theirs] = [proved, wrapped, other].map(|by| made(&call, &least, by).0);
-        println!("seed {seed}: they differ on {call:?}\nexported {ours:?}\nwrapper {wrapper:?}\nrival {theirs:?}\nsmallest tables found {least:?}");
-        std::process::exit(1);
-    }
-    let said = made(&call, &given, proved).0;
-    let times = seen.entry((name(&call), said.number)).or_default();
+    let (said, _) = agreed(seed, &call, &given);
+    let times = seen.entry((call.name(), said.number)).or_default();
     times.given += 1;
     times.above += (said.culprit > 0) as u64;
     times.several += (offenders(&given, said).len() > 1) as u64;

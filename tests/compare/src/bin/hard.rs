@@ -1,0 +1,178 @@
+//! Drives the proved library and the rival with meshes made to be hard for a search of neighbours: fans round any node, double fans, dense
+//! meshes and shuffled grids, as they are, grown, spoilt, and in tables of odd lengths. Each goes through all five calls; answers and every table
+//! entry are compared. Usage: hard COUNT [SEED]. A run in which a kind of mesh never met one of the outcomes below fails too: it is to be longer.
+use compare::meshes::{dense, double_fan, fan, shuffled, Mesh};
+use compare::{agreed, Call};
+use rival::calls::{quarter, refine, Tables};
+use rival::random::{grid, lend, Dice};
+use std::collections::BTreeMap;
+
+const SHAPES: [&str; 4] = ["fans", "double fans", "dense meshes", "grids"];
+
+/// What is done to a mesh before the calls.
+const STATES: [State; 5] = [State::AsDrawn, State::Grown, State::RowRepeated, State::EdgeRepeated, State::OddLengths];
+
+#[derive(Clone, Copy, PartialEq)]
+enum State {
+    AsDrawn,
+    Grown,
+    RowRepeated,
+    EdgeRepeated,
+    OddLengths,
+}
+
+/// The calls, and the outcomes that each must have met with every shape: "changed" is 0 with other counts than before, "5 far" names a row whose
+/// edge another holds that stands 500 rows lower or more.
+const OUTCOMES: [(&str, &[&str]); 5] = [
+    ("check", &["0", "1", "5", "5 far", "10"]),
+    ("refine", &["changed", "1", "5", "5 far", "9"]),
+    ("quarter", &["changed", "1", "5", "5 far", "9"]),
+    ("coarsen", &["changed", "1", "5", "5 far"]),
+    ("restore", &["changed", "1", "5", "5 far"]),
+];
+const FAR: usize = 500;
+
+/// From `least` to `most`; once in six the most, otherwise rather a small one.
+fn size(d: &mut Dice, least: usize, most: usize) -> usize {
+    let halved = d.below(6);
+    if d.once_in(6) { most } else { least + d.below((most - least) >> halved) }
+}
+
+fn drawn(d: &mut Dice, shape: &str) -> Mesh {
+    let mesh = match shape {
+        "fans" => {
+            let rim = size(d, 3, 1023);
+            fan(rim, [0, rim, d.below(rim + 1)][d.below(3)])
+        }
+        "double fans" => double_fan(size(d, 2, 1022)),
+        "dense meshes" => dense(2 * size(d, 2, 56) as u32, 2048),
+        _ => grid(size(d, 1, 31), size(d, 1, 31), 16),
+    };
+    if shape == "grids" || d.once_in(2) { shuffled(d, &mesh) } else { mesh }
+}
+
+/// Tables that hold the mesh: the largest, or any room from the counts up, and garbage past the counts.
+fn lent(d: &mut Dice, (nodes, rows): &Mesh) -> Tables {
+    let mut g = lend(d, nodes, rows);
+    let (nc, tc) = if d.once_in(2) { (1024, 2048) } else { (g.n + d.below(1025 - g.n), g.t + d.below(2049 - g.t)) };
+    g.nodes.resize_with(2 * nc, || d.below(1000) as i32 - 500);
+    g.rows.resize_with(3 * tc, || d.below(50) as u32);
+    g.scratch.resize_with(4 * (nc + tc) + d.below(5), || d.below(9) as u32);
+    g
+}
+
+fn marks(d: &mut Dice, count: usize) -> Vec<u8> {
+    let every = [1, 4, 40][d.below(3)];
+    (0..count).map(|_| d.once_in(every) as u8).collect()
+}
+
+/// Some refinements of the rival's, of either way.
+fn grow(d: &mut Dice, g: &mut Tables) {
+    let n0 = g.n;
+    for _ in 0..3 {
+        let marks = marks(d, g.t);
+        let by = if d.once_in(2) { quarter } else { refine };
+        by(g, n0, &marks);
+    }
+    g.scratch.iter_mut().for_each(|s| *s = d.below(9) as u32);
+}
+
+fn turned(d: &mut Dice, mut row: [u32; 3]) -> [u32; 3] {
+    row.rotate_left(d.below(3));
+    row
+}
+
+fn twice_area(g: &Tables, row: [u32; 3]) -> i64 {
+    let [(px, py), (qx, qy), (rx, ry)] = row.map(|k| (g.nodes[2 * k as usize] as i64, g.nodes[2 * k as usize + 1] as i64));
+    (qx - px) * (ry - py) - (rx - px) * (qy - py)
+}
+
+/// A row of the upper half is replaced by one that holds an edge, or all three, of a row of the lower half. Answers both, the upper first.
+fn repeat(d: &mut Dice, g: &mut Tables, state: State) -> (usize, usize) {
+    let (low, high) = (d.below(g.t / 2), g.t - 1 - d.below(g.t / 2));
+    let [x, y, z] = turned(d, [0, 1, 2].map(|s| g.rows[3 * low + s]));
+    let others = (0..40).map(|_| [x, y, d.below(g.n) as u32]).find(|&r| r[2] != z && twice_area(g, r) > 0);
+    let new = if state == State::EdgeRepeated { others.unwrap_or([x, y, z]) } else { [x, y, z] };
+    g.rows[3 * high..3 * high + 3].copy_from_slice(&turned(d, new));
+    (high, low)
+}
+
+/// The tables made ready; if rows were repeated, the lowest that repeats another, and that other.
+fn spoil(d: &mut Dice, g: &mut Tables, state: State) -> Option<(usize, usize)> {
+    if state != State::AsDrawn && (state == State::Grown || d.once_in(2)) {
+        grow(d, g);
+    }
+    match state {
+        State::AsDrawn | State::Grown => None,
+        State::RowRepeated | State::EdgeRepeated => {
+            (0..=d.below(2)).map(|_| repeat(d, g, state)).reduce(|first, then| if then.0 <= first.0 { then } else { first })
+        }
+        State::OddLengths => {
+            let (nodes, rows) = [(1, 0), (0, 1), (0, 2), (1, 1)][d.below(4)];
+            g.nodes.resize(g.nodes.len() + nodes, 0);
+            g.rows.resize(g.rows.len() + rows, 0);
+            None
+        }
+    }
+}
+
+/// The five calls, with the base's node count or, once in four, any.
+fn calls(d: &mut Dice, g: &Tables, base: usize) -> [Call; 5] {
+    let n0 = if d.once_in(4) { d.below(g.n + 1) } else { base };
+    let (rows, more_rows, nodes) = (marks(d, g.t), marks(d, g.t), marks(d, g.n));
+    [Call::Check, Call::Refine(n0, rows), Call::Quarter(n0, more_rows), Call::Coarsen(n0, nodes), Call::Restore(n0)]
+}
+
+/// One mesh through all five calls; what they say is held against what was done to the mesh, and counted.
+fn compare_one(seed: u64, seen: &mut BTreeMap<(&str, &str, String), u64>) {
+    let mut d = Dice::new(seed);
+    let shape = SHAPES[seed as usize % SHAPES.len()];
+    let state = STATES[seed as usize / SHAPES.len() % STATES.len()];
+    let mesh = drawn(&mut d, shape);
+    let mut g = lent(&mut d, &mesh);
+    let n0 = g.n;
+    let repeats = spoil(&mut d, &mut g, state);
+    for call in calls(&mut d, &g, n0) {
+        let (said, left) = agreed(seed, &call, &g);
+        let as_known = match (state, repeats) {
+            (State::OddLengths, _) => said.number == 1,
+            (_, Some((high, _))) => (said.number, said.culprit) == (5, high),
+            (State::AsDrawn, _) if matches!(call, Call::Check) => said.number == 0,
+            _ => said.number == 0 || said.number > 7,
+        };
+        assert!(as_known, "seed {seed}: {} of {shape} said {said:?}", call.name());
+        let mut count = |outcome: String| *seen.entry((shape, call.name(), outcome)).or_default() += 1;
+        let far = repeats.is_some_and(|(high, low)| high - low >= FAR);
+        count(if said.number == 0 && left.t != g.t { "changed".to_string() } else { said.number.to_string() });
+        far.then(|| count("5 far".to_string()));
+    }
+}
+
+/// What the calls said, and what of it was never seen.
+fn tell(seen: &BTreeMap<(&str, &str, String), u64>) -> Vec<String> {
+    let mut missed = vec![];
+    for shape in SHAPES {
+        let told = OUTCOMES.iter().map(|&(call, outcomes)| {
+            let times = |outcome: &str| seen.get(&(shape, call, outcome.to_string())).copied().unwrap_or(0);
+            missed.extend(outcomes.iter().filter(|&outcome| times(outcome) == 0).map(|outcome| format!("{shape}, {call} {outcome}")));
+            format!("{call} {}", outcomes.iter().map(|outcome| format!("{outcome}: {}", times(outcome))).collect::<Vec<_>>().join(", "))
+        });
+        println!("{shape}: {}", told.collect::<Vec<_>>().join("; "));
+    }
+    missed
+}
+
+fn main() {
+    let mut words = std::env::args().skip(1);
+    let count: u64 = words.next().map_or(400, |w| w.parse().expect("a count"));
+    let first: u64 = words.next().map_or(1, |w| w.parse().expect("a seed"));
+    let mut seen = BTreeMap::new();
+    (first..first + count).for_each(|seed| compare_one(seed, &mut seen));
+    let missed = tell(&seen);
+    if !missed.is_empty() {
+        println!("hard: {count} meshes from seed {first} agree, but never met: {}", missed.join("; "));
+        std::process::exit(1);
+    }
+    let fives: u64 = seen.iter().filter(|((_, _, outcome), _)| outcome == "5").map(|(_, times)| times).sum();
+    println!("hard: {count} meshes from seed {first}, {} calls agree, {fives} of them said 5 and named the row; every outcome was met", 5 * count);
+}

@@ -19,10 +19,8 @@ struct Case {
     given: Tables,
 }
 
-/// What a call took, in nanoseconds or instructions, and the larger of its counts before and after.
+/// What the proved call took, in nanoseconds or instructions, and the rival's, if it was measured.
 struct Cost {
-    nodes: usize,
-    rows: usize,
     ours: f64,
     theirs: Option<f64>,
 }
@@ -42,7 +40,9 @@ fn added(name: &str, call: Marked, every: usize, n: usize) -> Case {
     let mut g = grown(n / 2);
     widen(&mut g, n, 2 * n);
     let rows: Vec<usize> = (0..every).flat_map(|from| (from..g.t).step_by(every)).collect();
-    case(name, call(4, fitting(&g, call, 4, &rows)), g)
+    let filling = call(4, fitting(&g, call, 4, &rows));
+    assert_eq!(made(&filling, &g, other).0.n, n, "{name}");
+    case(name, filling, g)
 }
 
 /// Every call at every size: a grid is checked; a square that was grown is refined, cut in four, coarsened and restored.
@@ -90,42 +90,32 @@ fn bad() -> Vec<Case> {
     cases
 }
 
-/// The middle of 101 runs if the call takes less than a millisecond, and of nine otherwise. One run goes before, to warm up.
-fn median(case: &Case, by: fn(&Call, &mut Tables) -> Answer) -> Duration {
+/// What eleven runs take if the call takes less than a millisecond, and otherwise one. One run goes before, to warm up.
+fn runs(case: &Case, by: fn(&Call, &mut Tables) -> Answer) -> Vec<Duration> {
     let run = || {
         let mut g = case.given.clone();
         let start = Instant::now();
         by(&case.call, &mut g);
         start.elapsed()
     };
-    let runs = if run() < Duration::from_millis(1) { 101 } else { 9 };
-    let mut taken: Vec<Duration> = (0..runs).map(|_| run()).collect();
-    taken.sort();
-    taken[runs / 2]
+    let short = run() < Duration::from_millis(1);
+    (0..if short { 11 } else { 1 }).map(|_| run()).collect()
 }
 
-/// The start of a row of the table, and the counts that its cost is shared out to.
-fn row(case: &Case, a: Answer) -> (String, usize, usize) {
-    assert_eq!(a.number, 0, "{}", case.name);
-    let g = &case.given;
-    (format!("| {} | {} | {} | {} | {} | {} |", case.name, g.n, g.t, a.n, a.t, a.passes), g.n.max(a.n), g.t.max(a.t))
-}
-
-fn timed(case: &Case) -> Cost {
-    let answer = made(&case.call, &case.given, proved);
-    assert!(answer == made(&case.call, &case.given, other), "{}: the rival differs", case.name);
-    let (start, nodes, rows) = row(case, answer.0);
-    let (ours, theirs) = (median(case, proved), median(case, other));
-    let [n, m] = [ours, theirs].map(|took| took.as_nanos() as f64);
-    println!("{start} {ours:.1?} | {:.0} | {:.0} | {theirs:.1?} | {:.2} |", n / nodes as f64, n / rows as f64, n / m);
-    Cost { nodes, rows, ours: n, theirs: Some(m) }
-}
-
-fn counted(case: &Case, count: u64) -> Cost {
-    let (start, nodes, rows) = row(case, made(&case.call, &case.given, other).0);
-    let ours = count as f64;
-    println!("{start} {count} | {:.0} | {:.0} |", ours / nodes as f64, ours / rows as f64);
-    Cost { nodes, rows, ours, theirs: None }
+/// The middle of all runs of nine rounds through all calls, so that a slow moment of the machine meets few of any call's runs.
+fn timed(cases: &[Case]) -> Vec<Cost> {
+    let mut taken = vec![[vec![], vec![]]; cases.len()];
+    for _ in 0..9 {
+        for (case, [ours, theirs]) in cases.iter().zip(&mut taken) {
+            ours.extend(runs(case, proved));
+            theirs.extend(runs(case, other));
+        }
+    }
+    let middle = |mut times: Vec<Duration>| {
+        times.sort();
+        times[times.len() / 2].as_nanos() as f64
+    };
+    taken.into_iter().map(|both| both.map(middle)).map(|[ours, theirs]| Cost { ours, theirs: Some(theirs) }).collect()
 }
 
 /// The instructions of each exported call of this name that `times once` makes, in order: callgrind writes them to a file after each.
@@ -145,40 +135,63 @@ fn counts(name: &str) -> Vec<u64> {
     counts
 }
 
-/// By how much the cost per node (and per row) grew from the least size to the largest, call by call.
-fn growth(cases: &[Case], costs: &[Cost], of: fn(&Cost) -> Option<f64>) -> Option<String> {
-    let calls = cases.chunks(SIZES.len()).zip(costs.chunks(SIZES.len()));
-    let grew = calls.map(|(case, cost)| {
-        let (least, most) = (&cost[0], &cost[SIZES.len() - 1]);
-        let times = of(most)? / of(least)?;
-        let [a_node, a_row] = [least.nodes as f64 / most.nodes as f64, least.rows as f64 / most.rows as f64].map(|part| part * times);
-        Some(format!("{} {a_node:.2} ({a_row:.2})", case[0].name))
-    });
-    Some(grew.collect::<Option<Vec<_>>>()?.join(", "))
+fn counted(cases: &[Case]) -> Vec<Cost> {
+    let mut left = HashMap::new();
+    let mut next = |name| left.entry(name).or_insert_with(|| counts(name).into_iter()).next().expect("a count for each call");
+    cases.iter().map(|case| Cost { ours: next(case.call.name()) as f64, theirs: None }).collect()
 }
 
-fn tell(measures: &str, mut measured: impl FnMut(&Case) -> Cost) {
+/// The larger of the counts before the call and after it, nodes and rows: what its cost is shared out to.
+fn shares(case: &Case) -> [f64; 2] {
+    let a = made(&case.call, &case.given, other).0;
+    [case.given.n.max(a.n) as f64, case.given.t.max(a.t) as f64]
+}
+
+/// The row of the table. Both programs must have said 0, and left the same tables.
+fn row(case: &Case, cost: &Cost) -> String {
+    let (a, left) = made(&case.call, &case.given, proved);
+    assert!(a.number == 0 && (a, left) == made(&case.call, &case.given, other), "{}", case.name);
+    let (g, time) = (&case.given, |ns: f64| format!("{:.1?}", Duration::from_nanos(ns as u64)));
+    let each = shares(case).map(|share| format!("{:.0}", cost.ours / share)).join(" | ");
+    let measured = match cost.theirs {
+        Some(theirs) => format!("{} | {each} | {} | {:.2}", time(cost.ours), time(theirs), cost.ours / theirs),
+        None => format!("{} | {each}", cost.ours),
+    };
+    format!("| {} | {} | {} | {} | {} | {} | {measured} |", case.name, g.n, g.t, a.n, a.t, a.passes)
+}
+
+/// By how much the cost per node (and per row) grew from the least size to the largest, call by call.
+fn growth(cases: &[Case], costs: &[Cost], of: fn(&Cost) -> f64) -> String {
+    let last = SIZES.len() - 1;
+    let grew = cases.chunks(SIZES.len()).zip(costs.chunks(SIZES.len())).map(|(case, cost)| {
+        let each = |k: usize| shares(&case[k]).map(|share| of(&cost[k]) / share);
+        let ([node, row], [first_node, first_row]) = (each(last), each(0));
+        format!("{} {:.2} ({:.2})", case[0].name, node / first_node, row / first_row)
+    });
+    grew.collect::<Vec<_>>().join(", ")
+}
+
+fn tell(measures: &str, measure: fn(&[Case]) -> Vec<Cost>) {
+    let (sized, bad) = (sized(), bad());
+    let in_family = sized.len();
+    let cases: Vec<Case> = sized.into_iter().chain(bad).collect();
+    let costs = measure(&cases);
     println!("| call | nodes | rows | nodes after | rows after | passes | {measures} |");
     println!("|{}", "---|".repeat(6 + measures.split('|').count()));
-    let sized = sized();
-    let costs: Vec<Cost> = sized.iter().map(&mut measured).collect();
-    bad().iter().for_each(|case| drop(measured(case)));
+    cases.iter().zip(&costs).for_each(|(case, cost)| println!("{}", row(case, cost)));
+    let (cases, costs) = (&cases[..in_family], &costs[..in_family]);
     println!("\nPer node (per row) the proved calls took at 1,024 nodes, as a multiple of that at 64:");
-    println!("{}.", growth(&sized, &costs, |cost| Some(cost.ours)).expect("every call was measured"));
-    if let Some(theirs) = growth(&sized, &costs, |cost| cost.theirs) {
-        println!("The rival: {theirs}.");
+    println!("{}.", growth(cases, costs, |cost| cost.ours));
+    if costs[0].theirs.is_some() {
+        println!("The rival: {}.", growth(cases, costs, |cost| cost.theirs.unwrap_or(f64::NAN)));
     }
 }
 
 fn main() {
     match std::env::args().nth(1).as_deref() {
         None => tell("proved | ns a node | ns a row | rival | ratio", timed),
-        Some("counted") => {
-            let mut left = HashMap::new();
-            let mut next = |name| left.entry(name).or_insert_with(|| counts(name).into_iter()).next().expect("a count for each call");
-            tell("instructions | a node | a row", |case| counted(case, next(case.call.name())));
-        }
-        Some("once") => sized().iter().chain(&bad()).for_each(|case| assert_eq!(made(&case.call, &case.given, proved).0.number, 0, "{}", case.name)),
+        Some("counted") => tell("instructions | a node | a row", counted),
+        Some("once") => sized().iter().chain(&bad()).for_each(|case| drop(made(&case.call, &case.given, proved))),
         Some(word) => panic!("times: no word {word}"),
     }
 }

@@ -2,33 +2,34 @@
 //! meshes and shuffled grids, as they are, grown, spoilt, and in tables of odd lengths. Each goes through all five calls; answers and every table
 //! entry are compared. Usage: hard COUNT [SEED]. A run in which a kind of mesh never met one of the outcomes below fails too: it is to be longer.
 use compare::meshes::{dense, double_fan, fan, shuffled, Mesh};
-use compare::{agreed, Call};
+use compare::{agreed, made, rival, Call};
 use rival::calls::{quarter, refine, Tables};
 use rival::random::{grid, lend, Dice};
-use std::collections::BTreeMap;
+use std::collections::{BTreeMap, HashSet};
 
 const SHAPES: [&str; 4] = ["fans", "double fans", "dense meshes", "grids"];
 
 /// What is done to a mesh before the calls.
-const STATES: [State; 5] = [State::AsDrawn, State::Grown, State::RowRepeated, State::EdgeRepeated, State::OddLengths];
+const STATES: [State; 6] = [State::AsDrawn, State::Grown, State::EdgeHeld, State::RowRepeated, State::EdgeRepeated, State::OddLengths];
 
 #[derive(Clone, Copy, PartialEq)]
 enum State {
     AsDrawn,
     Grown,
+    EdgeHeld,
     RowRepeated,
     EdgeRepeated,
     OddLengths,
 }
 
 /// The calls, and the outcomes that each must have met with every shape: "changed" is 0 with other counts than before, "5 far" names a row whose
-/// edge another holds that stands 500 rows lower or more.
+/// edge another holds that stands 500 rows lower or more, "held" is a restore that leaves more nodes since a row holds a split edge.
 const OUTCOMES: [(&str, &[&str]); 5] = [
     ("check", &["0", "1", "5", "5 far", "10"]),
     ("refine", &["changed", "1", "5", "5 far", "9"]),
     ("quarter", &["changed", "1", "5", "5 far", "9"]),
     ("coarsen", &["changed", "1", "5", "5 far"]),
-    ("restore", &["changed", "1", "5", "5 far"]),
+    ("restore", &["changed", "held", "1", "5", "5 far"]),
 ];
 const FAR: usize = 500;
 
@@ -87,6 +88,29 @@ fn twice_area(g: &Tables, row: [u32; 3]) -> i64 {
     (qx - px) * (ry - py) - (rx - px) * (qy - py)
 }
 
+/// A row is put behind all others that holds, one way or the other, the edge on whose middle an added node stands, so that G4 keeps the node.
+/// Says whether restore then leaves more nodes.
+fn hold(d: &mut Dice, g: &mut Tables, n0: usize) -> bool {
+    let rows: Vec<[u32; 3]> = g.rows[..3 * g.t].chunks(3).map(|r| [r[0], r[1], r[2]]).collect();
+    let taken: HashSet<(u32, u32)> = rows.iter().flat_map(|&[p, q, r]| [(p, q), (q, r), (r, p)]).collect();
+    let left_by = |g: &Tables| made(&Call::Restore(n0), g, rival).0.n;
+    let before = left_by(g);
+    for _ in 0..200 {
+        let [z, a, b] = rows[d.below(g.t)];
+        let Some(&[_, c, _]) = rows.iter().find(|r| r[0] == z && r[2] == a) else { continue };
+        let (x, y) = if d.once_in(2) { (b, c) } else { (c, b) };
+        let w = d.below(g.n) as u32;
+        let free = [(x, y), (y, w), (w, x)].iter().all(|edge| !taken.contains(edge));
+        if free && z as usize >= n0 && twice_area(g, [z, b, c]) == 0 && twice_area(g, [x, y, w]) > 0 && 3 * g.t < g.rows.len() {
+            let new = turned(d, [x, y, w]);
+            g.rows[3 * g.t..3 * g.t + 3].copy_from_slice(&new);
+            g.t += 1;
+            break;
+        }
+    }
+    left_by(g) > before
+}
+
 /// A row of the upper half is replaced by one that holds an edge, or all three, of a row of the lower half. Answers both, the upper first.
 fn repeat(d: &mut Dice, g: &mut Tables, state: State) -> (usize, usize) {
     let (low, high) = (d.below(g.t / 2), g.t - 1 - d.below(g.t / 2));
@@ -99,11 +123,16 @@ fn repeat(d: &mut Dice, g: &mut Tables, state: State) -> (usize, usize) {
 
 /// The tables made ready; if rows were repeated, the lowest that repeats another, and that other.
 fn spoil(d: &mut Dice, g: &mut Tables, state: State) -> Option<(usize, usize)> {
-    if state != State::AsDrawn && (state == State::Grown || d.once_in(2)) {
+    let grown = match state {
+        State::AsDrawn => false,
+        State::Grown | State::EdgeHeld => true,
+        _ => d.once_in(2),
+    };
+    if grown {
         grow(d, g);
     }
     match state {
-        State::AsDrawn | State::Grown => None,
+        State::AsDrawn | State::Grown | State::EdgeHeld => None,
         State::RowRepeated | State::EdgeRepeated => {
             (0..=d.below(2)).map(|_| repeat(d, g, state)).reduce(|first, then| if then.0 <= first.0 { then } else { first })
         }
@@ -132,6 +161,9 @@ fn compare_one(seed: u64, seen: &mut BTreeMap<(&str, &str, String), u64>) {
     let mut g = lent(&mut d, &mesh);
     let n0 = g.n;
     let repeats = spoil(&mut d, &mut g, state);
+    if state == State::EdgeHeld && hold(&mut d, &mut g, n0) {
+        *seen.entry((shape, "restore", "held".to_string())).or_default() += 1;
+    }
     for call in calls(&mut d, &g, n0) {
         let (said, left) = agreed(seed, &call, &g);
         let as_known = match (state, repeats) {

@@ -7,14 +7,14 @@ use native.Mathlib.Decide.{ℕ-discrete}
 use mathlib.Core.Bool.{Bool, true, false}
 use borrow.Rule.Slice.PartMut.{putMid, midOf}
 use lib.Dec.{eqb, ltb}
-use borrow.Author.Tests.{eqb-true, ltb-true, ltb-false}
+use borrow.Author.Tests.{eqb-true, eq-eqb, ne-eqb, ltb-true, ltb-false}
 use lib.ListN.{length, getD, set, take, replicate, length-append, length-replicate, getD-replicate}
 use lib.Seq.{length-take-le, take-append-le, take-take, getD-append-add}
 use Rattle.meaning.specs.declared.Tri.{Tri}
 use Rattle.meaning.specs.Tables.{rowAt}
 use Rattle.tables.specs.Sized.{Sized, Corners, indexAt, slotsOf}
 use Rattle.tables.specs.PutLaw.{tail-filled}
-use Rattle.tables.specs.Slots.{Listed, joinSlot, top-le, many-le, join-length, join-take, listed-start, listed-agree, listed-free, listed-join}
+use Rattle.tables.specs.Slots.{Listed, before, putAfter, joinSlot, top-le, many-le, join-length, join-take, listed-start, listed-agree, listed-free, listed-join}
 use Rattle.tables.specs.Ready.{Ready, nodeAt, cornerOf, slot-corner}
 
 -- the first n slots name nodes below nc
@@ -34,15 +34,24 @@ isFree scratch nc rows k = eqb (getD scratch (indexAt nc (length rows) + 2 * nc 
 
 -- ---- one slot
 
-pub slot-put : (nc o k v a c : ℕ) (s s₁ s₂ s₃ : List ℕ) → a ≡ getD s (o + v) 0 → c ≡ getD s (o + nc + v) 0 → s₁ ≡ set s (o + 2 * nc + k) (a + 1) → s₂ ≡ set s₁ (o + v) (k + 1) →
-    s₃ ≡ set s₂ (o + nc + v) (c + 1) → s₃ ≡ joinSlot nc o k v s
+pub before-none : (m k : ℕ) → m ≡ 0 → k ≡ before m k
+before-none m k e = rw (eq-eqb m 0 e)
+
+pub before-some : (m k a : ℕ) → (m ≡ 0 → ⊥) → a ≡ m - 1 → a ≡ before m k
+before-some m k a z e = rw (ne-eqb m 0 z) e
+
+pub after-put : (z a k n : ℕ) (s s₁ s₂ : List ℕ) → n ≡ getD s (z + a) 0 → s₁ ≡ set s (z + k) n → s₂ ≡ set s₁ (z + a) (k + 1) → s₂ ≡ putAfter z a k s
+after-put z a k n s s₁ s₂ e f g = rw (← e, ← f) g
+
+pub slot-put : (nc o k v m a c : ℕ) (s s₁ s₂ s₃ : List ℕ) → m ≡ getD s (o + v) 0 → a ≡ before m k → c ≡ getD s (o + nc + v) 0 → s₁ ≡ putAfter (o + 2 * nc) a k s →
+    s₂ ≡ set s₁ (o + v) (k + 1) → s₃ ≡ set s₂ (o + nc + v) (c + 1) → s₃ ≡ joinSlot nc o k v s
 unfolding joinSlot
-slot-put nc o k v a c s s₁ s₂ s₃ e f g₁ g₂ g₃ = rw (← e, ← f, ← g₁, ← g₂) g₃
+slot-put nc o k v m a c s s₁ s₂ s₃ e f g h g₂ g₃ = rw (← e, ← f, ← g, ← h, ← g₂) g₃
 
 module _ (s : List ℕ) (nc : ℕ) (rows : List ℕ) (k o v : ℕ) (x : Exact s nc rows k) (b : o ≡ indexAt nc (length rows)) (i : v ≡ nodeAt rows k) (r : nodeAt rows k < nc) where
   -- no more slots than have joined
-  pub head-small : getD s (o + v) 0 ≤ k
-  head-small = rw (b, x .listed .heads v (omega arith)) (top-le (nodeAt rows) v k)
+  pub top-small : getD s (o + v) 0 ≤ k
+  top-small = rw (b, x .listed .tops v (omega arith)) (top-le (nodeAt rows) v k)
 
   pub count-small : getD s (o + nc + v) 0 ≤ k
   count-small = rw (b, x .listed .counts v (omega arith)) (many-le (nodeAt rows) v k)

@@ -1,4 +1,4 @@
--- The search walks the list of one end of x→y, the rarer: its slots fall, so that the last hit is the lowest row. Assumes nothing.
+-- The search walks the list of one end of x→y, the rarer: its slots rise, so that the first hit is the lowest row. Assumes nothing.
 use mathlib.Core.Path.{_≡_, refl, sym, ap, _∙_}
 use mathlib.Core.Logic.{_≢_}
 use mathlib.Core.Bool.{Bool, true, false, _&&_, _||_}
@@ -14,13 +14,14 @@ use Rattle.lists.specs.declared.Found.the-variants.{At, Nothing}
 use Rattle.lists.specs.Lists.{cases}
 use Rattle.lists.specs.ListsLaw.{clash, and-left, and-right}
 use Rattle.lists.specs.PartsLaw.{not-so}
+use Rattle.lists.specs.Loops.{code}
 use Rattle.lists.specs.Search.{lowest}
 use Rattle.lists.specs.ChainLaw.{From, nowhere, there, search-is}
 use Rattle.meaning.specs.Mesh.{arrow, sameArrow}
 use Rattle.meaning.specs.Tables.{rowAt}
 use Rattle.tables.specs.Arrow.{arrowAt}
 use Rattle.tables.specs.Sized.{indexAt}
-use Rattle.tables.specs.Slots.{top, many, top-le, top-key, many-top, many-here, many-none}
+use Rattle.tables.specs.Slots.{top, many, seek, top-le, top-key, top-above, many-stays, many-more, many-here, found-is, none-found, following-higher, following-round}
 use Rattle.tables.specs.Ready.{Ready, Indexed, nodeAt}
 
 -- how many slots name node v, by the index
@@ -35,75 +36,34 @@ rarer s nc rows x y = cases (leb (countAt s nc rows x) (countAt s nc rows y)) x 
 unfoldable pub hits : List ℕ → ℕ → ℕ → ℕ → ℕ → Bool
 hits rows t x y k = ltb k (3 * t) && arrowAt rows x y (k / 3)
 
--- from slot n down: the row of the last slot that passes, or f where none does
-unfoldable pub back : (ℕ → Bool) → ℕ → Found → Found
-back p zero f = f
-back p (suc n) f = back p n (cases (p n) (At (n / 3)) f)
-
 -- what passes in the list of node v
 abbrev pub passes : List ℕ → ℕ → ℕ → ℕ → (ℕ → ℕ) → ℕ → ℕ → Bool
 passes rows t x y names v k = hits rows t x y k && eqb (names k) v
 
--- the walk along the list of v has come to the slot of number m, `ahead` slots are ahead, and f is the last hit
-pub record Walk (s : List ℕ) (nc : ℕ) (rows : List ℕ) (t x y v m ahead : ℕ) (f : Found) : Type 0 where
+-- the row of a slot that was found
+abbrev pub rowOf : Found → Found
+rowOf (At k) = At (k / 3)
+rowOf Nothing = Nothing
+
+-- the walk along the list of v stands at the slot of number m, whose next is the lowest of those ahead; `ahead` says how many these are, from
+-- slot `behind` on
+pub record Walk (s : List ℕ) (nc : ℕ) (rows : List ℕ) (t x y v m ahead : ℕ) : Type 0 where
   pub ready : Indexed s nc rows t
-  pub within : m ≤ ready .held
-  pub names-v : (k : ℕ) → m ≡ suc k → ready .names k ≡ v
-  pub counted : ahead ≡ many (ready .names) v m
-  pub rest : back (passes rows t x y (ready .names) v) m f ≡ lowest (arrowAt rows x y) 0 t
+  pub behind : ℕ
+  pub within : behind ≤ ready .held
+  pub counted : ahead + many (ready .names) v behind ≡ many (ready .names) v (ready .held)
+  pub stands : ahead ≢ 0 → (m ≢ 0) × (m ≤ ready .held)
+  pub next : ahead ≢ 0 → getD s (indexAt nc (length rows) + 2 * nc + (m - 1)) 0 ≡ code (seek (ready .names) v behind (ready .held))
+  pub rest : rowOf (lowest (passes rows t x y (ready .names) v) behind (ready .held)) ≡ lowest (arrowAt rows x y) 0 t
 
 -- v is one of the two
 pub data EndOf (x y : ℕ) : ℕ → Type 0 where
   from-x : EndOf x y x
   from-y : EndOf x y y
 
--- ---- laws of back
-
-back-none : (p : ℕ → Bool) (n : ℕ) (f : Found) → ((k : ℕ) → k < n → p k ≡ false) → back p n f ≡ f
-unfolding back
-back-none p zero f a = refl
-back-none p (suc n) f a = rw (a n (omega arith)) (back-none p n f (λ k l. a k (omega arith)))
-
-module _ (p : ℕ → Bool) (j : ℕ) where
-  back-stay : (n : ℕ) → ((k : ℕ) → k < n → p k ≡ true → k / 3 ≡ j) → back p n (At j) ≡ At j
-  unfolding back
-  back-stay zero a = refl
-  back-stay (suc n) a = go (p n) refl (back-stay n (λ k l q. a k (omega arith) q))
-    where
-      go : (b : Bool) → p n ≡ b → back p n (At j) ≡ At j → back p n (cases b (At (n / 3)) (At j)) ≡ At j
-      go true q ih = rw (a n (omega arith) q) ih
-      go false q ih = ih
-
-  -- row j is the lowest with a slot that passes
-  back-at : (n : ℕ) (f : Found) (i : ℕ) → i < n → i / 3 ≡ j → p i ≡ true → ((k : ℕ) → k < n → p k ≡ true → j ≤ k / 3) → back p n f ≡ At j
-  unfolding back
-  back-at zero f i l e y a = absurd (omega arith)
-  back-at (suc n) f i l e y a = go (p n) refl (ℕ-discrete (n / 3) j) (back-at n)
-    where
-      go : (b : Bool) → p n ≡ b → Dec (n / 3 ≡ j) → ((f : Found) (i : ℕ) → i < n → i / 3 ≡ j → p i ≡ true → ((k : ℕ) → k < n → p k ≡ true → j ≤ k / 3) → back p n f ≡ At j) →
-          back p n (cases b (At (n / 3)) f) ≡ At j
-      go true q (yes z) ih = rw z (back-stay n (λ k l q. let o = a k (omega arith) q in omega arith))
-      go true q (no z) ih = ih (At (n / 3)) i (let o : i ≢ n = (λ w. z (rw (← w) e)) in omega arith) e y (λ k l q. a k (omega arith) q)
-      go false q d ih = ih f i (let o : i ≢ n = (λ w. clash (sym y ∙ rw w q)) in omega arith) e y (λ k l q. a k (omega arith) q)
-
 and-no : (c : Bool) → c && false ≡ false
 and-no true = refl
 and-no false = refl
-
-and-yes : (c : Bool) → c && true ≡ c
-and-yes true = refl
-and-yes false = refl
-
--- what has another key does not pass: the walk goes along a list
-back-top : (p : ℕ → Bool) (key : ℕ → ℕ) (v n : ℕ) (f : Found) → back (λ k. p k && eqb (key k) v) n f ≡ back (λ k. p k && eqb (key k) v) (top key v n) f
-unfolding back top
-back-top p key v zero f = refl
-back-top p key v (suc n) f = go (eqb (key n) v) refl (back-top p key v n f)
-  where
-    go : (c : Bool) → eqb (key n) v ≡ c → back (λ k. p k && eqb (key k) v) n f ≡ back (λ k. p k && eqb (key k) v) (top key v n) f →
-        back (λ k. p k && eqb (key k) v) (suc n) f ≡ back (λ k. p k && eqb (key k) v) (cases c (suc n) (top key v n)) f
-    go true q ih = refl
-    go false q ih = rw (q, and-no (p n)) ih
 
 -- ---- the whole walk
 
@@ -147,38 +107,18 @@ module _ (s : List ℕ) (nc : ℕ) (rows : List ℕ) (t x y v : ℕ) (r : Indexe
       let d : arrowAt rows x y (z .at / 3) ≡ true = rw i a in
       rw (lt-ltb (z .at) (3 * t) u, d, c)
 
-  walk-whole : back (passes rows t x y (r .names) v) (r .held) Nothing ≡ lowest (arrowAt rows x y) 0 t
-  walk-whole = go (search-is (arrowAt rows x y) 0 t (omega arith))
+  walk-whole : rowOf (lowest (passes rows t x y (r .names) v) 0 (r .held)) ≡ lowest (arrowAt rows x y) 0 t
+  walk-whole = sym (found-is (arrowAt rows x y) 0 t (omega arith) (go (search-is (passes rows t x y (r .names) v) 0 (r .held) (omega arith))))
     where
-      go : {g : Found} → From (arrowAt rows x y) 0 t g → back (passes rows t x y (r .names) v) (r .held) Nothing ≡ g
-      go (nowhere n) = back-none (passes rows t x y (r .names) v) (r .held) Nothing (λ k u. not-so (passes rows t x y (r .names) v k) (λ q. let p = pass-row k q in clash (sym (p .1) ∙ n (k / 3) (omega arith) (p .0))))
-      go (there j a b here n) =
-          let z = slot-of rows x y j v w here in
-          let i = z .in-row in
-          let h = r .enough in
-          back-at (passes rows t x y (r .names) v) j (r .held) Nothing (z .at) (omega arith) i (pass-slot j b here z) (λ k u q. least k q)
-        where
-          least : (k : ℕ) → passes rows t x y (r .names) v k ≡ true → j ≤ k / 3
-          least k q = by (ltb (k / 3) j) refl
-            where
-              by : (c : Bool) → ltb (k / 3) j ≡ c → j ≤ k / 3
-              by true u = clash (sym (pass-row k q .1) ∙ n (k / 3) (omega arith) (ltb-true (k / 3) j u))
-              by false u = ltb-false (k / 3) j u
+      slot-in : (j : ℕ) → j < t → arrowAt rows x y j ≡ true → (z : Slot rows j v) → z .at < r .held
+      slot-in j h a z = let i = z .in-row in let e = r .enough in omega arith
 
--- ---- one slot, in the form of needs
-
-module _ (rows : List ℕ) (t x y k : ℕ) (f : Found) where
-  pub seen-past : 3 * t ≤ k → f ≡ cases (hits rows t x y k) (At (k / 3)) f
-  unfolding hits
-  seen-past h = rw (le-ltb k (3 * t) h)
-
-  pub seen-hit : (b : Bool) → k < 3 * t → b ≡ arrowAt rows x y (k / 3) → b ≡ true → At (k / 3) ≡ cases (hits rows t x y k) (At (k / 3)) f
-  unfolding hits
-  seen-hit b h e q = rw (lt-ltb k (3 * t) h, ← e, q)
-
-  pub seen-other : (b : Bool) → k < 3 * t → b ≡ arrowAt rows x y (k / 3) → b ≡ false → f ≡ cases (hits rows t x y k) (At (k / 3)) f
-  unfolding hits
-  seen-other b h e q = rw (lt-ltb k (3 * t) h, ← e, q)
+      go : {a : Found} → From (passes rows t x y (r .names) v) 0 (r .held) a → From (arrowAt rows x y) 0 t (rowOf a)
+      go (nowhere n) = nowhere (λ j l h. not-so (arrowAt rows x y j) (λ q. let z = slot-of rows x y j v w q in clash (sym (pass-slot j h q z) ∙ n (z .at) (omega arith) (slot-in j h q z))))
+      go (there k l h here n) =
+          let p = pass-row k here in
+          there (k / 3) (omega arith) (p .0) (p .1)
+          (λ j a b. not-so (arrowAt rows x y j) (λ q. let z = slot-of rows x y j v w q in let i = z .in-row in clash (sym (pass-slot j (omega arith) q z) ∙ n (z .at) (omega arith) (omega arith))))
 
 -- ---- which end
 
@@ -202,6 +142,15 @@ module _ (s : List ℕ) (nc : ℕ) (rows : List ℕ) (x y : ℕ) where
       go : {v : ℕ} → EndOf x y v → v < nc
       go from-x = a
       go from-y = b
+
+-- ---- what comes next, in the form of needs
+
+module _ (s : List ℕ) (z m a n : ℕ) (e : a ≡ m - 1) (f : n ≡ getD s (z + a) 0) where
+  pub after-some : (getD s (z + (m - 1)) 0 ≡ 0 → ⊥) → n ≡ 0 → ⊥
+  after-some h q = h (rw (← e) (sym f ∙ q))
+
+  pub after-is : (r : ℕ) → r ≡ n - 1 → r ≡ getD s (z + (m - 1)) 0 - 1
+  after-is r q = rw (← e, ← f) q
 
 -- ---- the turns
 
@@ -228,69 +177,151 @@ module _ (s : List ℕ) (nc : ℕ) (rows : List ℕ) (t x y : ℕ) (r : Ready s 
   outside-y = outside y from-y
 
 pub walk-start : (s : List ℕ) (nc : ℕ) (rows : List ℕ) (t x y v o m ahead : ℕ) → Ready s nc rows t → EndOf x y v → v < nc → o ≡ indexAt nc (length rows) → m ≡ getD s (o + v) 0 →
-    ahead ≡ getD s (o + nc + v) 0 → Walk s nc rows t x y v m ahead Nothing
-unfolding Ready
+    ahead ≡ getD s (o + nc + v) 0 → Walk s nc rows t x y v m ahead
+unfolding Ready many
 walk-start s nc rows t x y v o m ahead r w u e g h =
-    let q : m ≡ top (r .names) v (r .held) = (rw e at g) ∙ r .listed .heads v u in
     record {
       ready = r;
-      within = rw q (top-le (r .names) v (r .held));
-      names-v = λ k z. top-key (r .names) v (r .held) k (sym q ∙ z);
-      counted = (rw e at h) ∙ r .listed .counts v u ∙ rw q (sym (many-top (r .names) v (r .held)));
-      rest = rw q (sym (back-top (hits rows t x y) (r .names) v (r .held) Nothing) ∙ walk-whole s nc rows t x y v r w);
+      behind = 0;
+      within = omega arith;
+      counted = omega (arith, count-is);
+      stands = λ z. (not-none z, rw top-is (top-le (r .names) v (r .held)));
+      next = λ z. at-first (m - 1) (let b = not-none z in omega arith);
+      rest = walk-whole s nc rows t x y v r w;
     }
+  where
+    top-is : m ≡ top (r .names) v (r .held)
+    top-is = (rw e at g) ∙ r .listed .tops v u
 
-module _ (s : List ℕ) (nc : ℕ) (rows : List ℕ) (t x y v m ahead : ℕ) (f : Found) (w : Walk s nc rows t x y v m ahead f) where
+    count-is : ahead ≡ many (r .names) v (r .held)
+    count-is = (rw e at h) ∙ r .listed .counts v u
+
+    not-none : ahead ≢ 0 → m ≢ 0
+    not-none z q = z (count-is ∙ many-stays (r .names) v 0 (r .held) (omega arith) (λ j a b. top-above (r .names) v (r .held) j (let c = top-is in omega arith) b))
+
+    at-first : (k : ℕ) → m ≡ suc k → getD s (indexAt nc (length rows) + 2 * nc + k) 0 ≡ code (seek (r .names) v 0 (r .held))
+    at-first k q =
+        let l = top-le (r .names) v (r .held) in
+        let c = top-is in
+        let n : r .names k ≡ v = top-key (r .names) v (r .held) k (sym top-is ∙ q) in
+        r .listed .nexts k (omega arith)
+        ∙ following-round (r .names) k (r .held) (rw n (none-found (λ j. eqb (r .names j) v) (k + 1) (r .held) (omega arith) (λ j a b. top-above (r .names) v (r .held) j (omega arith) b)))
+        ∙ rw n
+
+-- what a later start tells, an earlier one does, where none passes between
+from-before : (f : ℕ → Bool) (i k t : ℕ) → i ≤ k → ((j : ℕ) → i ≤ j → j < k → f j ≡ false) → {g : Found} → From f k t g → From f i t g
+from-before f i k t h none r = go r
+  where
+    either : (j : ℕ) → i ≤ j → (d : Bool) → ltb j k ≡ d → (k ≤ j → f j ≡ false) → f j ≡ false
+    either j a true e later = none j a (ltb-true j k e)
+    either j a false e later = later (ltb-false j k e)
+
+    go : {g : Found} → From f k t g → From f i t g
+    go (nowhere n) = nowhere (λ j a b. either j a (ltb j k) refl (λ c. n j c b))
+    go (there l c d y n) = there l (omega arith) d y (λ j a b. either j a (ltb j k) refl (λ e. n j e b))
+
+-- slot k is the lowest from `behind` on with the key v
+record Meets (key : ℕ → ℕ) (v behind held k : ℕ) : Type 0 where
+  from : behind ≤ k
+  below : k < held
+  has-key : eqb (key k) v ≡ true
+  none-lower : (j : ℕ) → behind ≤ j → j < k → eqb (key j) v ≡ false
+
+module _ (s : List ℕ) (nc : ℕ) (rows : List ℕ) (t x y v m ahead : ℕ) (w : Walk s nc rows t x y v m ahead) where
   pub walk-rows : 3 * t ≤ length rows
   walk-rows = let a = w .ready .in-table in let b = w .ready .enough in omega arith
 
-  pub walk-end : ahead ≡ 0 → f ≡ lowest (arrowAt rows x y) 0 t
-  walk-end e =
-      sym (back-none (passes rows t x y (w .ready .names) v) m f
-      (λ k l. rw (many-none (w .ready .names) v m k (sym (w .counted) ∙ e) l) (and-no (hits rows t x y k)))) ∙ w .rest
+  pub walk-end : ahead ≡ 0 → Nothing ≡ lowest (arrowAt rows x y) 0 t
+  walk-end e = ap rowOf (sym (none-found (passes rows t x y (w .ready .names) v) (w .behind) (w .ready .held) (w .within) none)) ∙ w .rest
+    where
+      none : (j : ℕ) → w .behind ≤ j → j < w .ready .held → passes rows t x y (w .ready .names) v j ≡ false
+      none j a b = rw (not-so (eqb (w .ready .names j) v) (λ q. let c = many-more (w .ready .names) v (w .behind) j (w .ready .held) a b q in let d = w .counted in absurd (omega arith))) (and-no (hits rows t x y j))
 
   module _ (u : ahead ≡ 0 → ⊥) where
-    -- there is a slot
+    -- where it stands
     pub walk-some : m ≡ 0 → ⊥
-    unfolding many
-    walk-some e = u (w .counted ∙ rw e)
+    walk-some = w .stands u .0
 
-    module _ (k o : ℕ) (q : k ≡ m - 1) (z : o ≡ indexAt nc (length rows)) where
-      at-slot : m ≡ suc k
-      at-slot = let a = walk-some in omega arith
+    module _ (o : ℕ) (z : o ≡ indexAt nc (length rows)) where
+      pub walk-room : o + 2 * nc + (m - 1) < length s
+      walk-room = let b = w .stands u in let c = w .ready .in-table in let d = w .ready .sizes .scratch in omega arith
 
-      pub walk-room : o + 2 * nc + k < length s
-      walk-room = let a = w .ready .in-table in let b = w .within in let c = w .ready .sizes .scratch in let d = at-slot in omega arith
+      -- the next slot, the lowest of those ahead: one is there, since they are counted
+      meets : (k : ℕ) → k ≡ getD s (o + 2 * nc + (m - 1)) 0 - 1 → (getD s (o + 2 * nc + (m - 1)) 0 ≢ 0) × Meets (w .ready .names) v (w .behind) (w .ready .held) k
+      meets k h = go (search-is (λ j. eqb (w .ready .names j) v) (w .behind) (w .ready .held) (w .within)) refl
+        where
+          go : {g : Found} → From (λ j. eqb (w .ready .names j) v) (w .behind) (w .ready .held) g → seek (w .ready .names) v (w .behind) (w .ready .held) ≡ g →
+              (getD s (o + 2 * nc + (m - 1)) 0 ≢ 0) × Meets (w .ready .names) v (w .behind) (w .ready .held) k
+          go (nowhere n) r = let c = many-stays (w .ready .names) v (w .behind) (w .ready .held) (w .within) n in let d = w .counted in absurd (u (omega arith))
+          go (there j b c y n) r =
+              let d : getD s (o + 2 * nc + (m - 1)) 0 ≡ code (At j) = rw z (w .next u ∙ ap code r) in
+              let i : k ≡ j = omega arith in
+              (omega arith, rw i (record { from = b; below = c; has-key = y; none-lower = n }))
 
-      next-is : getD s (o + 2 * nc + k) 0 ≡ top (w .ready .names) v k + 1
-      next-is =
-          let c = w .within in let d = at-slot in
-          rw z (w .ready .listed .nexts k (omega arith) ∙ ap (λ (b : ℕ). top (w .ready .names) b k + 1) (w .names-v k d))
+      pub walk-met : getD s (o + 2 * nc + (m - 1)) 0 ≡ 0 → ⊥
+      walk-met = meets (getD s (o + 2 * nc + (m - 1)) 0 - 1) refl .0
 
-      pub walk-next : (n : ℕ) → n ≡ getD s (o + 2 * nc + k) 0 → 1 ≤ n
-      walk-next n e = let a = next-is in omega arith
+      module _ (k : ℕ) (h : k ≡ getD s (o + 2 * nc + (m - 1)) 0 - 1) where
+        met : Meets (w .ready .names) v (w .behind) (w .ready .held) k
+        met = meets k h .1
 
-      past : (g : Found) → g ≡ cases (hits rows t x y k) (At (k / 3)) f → back (passes rows t x y (w .ready .names) v) k g ≡ lowest (arrowAt rows x y) 0 t
-      unfolding back
-      past g e =
-          let c : hits rows t x y k && eqb (w .ready .names k) v ≡ hits rows t x y k =
-          rw (eq-eqb (w .ready .names k) v (w .names-v k at-slot)) (and-yes (hits rows t x y k)) in
-          let a = rw at-slot at (w .rest) in
-          ap (back (passes rows t x y (w .ready .names) v) k) (e ∙ ap (λ (b : Bool). cases b (At (k / 3)) f) (sym c)) ∙ a
+        -- past the limit, as are all ahead
+        pub met-past : 3 * t ≤ k → Nothing ≡ lowest (arrowAt rows x y) 0 t
+        unfolding hits
+        met-past l = ap rowOf (sym (none-found (passes rows t x y (w .ready .names) v) (w .behind) (w .ready .held) (w .within) (λ j b c. none j b (ltb j k) refl))) ∙ w .rest
+          where
+            none : (j : ℕ) → w .behind ≤ j → (d : Bool) → ltb j k ≡ d → passes rows t x y (w .ready .names) v j ≡ false
+            none j b true i = rw (met .none-lower j b (ltb-true j k i)) (and-no (hits rows t x y j))
+            none j b false i = let c = ltb-false j k i in rw (le-ltb j (3 * t) (omega arith))
 
-      pub walk-turn : (n m′ ahead′ : ℕ) (g : Found) → g ≡ cases (hits rows t x y k) (At (k / 3)) f → n ≡ getD s (o + 2 * nc + k) 0 → m′ ≡ n - 1 → ahead′ ≡ ahead - 1 →
-          Walk s nc rows t x y v m′ ahead′ g
-      walk-turn n m′ ahead′ g e h i j =
-          let names : ℕ → ℕ = w .ready .names in
-          let a = top-le names v k in
-          let b : m′ ≡ top names v k = (let c = next-is in omega arith) in
-          let c = w .within in
-          let d = at-slot in
-          let l : ahead ≡ suc (many names v k) = w .counted ∙ rw d (many-here names v k (w .names-v k d)) in
-          record {
-            ready = w .ready;
-            within = omega arith;
-            names-v = λ j z. top-key names v k j (sym b ∙ z);
-            counted = rw b (omega arith ∙ sym (many-top names v k));
-            rest = rw b (sym (back-top (hits rows t x y) names v k g) ∙ past g e);
-          }
+        module _ (b : Bool) (l : k < 3 * t) (g : b ≡ arrowAt rows x y (k / 3)) where
+          pub met-hit : b ≡ true → At (k / 3) ≡ lowest (arrowAt rows x y) 0 t
+          unfolding hits
+          met-hit c =
+              let n : ℕ → ℕ = w .ready .names in
+              let p : passes rows t x y n v k ≡ true = rw (lt-ltb k (3 * t) l, ← g, c, met .has-key) in
+              ap rowOf (sym (found-is (passes rows t x y n v) (w .behind) (w .ready .held) (w .within)
+              (there k (met .from) (met .below) p (λ j i d. rw (met .none-lower j i d) (and-no (hits rows t x y j)))))) ∙ w .rest
+
+          -- what does not hit at k does not pass up to it
+          misses-to : b ≡ false → (j : ℕ) → w .behind ≤ j → j < suc k → passes rows t x y (w .ready .names) v j ≡ false
+          unfolding hits
+          misses-to c j d e = go (ℕ-discrete j k)
+            where
+              go : Dec (j ≡ k) → passes rows t x y (w .ready .names) v j ≡ false
+              go (yes i) = rw (i, lt-ltb k (3 * t) l, ← g, c)
+              go (no i) = rw (met .none-lower j d (omega arith)) (and-no (hits rows t x y j))
+
+          pub met-on : (m′ ahead′ : ℕ) → b ≡ false → m′ ≡ k + 1 → ahead′ ≡ ahead - 1 → Walk s nc rows t x y v m′ ahead′
+          unfolding hits
+          met-on m′ ahead′ c r f =
+              let i = met .below in
+              record {
+                ready = w .ready;
+                behind = suc k;
+                within = i;
+                counted = counted-on;
+                stands = λ d. (omega arith, omega arith);
+                next = λ d. next-on d (search-is (λ j. eqb (w .ready .names j) v) (k + 1) (w .ready .held) (omega arith)) refl;
+                rest = ap rowOf (sym (found-is (passes rows t x y (w .ready .names) v) (w .behind) (w .ready .held) (w .within) (from-before (passes rows t x y (w .ready .names) v) (w .behind) (suc k) (w .ready .held) (let d = met .from in omega arith) (misses-to c) (search-is (passes rows t x y (w .ready .names) v) (suc k) (w .ready .held) i)))) ∙ w .rest;
+              }
+            where
+              counted-on : ahead′ + many (w .ready .names) v (suc k) ≡ many (w .ready .names) v (w .ready .held)
+              counted-on =
+                  let j = many-here (w .ready .names) v k (met .has-key) in
+                  let d = many-stays (w .ready .names) v (w .behind) k (met .from) (met .none-lower) in
+                  let i = w .counted in
+                  omega arith
+
+              next-on : ahead′ ≢ 0 → {g : Found} → From (λ j. eqb (w .ready .names j) v) (k + 1) (w .ready .held) g → seek (w .ready .names) v (k + 1) (w .ready .held) ≡ g →
+                  getD s (indexAt nc (length rows) + 2 * nc + (m′ - 1)) 0 ≡ code (seek (w .ready .names) v (suc k) (w .ready .held))
+              next-on d (nowhere n) r =
+                  let i = counted-on in
+                  let j = met .below in
+                  let o = many-stays (w .ready .names) v (suc k) (w .ready .held) j (λ l b c. n l (omega arith) c) in
+                  absurd (d (omega arith))
+              next-on d (there j l i y n) q =
+                  let v-is : w .ready .names k ≡ v = eqb-true (w .ready .names k) v (met .has-key) in
+                  let one : suc k ≡ k + 1 = omega arith in
+                  let same : m′ - 1 ≡ k = omega arith in
+                  rw (same, one, q) (w .ready .listed .nexts k (met .below) ∙ following-higher (w .ready .names) k (w .ready .held) j (rw v-is q))

@@ -2,18 +2,17 @@
 // in row k / 3. A slot's number is k + 1, and 0 is none. With o for `indexAt` and nc for the room of nodes:
 //   o + v           the number of the highest slot that names node v
 //   o + nc + v      how many slots name it
-//   o + 2 nc + k    one more than the number of the next lower slot that names the node of slot k; 0 where slot k is not in
+//   o + 2 nc + k    the number of the next higher slot that names the node of slot k, and for the highest of the lowest; 0 where slot k
+//                   is not in
 ghost use mathlib.Core.Path.{_≡_};
-ghost use Prim.Native.Nat.{_+_, _-_, _*_, _/_, _≤_, _<_};
+ghost use Prim.Native.Nat.{_+_, _-_, _*_, _≤_, _<_};
 ghost use lib.ListN.{length, take, getD};
-ghost use Rattle.lists.specs.declared.Found.the-variants.{At};
-ghost use Rattle.lists.specs.Lists.{cases};
 ghost use Rattle.lists.specs.Search.{lowest};
 ghost use Rattle.tables.specs.Arrow.{arrowAt};
 ghost use Rattle.tables.specs.Sized.{Sized, indexAt, slotsOf};
-ghost use Rattle.tables.specs.Slots.{joinSlot};
+ghost use Rattle.tables.specs.Slots.{before, putAfter, joinSlot};
 ghost use Rattle.tables.specs.Ready.{Ready, nodeAt};
-ghost use Rattle.tables.specs.Walk.{rarer, hits, EndOf};
+ghost use Rattle.tables.specs.Walk.{rarer, EndOf};
 ghost use Rattle.tables.specs.Join.{InRange, Exact, isFree};
 use lists::Found;
 
@@ -41,20 +40,6 @@ pub fn rarer(rows: &[u32], scratch: &[u32], nc: usize, x: u32, y: u32) -> u32
     y
 }
 
-// The last hit, when slot k is met.
-fn seen(rows: &[u32], t: usize, x: u32, y: u32, k: usize, f: Found) -> Found
-    requires { ⌜ 3 * t ≤ length (now rows) ⌝ }
-    ensures { λ r. ⌜ r ≡ cases (hits (now (rows .entry)) t x y k) (At (k / 3)) f ⌝ }
-{
-    if k >= 3 * t {
-        return f;
-    }
-    if crate::edge_at(rows, x, y, k / 3) {
-        return Found::At(k / 3);
-    }
-    f
-}
-
 // The slot of number m.
 fn slot(m: u32) -> usize
     requires { ⌜ (m ≡ 0 → ⊥) ⌝ }
@@ -63,7 +48,17 @@ fn slot(m: u32) -> usize
     m as usize - 1
 }
 
-// Along the slots that name v, one end of x→y: as many turns as there are. They fall, so that the last hit is the lowest row.
+// The slot that comes next after the one of number m. The next ones stand at z and on.
+fn after(scratch: &[u32], z: usize, m: u32) -> usize
+    requires { ⌜ (m ≡ 0 → ⊥) ⌝ }
+    requires { ⌜ z + (m - 1) < length (now scratch) ⌝ }
+    requires { ⌜ (getD (now scratch) (z + (m - 1)) 0 ≡ 0 → ⊥) ⌝ }
+    ensures { λ r. ⌜ r ≡ getD (now (scratch .entry)) (z + (m - 1)) 0 - 1 ⌝ }
+{
+    slot(crate::note_at(scratch, z + slot(m)))
+}
+
+// Along the slots that name v, one end of x→y: as many turns as there are, at most. They rise, so that the first hit is the lowest row.
 pub fn walk(rows: &[u32], scratch: &[u32], nc: usize, t: usize, x: u32, y: u32, v: u32) -> Found
     requires { ⌜ Ready (now scratch) nc (now rows) t ⌝ }
     requires { ⌜ v < nc ⌝ }
@@ -73,28 +68,54 @@ pub fn walk(rows: &[u32], scratch: &[u32], nc: usize, t: usize, x: u32, y: u32, 
     let o = index_at(rows, nc);
     let mut m = crate::note_at(scratch, o + v as usize);
     let mut ahead = crate::note_at(scratch, o + nc + v as usize);
-    let mut f = Found::Nothing;
     while ahead != 0 {
-        let k = slot(m);
-        f = seen(rows, t, x, y, k, f);
-        m = crate::note_at(scratch, o + 2 * nc + k) - 1;
+        let k = after(scratch, o + 2 * nc, m);
+        if k >= 3 * t {
+            return Found::Nothing;
+        }
+        if crate::edge_at(rows, x, y, k / 3) {
+            return Found::At(k / 3);
+        }
+        m = k as u32 + 1;
         ahead -= 1;
     }
-    f
+    Found::Nothing
 }
 
 // ---- rows join
 
-// Slot k, which names v, is put in front of the slots that name v. The index begins at o.
+// The slot after which slot k comes, where m is the number of the highest: that one, or k itself.
+fn before(m: u32, k: usize) -> usize
+    requires { ⌜ m ≤ k ⌝ }
+    ensures is { λ r. ⌜ r ≡ before m k ⌝ }
+    ensures within { λ r. ⌜ r ≤ k ⌝ }
+{
+    if m == 0 {
+        return k;
+    }
+    slot(m)
+}
+
+// Slot k comes after slot a, and before the one that came after that. The next ones stand at z and on.
+fn put_after(scratch: &mut [u32], z: usize, a: usize, k: usize)
+    requires { ⌜ (a ≤ k) × (k < 262_144) × (z + k < length (now scratch)) ⌝ }
+    ensures { λ _. ⌜ now (scratch .exit) ≡ putAfter z a k (now (scratch .entry)) ⌝ }
+{
+    let next = crate::note_at(scratch, z + a);
+    crate::put_note(scratch, z + k, next);
+    crate::put_note(scratch, z + a, k as u32 + 1);
+}
+
+// Slot k, which names v, becomes the highest that does. The index begins at o.
 fn put_slot(scratch: &mut [u32], o: usize, nc: usize, k: usize, v: u32)
     requires { ⌜ (v < nc) × (k < 262_144) × (o + 2 * nc + k < length (now scratch)) ⌝ }
     requires { ⌜ getD (now scratch) (o + v) 0 ≤ k ⌝ }
     requires { ⌜ getD (now scratch) (o + nc + v) 0 ≤ k ⌝ }
     ensures { λ _. ⌜ now (scratch .exit) ≡ joinSlot nc o k v (now (scratch .entry)) ⌝ }
 {
-    let highest = crate::note_at(scratch, o + v as usize);
+    let highest = before(crate::note_at(scratch, o + v as usize), k);
     let many = crate::note_at(scratch, o + nc + v as usize);
-    crate::put_note(scratch, o + 2 * nc + k, highest + 1);
+    put_after(scratch, o + 2 * nc, highest, k);
     crate::put_note(scratch, o + v as usize, k as u32 + 1);
     crate::put_note(scratch, o + nc + v as usize, many + 1);
 }

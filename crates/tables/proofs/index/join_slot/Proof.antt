@@ -1,10 +1,10 @@
-use Rattle.tables.specs.Join.{head-small, count-small, exact-join, notes-join}
+use Rattle.tables.specs.Join.{top-small, count-small, exact-join, notes-join}
 use borrow.Author.Needs.{needs}
 use Rattle.tables.proofs.index.join_slot.Statement.{statement}
 use Rattle.tables.proofs.index.join_slot.Tie as tie
 
 put-slot-requires : tie.Need-put-slot-requires
-put-slot-requires c κs = (search needs, (search (needs, head-small), search (needs, count-small)))
+put-slot-requires c κs = (search needs, (search (needs, top-small), search (needs, count-small)))
 
 returns : tie.Need-returns
 returns c = (search (needs, notes-join), search (needs, exact-join))

@@ -14,7 +14,8 @@ use Rattle.meaning.specs.declared.Tri.{Tri}
 use Rattle.meaning.specs.Tables.{rowAt}
 use Rattle.tables.specs.Sized.{Sized, Corners, indexAt, slotsOf}
 use Rattle.tables.specs.PutLaw.{tail-filled}
-use Rattle.tables.specs.Slots.{Listed, before, putAfter, joinSlot, top-le, many-le, join-length, join-take, listed-start, listed-agree, listed-free, listed-join}
+use Rattle.tables.specs.Slots.{Listed, before, putAfter, joinSlot, top-le, many-le}
+use Rattle.tables.specs.SlotsLaw.{join-length, join-take, listed-start, listed-agree, listed-free, listed-join}
 use Rattle.tables.specs.Ready.{Ready, nodeAt, cornerOf, slot-corner}
 
 -- the first n slots name nodes below nc

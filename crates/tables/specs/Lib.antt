@@ -2,7 +2,9 @@ pub mod Arrow
 pub mod Sized
 pub mod Put
 pub mod PutLaw
+pub mod FoundLaw
 pub mod Slots
+pub mod SlotsLaw
 pub mod Ready
 pub mod Walk
 pub mod Join

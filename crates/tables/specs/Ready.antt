@@ -10,7 +10,8 @@ use lib.Seq.{drop-set-lt, getD-drop}
 use Rattle.meaning.specs.declared.Tri.{Tri}
 use Rattle.meaning.specs.Tables.{rowAt}
 use Rattle.tables.specs.Sized.{Sized, indexAt, slotsOf}
-use Rattle.tables.specs.Slots.{Listed, listed-start, listed-kept}
+use Rattle.tables.specs.Slots.{Listed}
+use Rattle.tables.specs.SlotsLaw.{listed-start, listed-kept}
 
 -- the node that slot k names
 abbrev pub nodeAt : List ℕ → ℕ → ℕ

@@ -3,7 +3,7 @@ use mathlib.Core.Path.{_≡_, refl, sym, ap, _∙_}
 use mathlib.Core.Logic.{_≢_}
 use mathlib.Core.Bool.{Bool, true, false, _&&_, _||_}
 use mathlib.Core.List.{List}
-use Prim.Native.Nat.{ℕ, zero, suc, _+_, _-_, _*_, _/_, _≤_, _<_}
+use Prim.Native.Nat.{ℕ, suc, _+_, _-_, _*_, _/_, _≤_, _<_}
 use native.Mathlib.Omega.{arith}
 use native.Mathlib.Decide.{ℕ-discrete}
 use borrow.Author.Tests.{eqb-true, eq-eqb, ltb-true, ltb-false, lt-ltb, le-ltb, le-leb, lt-leb}
@@ -21,7 +21,8 @@ use Rattle.meaning.specs.Mesh.{arrow, sameArrow}
 use Rattle.meaning.specs.Tables.{rowAt}
 use Rattle.tables.specs.Arrow.{arrowAt}
 use Rattle.tables.specs.Sized.{indexAt}
-use Rattle.tables.specs.Slots.{top, many, seek, top-le, top-key, top-above, many-stays, many-more, many-here, found-is, none-found, following-higher, following-round}
+use Rattle.tables.specs.FoundLaw.{found-is, none-found, from-before}
+use Rattle.tables.specs.Slots.{top, many, seek, top-le, top-key, top-above, many-stays, many-more, many-here, following-higher, following-round}
 use Rattle.tables.specs.Ready.{Ready, Indexed, nodeAt}
 
 -- how many slots name node v, by the index
@@ -68,10 +69,10 @@ and-no false = refl
 -- ---- the whole walk
 
 -- a row that holds x→y has a slot that names v, one of the two
-pub record Slot (rows : List ℕ) (j v : ℕ) : Type 0 where
-  pub at : ℕ
-  pub in-row : at / 3 ≡ j
-  pub names-it : nodeAt rows at ≡ v
+record Slot (rows : List ℕ) (j v : ℕ) : Type 0 where
+  at : ℕ
+  in-row : at / 3 ≡ j
+  names-it : nodeAt rows at ≡ v
 
 slot-of : (rows : List ℕ) (x y j v : ℕ) → EndOf x y v → arrowAt rows x y j ≡ true → Slot rows j v
 unfolding arrowAt rowAt
@@ -207,18 +208,6 @@ walk-start s nc rows t x y v o m ahead r w u e g h =
         r .listed .nexts k (omega arith)
         ∙ following-round (r .names) k (r .held) (rw n (none-found (λ j. eqb (r .names j) v) (k + 1) (r .held) (omega arith) (λ j a b. top-above (r .names) v (r .held) j (omega arith) b)))
         ∙ rw n
-
--- what a later start tells, an earlier one does, where none passes between
-from-before : (f : ℕ → Bool) (i k t : ℕ) → i ≤ k → ((j : ℕ) → i ≤ j → j < k → f j ≡ false) → {g : Found} → From f k t g → From f i t g
-from-before f i k t h none r = go r
-  where
-    either : (j : ℕ) → i ≤ j → (d : Bool) → ltb j k ≡ d → (k ≤ j → f j ≡ false) → f j ≡ false
-    either j a true e later = none j a (ltb-true j k e)
-    either j a false e later = later (ltb-false j k e)
-
-    go : {g : Found} → From f k t g → From f i t g
-    go (nowhere n) = nowhere (λ j a b. either j a (ltb j k) refl (λ c. n j c b))
-    go (there l c d y n) = there l (omega arith) d y (λ j a b. either j a (ltb j k) refl (λ e. n j e b))
 
 -- slot k is the lowest from `behind` on with the key v
 record Meets (key : ℕ → ℕ) (v behind held k : ℕ) : Type 0 where

@@ -1,5 +1,5 @@
--- What the neighbour search takes, where a search for x→y has as many turns as corners are x, or are y, whichever are fewer: over all
--- directed edges of a lawful mesh that is never quadratic. Assumes nothing.
+-- What the neighbour search takes, where a search for x→y has at most as many turns as corners are x, or are y, whichever are fewer: over
+-- all directed edges of a lawful mesh that is never quadratic. Assumes nothing.
 use mathlib.Core.Bool.{Bool, true, false, _&&_}
 use mathlib.Core.List.{List, [], _∷_}
 use mathlib.Core.Path.{_≡_, refl, sym, _∙_}
@@ -30,7 +30,7 @@ outOf es v = count (λ e. eqb (e .from) v) es
 unfoldable pub timesNamed : List Tri → ℕ → ℕ
 timesNamed ts = outOf (joined arrows ts)
 
--- the turns of one search for each directed edge of the rows
+-- the turns of one search for each directed edge of the rows, at most
 unfoldable pub turns : List Tri → ℕ
 turns ts = tally (λ e. min (timesNamed ts (e .from)) (timesNamed ts (e .to))) (joined arrows ts)
 

@@ -1,33 +1,30 @@
 -- A row joins the index, slot by slot; and the index made anew. Assumes nothing.
 use mathlib.Core.Path.{_≡_, refl, sym, ap, _∙_}
 use mathlib.Core.List.{List, _++_}
+use mathlib.Core.Bool.{Bool, true, false}
 use Prim.Native.Nat.{ℕ, zero, suc, _+_, _-_, _*_, _/_, _%_, _≤_, _<_}
 use native.Mathlib.Omega.{arith}
 use native.Mathlib.Decide.{ℕ-discrete}
-use mathlib.Core.Bool.{Bool, true, false}
 use borrow.Rule.Slice.PartMut.{putMid, midOf}
-use lib.Dec.{eqb, ltb}
 use borrow.Author.Tests.{eqb-true, eq-eqb, ne-eqb, ltb-true, ltb-false}
+use lib.Dec.{eqb, ltb}
 use lib.ListN.{length, getD, set, take, replicate, length-append, length-replicate, getD-replicate}
 use lib.Seq.{length-take-le, take-append-le, take-take, getD-append-add}
 use Rattle.meaning.specs.declared.Tri.{Tri}
 use Rattle.meaning.specs.Tables.{rowAt}
 use Rattle.tables.specs.Sized.{Sized, Corners, indexAt, slotsOf}
 use Rattle.tables.specs.PutLaw.{tail-filled}
-use Rattle.tables.specs.Slots.{Listed, before, putAfter, joinSlot, top-le, many-le}
-use Rattle.tables.specs.SlotsLaw.{join-length, join-take, listed-start, listed-agree, listed-free, listed-join}
-use Rattle.tables.specs.Ready.{Ready, nodeAt, cornerOf, slot-corner}
+use Rattle.tables.specs.Slots.{before, putAfter, joinSlot, top-le, many-le}
+use Rattle.tables.specs.SlotsLaw.{join-length, join-take, listed-agree, listed-free, listed-join}
+use Rattle.tables.specs.Ready.{Ready, Holds, nodeAt, holds-none, cornerOf, slot-corner}
 
 -- the first n slots name nodes below nc
 abbrev pub InRange : ℕ → List ℕ → ℕ → Type 0
 InRange nc rows n = (k : ℕ) → k < n → nodeAt rows k < nc
 
--- the first n slots are in the index, and no others
-pub record Exact (scratch : List ℕ) (nc : ℕ) (rows : List ℕ) (n : ℕ) : Type 0 where
-  pub sizes : Sized nc (length rows) (length scratch)
-  pub in-table : n ≤ slotsOf (length rows)
-  pub in-range : InRange nc rows n
-  pub listed : Listed (nodeAt rows) nc (slotsOf (length rows)) (indexAt nc (length rows)) n scratch
+-- the first n slots are in the index as the table names nodes now, and no others
+abbrev pub Exact : List ℕ → ℕ → List ℕ → ℕ → Type 0
+Exact scratch nc rows n = Holds scratch nc (length rows) (nodeAt rows) n
 
 -- slot k is not in the index
 abbrev pub isFree : List ℕ → ℕ → List ℕ → ℕ → Bool
@@ -96,13 +93,7 @@ module _ (s ys : List ℕ) (nc : ℕ) (rows : List ℕ) (o : ℕ) (z : Sized nc 
       ∙ (rw n at (getD-append-add (take o s) (replicate (length s - o) 0) (k - o) 0)) ∙ getD-replicate (length s - o) (k - o) 0 0 (omega arith)
 
   pub exact-blank : Exact (putMid o (length s - o) s ys) nc rows 0
-  exact-blank = record {
-    sizes = rw long z;
-    in-table = omega arith;
-    in-range = λ k u. absurd (omega arith);
-    listed = listed-start (nodeAt rows) nc (slotsOf (length rows)) (indexAt nc (length rows)) (putMid o (length s - o) s ys)
-        (let a = z .scratch in let l = long in omega arith) (λ k u h. (let l = long in zero-at k (omega arith) (omega arith)));
-  }
+  exact-blank = holds-none (putMid o (length s - o) s ys) nc (length rows) (nodeAt rows) (rw long z) (λ k u h. (let l = long in zero-at k (omega arith) (omega arith)))
 
   pub notes-blank : take (indexAt nc (length rows)) (putMid o (length s - o) s ys) ≡ take (indexAt nc (length rows)) s
   notes-blank = rw (← b, blanked) (let l = length-take-le o s in-scratch in take-append-le o (take o s) (replicate (length s - o) 0) (omega arith) ∙ take-take o o s (omega arith))
@@ -128,29 +119,20 @@ pub exact-ready : (s : List ℕ) (nc : ℕ) (rows : List ℕ) (i : ℕ) (b : Boo
 unfolding Ready
 exact-ready s nc rows i b r e f =
     let o : ℕ = indexAt nc (length rows) in
-    let l = r .listed in
+    let l = r .holds .listed in
     let a = listed-free (r .names) nc (slotsOf (length rows)) o (r .held) (3 * i) s l (eqb-true (getD s (o + 2 * nc + 3 * i) 0) 0 (sym e ∙ f)) in
     let g = r .enough in
     let q : r .held ≡ 3 * i = omega arith in
     record {
-      sizes = r .sizes;
-      in-table = let c = r .in-table in omega arith;
-      in-range = λ k u. (let c = r .same k u in let d = r .in-range k (omega arith) in omega arith);
+      sizes = r .holds .sizes;
+      in-table = let c = r .holds .in-table in omega arith;
+      in-range = λ k u. (let c = r .same k u in let d = r .holds .in-range k (omega arith) in omega arith);
       listed = listed-agree (r .names) nc (slotsOf (length rows)) o (nodeAt rows) (3 * i) s (r .same) (rw q at l);
     }
 
 pub ready-exact : (s : List ℕ) (nc : ℕ) (rows : List ℕ) (i : ℕ) → Exact s nc rows (3 * i + 3) → Ready s nc rows (i + 1)
 unfolding Ready
-ready-exact s nc rows i x = record {
-  sizes = x .sizes;
-  held = 3 * i + 3;
-  names = nodeAt rows;
-  enough = omega arith;
-  in-table = x .in-table;
-  in-range = x .in-range;
-  same = λ k u. refl;
-  listed = x .listed;
-}
+ready-exact s nc rows i x = record { held = 3 * i + 3; names = nodeAt rows; holds = x; enough = omega arith; same = λ k u. refl }
 
 corners-in : (nc : ℕ) (w : Tri) → Corners nc w → (c : ℕ) → cornerOf w c < nc
 unfolding cornerOf
@@ -164,7 +146,7 @@ unfolding Ready
 ready-in-range s nc rows i r c k u = go (ltb k (3 * i)) refl
   where
     go : (b : Bool) → ltb k (3 * i) ≡ b → nodeAt rows k < nc
-    go true q = let h = ltb-true k (3 * i) q in let e = r .same k h in let a = r .enough in let d = r .in-range k (omega arith) in omega arith
+    go true q = let h = ltb-true k (3 * i) q in let e = r .same k h in let a = r .enough in let d = r .holds .in-range k (omega arith) in omega arith
     go false q =
         let h = ltb-false k (3 * i) q in
         let a : k / 3 ≡ i = omega arith in

@@ -17,59 +17,70 @@ use Rattle.tables.specs.SlotsLaw.{listed-start, listed-kept}
 abbrev pub nodeAt : List ℕ → ℕ → ℕ
 nodeAt rows k = getD rows k 0
 
--- `held` slots are listed, each under the node that it named when it joined: as the first t rows do now. Rows from t on may have changed
+-- the first n slots are in the index, slot k under the node `names k`; tl is the length of the triangle table
+pub record Holds (scratch : List ℕ) (nc tl : ℕ) (names : ℕ → ℕ) (n : ℕ) : Type 0 where
+  pub sizes : Sized nc tl (length scratch)
+  pub in-table : n ≤ slotsOf tl
+  pub in-range : (k : ℕ) → k < n → names k < nc
+  pub listed : Listed names nc (slotsOf tl) (indexAt nc tl) n scratch
+
+-- `held` slots are in, each under the node that it named when it joined: as the first t rows do now. Rows from t on may have changed
 -- since, or be no longer asked about
 pub record Indexed (scratch : List ℕ) (nc : ℕ) (rows : List ℕ) (t : ℕ) : Type 0 where
-  pub sizes : Sized nc (length rows) (length scratch)
   pub held : ℕ
   pub names : ℕ → ℕ
+  pub holds : Holds scratch nc (length rows) names held
   pub enough : 3 * t ≤ held
-  pub in-table : held ≤ slotsOf (length rows)
-  pub in-range : (k : ℕ) → k < held → names k < nc
   pub same : (k : ℕ) → k < 3 * t → names k ≡ nodeAt rows k
-  pub listed : Listed names nc (slotsOf (length rows)) (indexAt nc (length rows)) held scratch
 
 unfoldable pub Ready : List ℕ → ℕ → List ℕ → ℕ → Type 0
 Ready scratch nc rows t = Indexed scratch nc rows t
+
+-- where all is zero no slot is in
+pub holds-none : (scratch : List ℕ) (nc tl : ℕ) (names : ℕ → ℕ) → Sized nc tl (length scratch) → ((k : ℕ) → indexAt nc tl ≤ k → k < length scratch → getD scratch k 0 ≡ 0) → Holds scratch nc tl names 0
+holds-none scratch nc tl names z e = record {
+  sizes = z;
+  in-table = omega arith;
+  in-range = λ k h. absurd (omega arith);
+  listed = listed-start names nc (slotsOf tl) (indexAt nc tl) scratch (let a = z .scratch in omega arith) e;
+}
 
 -- no row is in the index of a scratch that is all zero
 pub ready-start : (scratch rows : List ℕ) (nc : ℕ) → Sized nc (length rows) (length scratch) → scratch ≡ replicate (length scratch) 0 → Ready scratch nc rows 0
 unfolding Ready
 ready-start scratch rows nc z e = record {
-  sizes = z;
   held = 0;
   names = nodeAt rows;
+  holds = holds-none scratch nc (length rows) (nodeAt rows) z (λ k a h. (ap (λ (v : List ℕ). getD v k 0) e ∙ getD-replicate (length scratch) k 0 0 h));
   enough = omega arith;
-  in-table = omega arith;
-  in-range = λ k h. absurd (omega arith);
   same = λ k h. refl;
-  listed = listed-start (nodeAt rows) nc (slotsOf (length rows)) (indexAt nc (length rows)) scratch (let a = z .scratch in omega arith)
-      (λ k a h. (ap (λ (v : List ℕ). getD v k 0) e ∙ getD-replicate (length scratch) k 0 0 h));
 }
 
 -- the sizes are as they were at the start
 pub ready-sized : (scratch rows : List ℕ) (nc t : ℕ) → Ready scratch nc rows t → Sized nc (length rows) (length scratch)
 unfolding Ready
-ready-sized scratch rows nc t r = r .sizes
+ready-sized scratch rows nc t r = r .holds .sizes
 
 -- the rows are in the table
 pub ready-rows : (scratch rows : List ℕ) (nc t : ℕ) → Ready scratch nc rows t → 3 * t ≤ length rows
 unfolding Ready
-ready-rows scratch rows nc t r = let a = r .enough in let b = r .in-table in omega arith
+ready-rows scratch rows nc t r = let a = r .enough in let b = r .holds .in-table in omega arith
 
 -- the notes do not matter
 pub ready-kept : (scratch scratch′ rows : List ℕ) (nc t : ℕ) → length scratch′ ≡ length scratch → drop (indexAt nc (length rows)) scratch′ ≡ drop (indexAt nc (length rows)) scratch →
     Ready scratch nc rows t → Ready scratch′ nc rows t
 unfolding Ready
 ready-kept scratch scratch′ rows nc t l d r = record {
-  sizes = rw l (r .sizes);
   held = r .held;
   names = r .names;
+  holds = record {
+    sizes = rw l (r .holds .sizes);
+    in-table = r .holds .in-table;
+    in-range = r .holds .in-range;
+    listed = listed-kept (r .names) nc (slotsOf (length rows)) (indexAt nc (length rows)) (r .held) scratch scratch′ (λ k h. same-at k (indexAt nc (length rows)) h d) (r .holds .listed);
+  };
   enough = r .enough;
-  in-table = r .in-table;
-  in-range = r .in-range;
   same = r .same;
-  listed = listed-kept (r .names) nc (slotsOf (length rows)) (indexAt nc (length rows)) (r .held) scratch scratch′ (λ k h. same-at k (indexAt nc (length rows)) h d) (r .listed);
 }
   where
     same-at : (k o : ℕ) → o ≤ k → drop o scratch′ ≡ drop o scratch → getD scratch′ k 0 ≡ getD scratch k 0
@@ -99,14 +110,11 @@ pub ready-fewer : (scratch rows rows′ : List ℕ) (nc t i : ℕ) → i ≤ t �
     Ready scratch nc rows t → Ready scratch nc rows′ i
 unfolding Ready
 ready-fewer scratch rows rows′ nc t i h e a r = record {
-  sizes = rw e (r .sizes);
   held = r .held;
   names = r .names;
+  holds = rw e (r .holds);
   enough = let b = r .enough in omega arith;
-  in-table = rw e (r .in-table);
-  in-range = r .in-range;
   same = λ k u. (r .same k (omega arith) ∙ slot-corner rows k ∙ ap (λ (w : Tri). cornerOf w (k % 3)) (sym (a (k / 3) (omega arith))) ∙ sym (slot-corner rows′ k));
-  listed = rw e (r .listed);
 }
 
 -- ---- from the laws above

@@ -168,7 +168,7 @@ module _ (s : List ℕ) (nc : ℕ) (rows : List ℕ) (t x y : ℕ) (r : Ready s 
           let i = z .in-row in
           let e = r .enough in
           let c = r .same (z .at) (omega arith) ∙ z .names-it in
-          let d = r .in-range (z .at) (omega arith) in
+          let d = r .holds .in-range (z .at) (omega arith) in
           absurd (omega arith)
 
   pub outside-x : nc ≤ x → Nothing ≡ lowest (arrowAt rows x y) 0 t
@@ -192,10 +192,10 @@ walk-start s nc rows t x y v o m ahead r w u e g h =
     }
   where
     top-is : m ≡ top (r .names) v (r .held)
-    top-is = (rw e at g) ∙ r .listed .tops v u
+    top-is = (rw e at g) ∙ r .holds .listed .tops v u
 
     count-is : ahead ≡ many (r .names) v (r .held)
-    count-is = (rw e at h) ∙ r .listed .counts v u
+    count-is = (rw e at h) ∙ r .holds .listed .counts v u
 
     not-none : ahead ≢ 0 → m ≢ 0
     not-none z q = z (count-is ∙ many-stays (r .names) v 0 (r .held) (omega arith) (λ j a b. top-above (r .names) v (r .held) j (let c = top-is in omega arith) b))
@@ -205,7 +205,7 @@ walk-start s nc rows t x y v o m ahead r w u e g h =
         let l = top-le (r .names) v (r .held) in
         let c = top-is in
         let n : r .names k ≡ v = top-key (r .names) v (r .held) k (sym top-is ∙ q) in
-        r .listed .nexts k (omega arith)
+        r .holds .listed .nexts k (omega arith)
         ∙ following-round (r .names) k (r .held) (rw n (none-found (λ j. eqb (r .names j) v) (k + 1) (r .held) (omega arith) (λ j a b. top-above (r .names) v (r .held) j (omega arith) b)))
         ∙ rw n
 
@@ -218,7 +218,7 @@ record Meets (key : ℕ → ℕ) (v behind held k : ℕ) : Type 0 where
 
 module _ (s : List ℕ) (nc : ℕ) (rows : List ℕ) (t x y v m ahead : ℕ) (w : Walk s nc rows t x y v m ahead) where
   pub walk-rows : 3 * t ≤ length rows
-  walk-rows = let a = w .ready .in-table in let b = w .ready .enough in omega arith
+  walk-rows = let a = w .ready .holds .in-table in let b = w .ready .enough in omega arith
 
   pub walk-end : ahead ≡ 0 → Nothing ≡ lowest (arrowAt rows x y) 0 t
   walk-end e = ap rowOf (sym (none-found (passes rows t x y (w .ready .names) v) (w .behind) (w .ready .held) (w .within) none)) ∙ w .rest
@@ -233,7 +233,7 @@ module _ (s : List ℕ) (nc : ℕ) (rows : List ℕ) (t x y v m ahead : ℕ) (w 
 
     module _ (o : ℕ) (z : o ≡ indexAt nc (length rows)) where
       pub walk-room : o + 2 * nc + (m - 1) < length s
-      walk-room = let b = w .stands u in let c = w .ready .in-table in let d = w .ready .sizes .scratch in omega arith
+      walk-room = let b = w .stands u in let c = w .ready .holds .in-table in let d = w .ready .holds .sizes .scratch in omega arith
 
       -- the next slot, the lowest of those ahead: one is there, since they are counted
       meets : (k : ℕ) → k ≡ getD s (o + 2 * nc + (m - 1)) 0 - 1 → (getD s (o + 2 * nc + (m - 1)) 0 ≢ 0) × Meets (w .ready .names) v (w .behind) (w .ready .held) k
@@ -313,4 +313,4 @@ module _ (s : List ℕ) (nc : ℕ) (rows : List ℕ) (t x y v m ahead : ℕ) (w 
                   let v-is : w .ready .names k ≡ v = eqb-true (w .ready .names k) v (met .has-key) in
                   let one : suc k ≡ k + 1 = omega arith in
                   let same : m′ - 1 ≡ k = omega arith in
-                  rw (same, one, q) (w .ready .listed .nexts k (met .below) ∙ following-higher (w .ready .names) k (w .ready .held) j (rw v-is q))
+                  rw (same, one, q) (w .ready .holds .listed .nexts k (met .below) ∙ following-higher (w .ready .names) k (w .ready .held) j (rw v-is q))

@@ -26,6 +26,23 @@ pub fn widen(g: &mut Tables, nc: usize, tc: usize) {
     g.scratch = vec![7; 4 * (nc + tc)];
 }
 
+/// How far copies of a mesh are moved apart: twice the side of the largest of those copied, and sixteen stay in range.
+const APART: i32 = 1 << 17;
+
+/// `count` copies of the mesh in lines of four, with `count` times its room. The first `n0` nodes of all copies are numbered first, then the
+/// others copy by copy; rows are listed copy by copy.
+pub fn copies(one: &Tables, n0: usize, count: usize) -> Tables {
+    let number = |copy: usize, k: usize| if k < n0 { copy * n0 + k } else { count * n0 + copy * (one.n - n0) + k - n0 };
+    let (mut nodes, mut rows) = (vec![(0, 0); count * one.n], vec![]);
+    for copy in 0..count {
+        let (right, up) = (APART * (copy % 4) as i32, APART * (copy / 4) as i32);
+        let places = one.nodes.chunks(2).take(one.n).enumerate();
+        places.for_each(|(k, place)| nodes[number(copy, k)] = (place[0] + right, place[1] + up));
+        rows.extend(one.rows.chunks(3).take(one.t).map(|row| [0, 1, 2].map(|corner| number(copy, row[corner] as usize) as u32)));
+    }
+    tables(&(nodes, rows), count * one.nodes.len() / 2, count * one.rows.len() / 3)
+}
+
 /// 1,024 nodes and 2,048 rows: a grid of 31 by 31 squares, and 126 rows more over it whose edges span two squares.
 pub fn full() -> Mesh {
     let (nodes, mut rows) = grid(31, 31, 8);
@@ -91,7 +108,8 @@ pub fn shuffled(d: &mut Dice, (nodes, rows): &Mesh) -> Mesh {
     (place.iter().map(|&old| nodes[old]).collect(), order.iter().map(renamed).collect())
 }
 
-fn any_order(d: &mut Dice, count: usize) -> Vec<usize> {
+/// The numbers below `count`, in an order that is drawn.
+pub fn any_order(d: &mut Dice, count: usize) -> Vec<usize> {
     let mut order: Vec<usize> = (0..count).collect();
     (1..count).rev().for_each(|k| order.swap(k, d.below(k + 1)));
     order

@@ -1,8 +1,10 @@
 //! Times of the proved library beside the rival's, on the same tables in one run. Both are optimised; tables are copied and scratch is
-//! filled with sevens before each call, outside the time taken. Usage: times, or
+//! filled with sevens before each call, outside the time taken. Calls are timed in two ways: "warm" is the middle of runs of a call one after
+//! the other, "cold" that of runs made once in a round of all calls, whose tables were all copied before it. What a cold call takes to begin
+//! weighs more on a small mesh. Usage: times, or
 //!   times counted   the instructions that the proved library takes for each call, counted by callgrind
 //!   times once      each call made once by the proved library, for the former
-use compare::meshes::{dense, double_fan, fan, fitting, full, grown, shuffled, tables, widen, Marked, Mesh};
+use compare::meshes::{any_order, copies, dense, double_fan, fan, fitting, full, grown, shuffled, tables, widen, Marked, Mesh};
 use compare::{made, proved, rival as other, Call};
 use rival::calls::{Answer, Tables};
 use rival::random::{grid, Dice};
@@ -12,6 +14,19 @@ use std::time::{Duration, Instant};
 
 /// The node counts at which every call is measured: before it, or after it where it adds nodes. There is room for these and twice as many rows.
 const SIZES: [usize; 4] = [64, 256, 529, 1024];
+
+/// How many copies of the mesh of the least size every call is measured on, side by side: so a mesh grows, and its form and passes do not.
+const COPIES: [usize; 2] = [4, 16];
+
+/// A call at every size, and then on every number of copies.
+const FAMILY: usize = SIZES.len() + COPIES.len();
+
+/// One of the two programs.
+type By = fn(&Call, &mut Tables) -> Answer;
+const BOTH: [By; 2] = [proved, other];
+
+/// A way to measure what every case takes.
+type Measure = fn(&[Case]) -> Vec<Cost>;
 
 struct Case {
     name: String,
@@ -45,8 +60,23 @@ fn added(name: &str, call: Marked, every: usize, n: usize) -> Case {
     case(name, filling, g)
 }
 
-/// Every call at every size: a grid is checked; a square that was grown is refined, cut in four, coarsened and restored.
-fn sized() -> Vec<Case> {
+/// The call made on so many copies of its mesh at once. Each must come out as the one does.
+fn copied(one: &Case, count: usize) -> Case {
+    let (n0, call) = match &one.call {
+        Call::Check => (0, Call::Check),
+        Call::Refine(n0, marks) => (*n0, Call::Refine(n0 * count, marks.repeat(count))),
+        Call::Quarter(n0, marks) => (*n0, Call::Quarter(n0 * count, marks.repeat(count))),
+        Call::Coarsen(n0, marks) => (*n0, Call::Coarsen(n0 * count, marks.repeat(count))),
+        Call::Restore(n0) => (*n0, Call::Restore(n0 * count)),
+    };
+    let all = Case { name: format!("{}, {count} copies of the first", one.name), call, given: copies(&one.given, n0, count) };
+    let [a, said] = [one, &all].map(|case| made(&case.call, &case.given, other).0);
+    assert_eq!((said.number, said.n, said.t, said.passes), (0, count * a.n, count * a.t, a.passes), "{}", all.name);
+    all
+}
+
+/// Every call in its family: a grid is checked; a square that was grown is refined, cut in four, coarsened and restored.
+fn families() -> Vec<Case> {
     let families: [fn(usize) -> Case; 5] = [
         checked,
         |n| added("refine", Call::Refine, 3, n),
@@ -54,7 +84,12 @@ fn sized() -> Vec<Case> {
         |n| case("one full pass", Call::Coarsen(4, vec![1; n]), grown(n)),
         |n| case("restore", Call::Restore(4), grown(n)),
     ];
-    families.iter().flat_map(|family| SIZES.map(family)).collect()
+    let members = |family: &fn(usize) -> Case| {
+        let sized = SIZES.map(family);
+        let copies = COPIES.map(|count| copied(&sized[0], count));
+        sized.into_iter().chain(copies)
+    };
+    families.iter().flat_map(members).collect()
 }
 
 fn largest(mesh: &Mesh) -> Tables {
@@ -90,27 +125,45 @@ fn bad() -> Vec<Case> {
     cases
 }
 
+fn time(call: &Call, g: &mut Tables, by: By) -> Duration {
+    let start = Instant::now();
+    by(call, g);
+    start.elapsed()
+}
+
 /// What eleven runs take if the call takes less than a millisecond, and otherwise one. One run goes before, to warm up.
-fn runs(case: &Case, by: fn(&Call, &mut Tables) -> Answer) -> Vec<Duration> {
-    let run = || {
-        let mut g = case.given.clone();
-        let start = Instant::now();
-        by(&case.call, &mut g);
-        start.elapsed()
-    };
+fn runs(case: &Case, by: By) -> Vec<Duration> {
+    let run = || time(&case.call, &mut case.given.clone(), by);
     let short = run() < Duration::from_millis(1);
     (0..if short { 11 } else { 1 }).map(|_| run()).collect()
 }
 
 /// The middle of all runs of nine rounds through all calls, so that a slow moment of the machine meets few of any call's runs.
-fn timed(cases: &[Case]) -> Vec<Cost> {
+fn warm(cases: &[Case]) -> Vec<Cost> {
     let mut taken = vec![[vec![], vec![]]; cases.len()];
     for _ in 0..9 {
-        for (case, [ours, theirs]) in cases.iter().zip(&mut taken) {
-            ours.extend(runs(case, proved));
-            theirs.extend(runs(case, other));
+        for (case, taken) in cases.iter().zip(&mut taken) {
+            taken.iter_mut().zip(BOTH).for_each(|(times, by)| times.extend(runs(case, by)));
         }
     }
+    middles(taken)
+}
+
+/// The middle of 101 rounds, in each of which both programs make every call once, in an order drawn for the round.
+fn cold(cases: &[Case]) -> Vec<Cost> {
+    let d = &mut Dice::new(1);
+    let mut taken = vec![[vec![], vec![]]; cases.len()];
+    for _ in 0..101 {
+        let mut given: Vec<_> = cases.iter().map(|case| [case.given.clone(), case.given.clone()]).collect();
+        for drawn in any_order(d, 2 * cases.len()) {
+            let (k, who) = (drawn / 2, drawn % 2);
+            taken[k][who].push(time(&cases[k].call, &mut given[k][who], BOTH[who]));
+        }
+    }
+    middles(taken)
+}
+
+fn middles(taken: Vec<[Vec<Duration>; 2]>) -> Vec<Cost> {
     let middle = |mut times: Vec<Duration>| {
         times.sort();
         times[times.len() / 2].as_nanos() as f64
@@ -160,38 +213,44 @@ fn row(case: &Case, cost: &Cost) -> String {
     format!("| {} | {} | {} | {} | {} | {} | {measured} |", case.name, g.n, g.t, a.n, a.t, a.passes)
 }
 
-/// By how much the cost per node (and per row) grew from the least size to the largest, call by call.
-fn growth(cases: &[Case], costs: &[Cost], of: fn(&Cost) -> f64) -> String {
-    let last = SIZES.len() - 1;
-    let grew = cases.chunks(SIZES.len()).zip(costs.chunks(SIZES.len())).map(|(case, cost)| {
-        let each = |k: usize| shares(&case[k]).map(|share| of(&cost[k]) / share);
-        let ([node, row], [first_node, first_row]) = (each(last), each(0));
-        format!("{} {:.2} ({:.2})", case[0].name, node / first_node, row / first_row)
+/// By how much the cost per node (and per row, if by another number) grew from the first of each family to the one at this place.
+fn growth(families: &[Case], costs: &[f64], place: usize) -> String {
+    let grew = families.chunks(FAMILY).zip(costs.chunks(FAMILY)).map(|(case, cost)| {
+        let each = |k: usize| shares(&case[k]).map(|share| cost[k] / share);
+        let ([node, row], [first_node, first_row]) = (each(place), each(0));
+        let [node, row] = [node / first_node, row / first_row].map(|times| format!("{times:.2}"));
+        let by_row = if row == node { String::new() } else { format!(" ({row})") };
+        format!("{} {node}{by_row}", case[0].name)
     });
     grew.collect::<Vec<_>>().join(", ")
 }
 
-fn tell(measures: &str, measure: fn(&[Case]) -> Vec<Cost>) {
-    let (sized, bad) = (sized(), bad());
-    let in_family = sized.len();
-    let cases: Vec<Case> = sized.into_iter().chain(bad).collect();
-    let costs = measure(&cases);
+/// The table, of the first way to measure; then by how much a call's cost grew with the size and with the copies, each way.
+fn tell(measures: &str, ways: &[(&str, Measure)]) {
+    let families = families();
+    let in_families = families.len();
+    let cases: Vec<Case> = families.into_iter().chain(bad()).collect();
+    let costs: Vec<_> = ways.iter().map(|(_, measure)| measure(&cases)).collect();
     println!("| call | nodes | rows | nodes after | rows after | passes | {measures} |");
     println!("|{}", "---|".repeat(6 + measures.split('|').count()));
-    cases.iter().zip(&costs).for_each(|(case, cost)| println!("{}", row(case, cost)));
-    let (cases, costs) = (&cases[..in_family], &costs[..in_family]);
-    println!("\nPer node (per row) the proved calls took at 1,024 nodes, as a multiple of that at 64:");
-    println!("{}.", growth(cases, costs, |cost| cost.ours));
-    if costs[0].theirs.is_some() {
-        println!("The rival: {}.", growth(cases, costs, |cost| cost.theirs.unwrap_or(f64::NAN)));
+    cases.iter().zip(&costs[0]).for_each(|(case, cost)| println!("{}", row(case, cost)));
+    println!();
+    let grown = [(SIZES.len() - 1, "1,024 nodes against 64, per node (per row)"), (FAMILY - 1, "Sixteen copies against one, per node")];
+    for (place, what) in grown {
+        for ((way, _), costs) in ways.iter().zip(&costs) {
+            let grew = |costs: Vec<f64>| growth(&cases[..in_families], &costs, place);
+            let theirs: Option<Vec<f64>> = costs.iter().map(|cost| cost.theirs).collect();
+            let rival = theirs.map_or(String::new(), |theirs| format!("; the rival: {}", grew(theirs)));
+            println!("{what}, {way}: {}{rival}.", grew(costs.iter().map(|cost| cost.ours).collect()));
+        }
     }
 }
 
 fn main() {
     match std::env::args().nth(1).as_deref() {
-        None => tell("proved | ns a node | ns a row | rival | ratio", timed),
-        Some("counted") => tell("instructions | a node | a row", counted),
-        Some("once") => sized().iter().chain(&bad()).for_each(|case| drop(made(&case.call, &case.given, proved))),
+        None => tell("proved | ns a node | ns a row | rival | ratio", &[("warm", warm), ("cold", cold)]),
+        Some("counted") => tell("instructions | a node | a row", &[("instructions", counted)]),
+        Some("once") => families().iter().chain(&bad()).for_each(|case| drop(made(&case.call, &case.given, proved))),
         Some(word) => panic!("times: no word {word}"),
     }
 }

@@ -1,7 +1,6 @@
 //! Times of the proved library beside the rival's, on the same tables in one run. Both are optimised; tables are copied and scratch is
 //! filled with sevens before each call, outside the time taken. Calls are timed in two ways: "warm" is the middle of runs of a call one after
-//! the other, "cold" that of runs made once in a round of all calls, whose tables were all copied before it. What a cold call takes to begin
-//! weighs more on a small mesh. Usage: times, or
+//! the other, "cold" that of runs made once in a round of all calls, whose tables were all copied before it. Usage: times, or
 //!   times counted   the instructions that the proved library takes for each call, counted by callgrind
 //!   times once      each call made once by the proved library, for the former
 use compare::meshes::{any_order, copies, dense, double_fan, fan, fitting, full, grown, shuffled, tables, widen, Marked, Mesh};
@@ -16,6 +15,7 @@ use std::time::{Duration, Instant};
 const SIZES: [usize; 4] = [64, 256, 529, 1024];
 
 /// How many copies of the mesh of the least size every call is measured on, side by side: so a mesh grows, and its form and passes do not.
+/// Since copies are alike, times flatter many of them, cold ones most; instructions do not.
 const COPIES: [usize; 2] = [4, 16];
 
 /// A call at every size, and then on every number of copies.

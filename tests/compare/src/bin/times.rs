@@ -15,7 +15,7 @@ use std::time::{Duration, Instant};
 const SIZES: [usize; 4] = [64, 256, 529, 1024];
 
 /// How many copies of the mesh of the least size every call is measured on, side by side: so a mesh grows, and its form and passes do not.
-/// Since copies are alike, times flatter many of them, cold ones most; instructions do not.
+/// Since copies are alike, times flatter many of them; instructions do not.
 const COPIES: [usize; 2] = [4, 16];
 
 /// A call at every size, and then on every number of copies.

@@ -1,5 +1,7 @@
 -- What the neighbour search takes, where a search for x→y has at most as many turns as corners are x, or are y, whichever are fewer: over
--- all directed edges of a lawful mesh that is never quadratic. Assumes nothing.
+-- all directed edges of a lawful mesh that is never quadratic. With d for how many corners are a node, min(d x, d y) squared is at most
+-- d x * d y; the sum of these products counts pairs of corners, one named x and one y, and each pair is met by one edge at most, so that
+-- it is n * n with n corners; and the square of a sum of n numbers is at most n times the sum of their squares. Assumes nothing.
 use mathlib.Core.Bool.{Bool, true, false, _&&_}
 use mathlib.Core.List.{List, [], _∷_}
 use mathlib.Core.Path.{_≡_, refl, sym, _∙_}
@@ -146,15 +148,18 @@ turns-01 m law few = go (leb (turns (m .tris)) 481_589) refl
 
 -- ---- the slots of a triangle table
 
+one-in : (a : Bool) (k : ℕ) → sucIf a k ≡ k + sucIf a 0
+one-in true k = omega arith
+one-in false k = omega arith
+
 three-in : (a b c : Bool) (k : ℕ) → sucIf c (sucIf b (sucIf a k)) ≡ k + sucIf a (sucIf b (sucIf c 0))
-three-in true true true k = omega arith
-three-in true true false k = omega arith
-three-in true false true k = omega arith
-three-in true false false k = omega arith
-three-in false true true k = omega arith
-three-in false true false k = omega arith
-three-in false false true k = omega arith
-three-in false false false k = omega arith
+three-in a b c k =
+    let u = one-in c (sucIf b (sucIf a k)) in
+    let v = one-in b (sucIf a k) in
+    let w = one-in a k in
+    let x = one-in a (sucIf b (sucIf c 0)) in
+    let y = one-in b (sucIf c 0) in
+    omega arith
 
 many-row : (l : List ℕ) (v t : ℕ) → many (λ k. getD l k 0) v (3 * (t + 1)) ≡ many (λ k. getD l k 0) v (3 * t) + outOf (arrows (rowAt l t)) v
 unfolding many rowAt

@@ -1,4 +1,6 @@
--- The search walks the list of one end of x→y, the rarer: its slots rise, so that the first hit is the lowest row. Assumes nothing.
+-- The search walks the list of one end of x→y, the rarer: its slots rise, so that the first hit is the lowest row. What is kept from turn to
+-- turn (`Walk`): the slots ahead are as many as were counted, the next of where the walk stands is the lowest of them, and the first of them
+-- that passes is the answer. Assumes nothing.
 use mathlib.Core.Path.{_≡_, refl, sym, ap, _∙_}
 use mathlib.Core.Logic.{_≢_}
 use mathlib.Core.Bool.{Bool, true, false, _&&_, _||_}

@@ -65,7 +65,7 @@ fn frame(
 }
 
 // Whether the tables and the buffer are as long as those of the program, and the counts within its rooms.
-fn whole(nl: usize, rl: usize, sl: usize, ol: usize, session: Session) -> bool
+pub fn whole(nl: usize, rl: usize, sl: usize, ol: usize, session: Session) -> bool
     ensures { λ r. ⌜ r ≡ l.whole nl rl sl ol session ⌝ }
 {
     (nl == 1024)

@@ -1,4 +1,5 @@
--- Document 01, 'The line program': all that is written for a whole input. Assumes nothing.
+-- Document 01, 'The line program': all that is written for a whole input; and request W4: what stands after a text that may go on.
+-- Assumes nothing.
 use mathlib.Core.Bool.{Bool, true, false}
 use mathlib.Core.List.{List, [], _∷_, _++_}
 use Prim.Native.Nat.{ℕ}
@@ -11,12 +12,12 @@ use Rattle.protocol.specs.Frames.{Held, held, session, Step, ff, lineSte
 -- "one frame a line, .. ended by byte 0x0A": a line without that byte; or the last one, if it has none
 pub data Line : Type 0 where
   whole : List ℕ → Line
-  endless : Line
+  endless : List ℕ → Line
 
 abbrev pub before : ℕ → List Line → List Line
-before b [] = endless ∷ []
+before b [] = endless (b ∷ []) ∷ []
 before b (whole l ∷ ls) = whole (b ∷ l) ∷ ls
-before b (endless ∷ ls) = endless ∷ ls
+before b (endless l ∷ ls) = endless (b ∷ l) ∷ ls
 
 abbrev pub addByte : Bool → ℕ → List Line → List Line
 addByte true b ls = whole [] ∷ ls
@@ -29,7 +30,7 @@ linesOf (b ∷ bs) = addByte (eqb b 0x0a) b (linesOf bs)
 -- "Anything malformed (a line .. without its end byte included) .. answers `ff`"
 abbrev pub stepOf : Held → Line → Step
 stepOf h (whole l) = lineStep h l
-stepOf h endless = ff h
+stepOf h (endless l) = ff h
 
 -- "The program holds each table whole, 1,024 rows of triangles included."
 abbrev pub start : Held
@@ -48,3 +49,22 @@ closing = bytes "end\n"
 
 unfoldable pub program : List ℕ → List ℕ
 program input = opening ++ answers start (linesOf input) ++ closing
+
+-- W4: "The frames, the `ff` answers and the state at the end must be those of the whole text": what is held after it, all that was said to
+-- its lines, and the bytes after the last end byte, which wait. "a last line without its end byte is malformed only once the end is
+-- announced"
+pub record Stands : Type 0 where
+  pub held : Held
+  pub said : List ℕ
+  pub waits : List ℕ
+
+abbrev pub stands : Held → List ℕ → List ℕ → Stands
+stands h said l = record { held = h; said = said; waits = l }
+
+abbrev pub saidBefore : List ℕ → Stands → Stands
+saidBefore text s = stands (s .held) (text ++ s .said) (s .waits)
+
+abbrev pub standsAfter : Held → List Line → Stands
+standsAfter h [] = stands h [] []
+standsAfter h (whole l ∷ ls) = saidBefore (lineStep h l .text) (standsAfter (lineStep h l .next) ls)
+standsAfter h (endless l ∷ ls) = stands h [] l

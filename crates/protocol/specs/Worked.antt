@@ -1,4 +1,5 @@
--- The line program on the texts of document 01 and on texts of our own: rows of one list, under one claim. Assumes nothing.
+-- The line program on the texts of document 01 and on texts of our own, and what stands after a text that may go on: rows of one list, under
+-- one claim each. Assumes nothing.
 use mathlib.Core.Path.{_≡_, refl}
 use mathlib.Core.List.{List, [], _∷_, _++_, map}
 use Prim.Native.Nat.{ℕ}
@@ -17,8 +18,9 @@ use Rattle.meaning.specs.Calls.{checkNo, refineNo, coarsenNo, checks, refines, 
 use Rattle.tables.specs.Put.{setPlace, setRow}
 use Rattle.text.specs.Digits.{bytes, isDigit, worth, number, listed, signed, unsigned, hexDigit, hex}
 use Rattle.text.specs.Lines.{placeIn, rowIn, answerLine, nodeLine, rowLine, allLines}
+use Rattle.protocol.specs.declared.Session.{Session}
 use Rattle.protocol.specs.Frames.{refinesIn, wellFormed, listsBelow, admits, takes, addNode, addRow, marksOf, called, sessionAfter, frame, lineStep, Held, held, session, Step, step}
-use Rattle.protocol.specs.Program.{program}
+use Rattle.protocol.specs.Program.{linesOf, start, program, Stands, standsAfter}
 
 -- ---- whole texts
 
@@ -184,3 +186,42 @@ rows =
 lines-stepped : map (λ r. r .got) rows ≡ map (λ r. r .expected) rows
 unfolding rows only full tight lowest lowestFrom items itemsFrom twiceArea refusal compatible faultOf firstOutside firstMisnamed firstRepeat firstFlat firstUnused firstClash closure splitEdges splitAt split refined pairs span G1-4 good taken without coarsened goodNodes pass restored placeAt rowAt meshOf checkNo refineNo coarsenNo checks refines coarsens restores culpritOf sizesFit checkOut refineOut coarsenOut restoreOut setPlace setRow isDigit worth number listed signed unsigned hexDigit hex placeIn rowIn answerLine nodeLine rowLine allLines refinesIn wellFormed listsBelow admits takes addNode addRow marksOf called sessionAfter frame lineStep
 lines-stepped = refl
+
+-- ---- W4: texts that may go on
+
+-- what is said to the whole lines, the bytes that wait for their end byte, and the session
+record Standing : Type 0 where
+  said : List ℕ
+  waits : List ℕ
+  session : Session
+
+record Text : Type 0 where
+  came : List ℕ
+  leaves : Standing
+
+after : List ℕ → List ℕ → List ℕ → Session → Text
+after a b l s = record { came = a; leaves = record { said = b; waits = l; session = s } }
+
+standing : List ℕ → Standing
+standing text = let s : Stands = standsAfter start (linesOf text) in record { said = s .said; waits = s .waits; session = s .held .session }
+
+texts : List Text
+texts =
+    after [] [] [] (session 0 0 0 false) ∷
+    -- "a last line without its end byte is malformed only once the end is announced"
+    after (bytes "0") [] (bytes "0") (session 0 0 0 false) ∷
+    after (bytes "03") [] (bytes "03") (session 0 0 0 false) ∷
+    after (bytes "03\n") (bytes "03000000000000000000\n") [] (session 0 0 0 true) ∷
+    after (bytes "03\n0") (bytes "03000000000000000000\n") (bytes "0") (session 0 0 0 true) ∷
+    after (bytes "\nf\n07") (bytes "ff\nff\n") (bytes "07") (session 0 0 0 false) ∷
+    -- frames that have no answer; the second is not whole
+    after (bytes "010000000000000000\n010000000800000000") [] (bytes "010000000800000000") (session 1 0 0 false) ∷
+    after (square ++ bytes "06") (bytes "03000004000200000000\n") (bytes "06") (session 4 2 4 true) ∷
+    after (square ++ bytes "040000\n06") (bytes "03000004000200000000\n04000005000400000000\n") (bytes "06") (session 5 4 4 true) ∷
+    -- a line that is too long already waits too
+    after (bytes "03\n" ++ replicate 300 0x30) (bytes "03000000000000000000\n") (replicate 300 0x30) (session 0 0 0 true) ∷
+    []
+
+texts-stand : map (λ t. standing (t .came)) texts ≡ map (λ t. t .leaves) texts
+unfolding texts after standing corners square lowest lowestFrom items itemsFrom twiceArea refusal compatible faultOf firstOutside firstMisnamed firstRepeat firstFlat firstUnused firstClash closure splitEdges splitAt split refined placeAt rowAt meshOf checkNo refineNo checks refines culpritOf sizesFit checkOut refineOut setPlace setRow isDigit worth number listed signed unsigned hexDigit hex placeIn rowIn answerLine refinesIn wellFormed listsBelow admits takes addNode addRow marksOf called sessionAfter frame lineStep
+texts-stand = refl

@@ -1,5 +1,4 @@
--- The reader: bytes cut into lines. Read Reader; `spoken` (Spoken) says that what the program writes is what document 01 says.
-pub mod Reader
-pub mod ReaderLaw
+-- The code of the reader, tied to the definitions of `pieces`.
+pub mod Values
 pub mod Within
-pub mod Spoken
+pub mod ReaderLaw

@@ -8,6 +8,11 @@ use Rattle.meaning.specs.Split.{Way}
 use Rattle.meaning.specs.Tables.{Given, Outcome, outcome, answer}
 use Rattle.meaning.specs.Calls.{checkOut, refineOut, coarsenOut}
 use Rattle.laws.specs.CallLaw.{AsGiven, check-leaves, refine-no-passes, coarsen-no-passes}
+use Rattle.text.specs.Writing.{wrote}
+use Rattle.reader.specs.declared.Took.{Took}
+use Rattle.reader.specs.Values.{carries, took}
+use Rattle.pieces.specs.Reader.{Reader, Taken, tells, beginOut, endOut}
+use Rattle.pieces.specs.Parts.{begin-taken, end-taken}
 
 module _ (a : Answer) (nodes : List ℤ) (rows scratch : List ℕ) where
   -- the base check shows the counts it was given and no passes
@@ -28,4 +33,17 @@ module _ (a : Answer) (nodes : List ℤ) (rows scratch : List ℕ) where
       outcome (answer (a .number) (a .n) (a .t) 0 (a .culprit)) nodes rows scratch ≡ coarsenOut g n0 marks
   coarsen-answer marks g n0 e = without-passes _ (coarsen-no-passes g n0 marks) e
 
-pub ruleset exported = (check-answer, refine-answer, coarsen-answer)
+-- begin and end take no byte of a piece
+module _ (k : Took) (line : List ℕ) (ns : List ℤ) (rs sc out : List ℕ) where
+  without-taken : (x : Taken) → x .taken ≡ 0 → took k line ns rs sc out ≡ x → tells (k .number) 0 (wrote (k .written) out) (carries (k .carried) line ns rs sc) ≡ x
+  without-taken x z e = (λ i. tells (k .number) (sym (ap (λ (y : Taken). y .taken) e ∙ z) i) (wrote (k .written) out) (carries (k .carried) line ns rs sc)) ∙ e
+
+  pub begin-answer : (line₀ : List ℕ) (ns₀ : List ℤ) (rs₀ sc₀ out₀ : List ℕ) → took k line ns rs sc out ≡ beginOut line₀ ns₀ rs₀ sc₀ out₀ →
+      tells (k .number) 0 (wrote (k .written) out) (carries (k .carried) line ns rs sc) ≡ beginOut line₀ ns₀ rs₀ sc₀ out₀
+  begin-answer line₀ ns₀ rs₀ sc₀ out₀ = without-taken (beginOut line₀ ns₀ rs₀ sc₀ out₀) (begin-taken line₀ ns₀ rs₀ sc₀ out₀)
+
+  pub end-answer : (r : Reader) (out₀ : List ℕ) → took k line ns rs sc out ≡ endOut r out₀ →
+      tells (k .number) 0 (wrote (k .written) out) (carries (k .carried) line ns rs sc) ≡ endOut r out₀
+  end-answer r out₀ = without-taken (endOut r out₀) (end-taken r out₀)
+
+pub ruleset exported = (check-answer, refine-answer, coarsen-answer, begin-answer, end-answer)

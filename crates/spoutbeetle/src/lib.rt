@@ -1,5 +1,7 @@
 // The calls for programs in other languages. A slice passes as a pointer and a length; counts pass by reference and are the new ones after.
 // Every call leaves behind `culprit` the node or row that is to blame for a refusal as 3 to 7, and 0 with any other number.
+mod reading;
+
 ghost use mathlib.Core.Path.{_≡_};
 ghost use Rattle.meaning.specs.Split.{newest, allThree};
 ghost use Rattle.meaning.specs.Tables.{given, outcome, answer};

@@ -11,8 +11,9 @@ abbrev μ-loop : tie.MeasureT-loop
 μ-loop line₀ nodes₀ rows₀ scratch₀ out₀ talk₀ turns₀ line nodes rows scratch out talk turns = turns
 
 pub talk-on-spec : {M : Type 1} → statement M
-talk-on-spec = tie.close (tie.spec
-    Inv-loop μ-loop (λ c κs. search needs) (λ c. search needs) (λ c κs. search needs) (λ c. search needs)
-    (λ c. search needs) (λ c. search needs) (λ c. search needs) (λ c. search needs) (λ c. search needs) (λ c. search needs)
-    (λ c. search needs) (λ c. search needs) (λ c. search needs) (λ c. search needs) (λ c. search needs) (λ c. search needs)
+talk-on-spec =
+    tie.close
+    (tie.spec
+    Inv-loop μ-loop (λ c. search needs) (λ c κs. search needs) (λ c. search needs) (λ c. search needs)
+    (λ c. search needs) (λ c. search needs) (λ c. search needs) (λ c. search needs) (λ c. search needs)
     (λ c. search needs) (λ c. search needs))

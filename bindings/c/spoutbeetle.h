@@ -1,5 +1,7 @@
 /* Spoutbeetle: a triangle mesh that can be refined, coarsened and restored, proved.
  *
+ * First the calls on a mesh; then the reader, which takes the line program's text in pieces and makes these calls for it.
+ *
  * Every call takes any lengths, counts and contents, ends, and returns a number. The caller lends the tables; a table is a pointer and
  * a length in numbers (not bytes). What a call asks of its pointers, and cannot test: each is valid, aligned and not null (also where
  * the length is 0); the tables do not overlap; n, t, passes and culprit, where they are pointers, are valid, aligned, distinct from each
@@ -11,12 +13,13 @@
  *   marks    one byte for each triangle (refine, quarter) or node (coarsen), 0 or 1; never written
  *   n, t     how many nodes and triangles there are
  *   n0       how many of the nodes belong to the factory mesh
- *   culprit  the last parameter of every call, written by every call: with 3 to 7 the lowest node or triangle at fault, counted from 0;
+ *   culprit  the last parameter of every call on a mesh, written by each: with 3 to 7 the lowest node or triangle at fault, counted from 0;
  *            0 with every other number. What it held before does not matter
  *
  * Numbers (the lowest that applies is returned), and the culprit:
  *    0  done: the tables hold the new mesh, zeros past the new counts
- *    1  a table length is not a multiple of its row, a room or count is out of bounds, n0 is above n, or scratch is short
+ *    1  a table length is not a multiple of its row, a room or count is out of bounds, n0 is above n, or scratch is short; of the reader:
+ *       something is lent in another size, or the state is none that a call left
  *    2  the mark table has another length, or a byte above 1
  *    3  a coordinate of a node is outside -1,048,576 .. 1,048,576: the lowest such node
  *    4  a triangle names a node that is not below n, or one node twice: the lowest such triangle
@@ -26,13 +29,15 @@
  *    8  an edge to be split has an odd sum of x or of y
  *    9  the new counts are above NC or TC
  *   10  the labelling is not compatible (check only)
+ *   17  a piece over 512 bytes, or any after the end was announced (reader only)
  *
  * A refusal (any number but 0) changes no node, no triangle, no mark and no count, and makes no pass; scratch is all zero, also where
- * it was too short.
+ * it was too short. A refusal by the reader changes nothing at all.
  */
 #ifndef SPOUTBEETLE_H
 #define SPOUTBEETLE_H
 
+#include <stdbool.h>
 #include <stddef.h>
 #include <stdint.h>
 
@@ -70,6 +75,74 @@ uint32_t spoutbeetle_coarsen(int32_t *nodes, size_t nodes_len, uint32_t *rows, s
  * Only a short scratch can refuse it then, as 1. */
 uint32_t spoutbeetle_restore(int32_t *nodes, size_t nodes_len, uint32_t *rows, size_t rows_len, uint32_t *scratch, size_t scratch_len,
                              size_t n0, size_t *n, size_t *t, size_t *passes, size_t *culprit);
+
+/* ---- the reader
+ *
+ * The line program's text arrives in pieces of 0 to 512 bytes, cut anywhere, even inside a digit pair. The answers, and what is held at the end,
+ * are those of the whole text, however it was cut: spoutbeetle_begin starts, spoutbeetle_take takes a piece, spoutbeetle_end announces that
+ * no more will come. A program need not lend each part: the three calls on a spoutbeetle_reader, below, lend all that is in it.
+ *
+ * How answers leave. A call writes one answer at most, from the start of out on, and never more than 32,768 bytes. So spoutbeetle_take stops
+ * behind the first line that has an answer, and says in *taken how many bytes of the piece are done: hand over the rest in the next call,
+ * until all is taken. It takes one byte of the rest at least, and all of it where it writes nothing. A caller that sends on *written bytes of
+ * out after every call loses none, with a buffer of 32,768 bytes.
+ *
+ *   piece    the next bytes of the text, 512 at most; only read
+ *   line     255 bytes: the first 255 of the unfinished line, then zeros
+ *   nodes, rows, scratch
+ *            1,024, 3,072 and 6,144 numbers: the tables of the line program, 512 nodes and 1,024 triangles
+ *   out      32,768 bytes at least; what it holds does not matter, and what is not written stays
+ *   used     how many bytes of the line buffer the unfinished line has
+ *   ended    whether the end was announced
+ *   n, t, n0, accepted
+ *            the counts, and whether a base was accepted (03 said 0); n0 is its node count
+ *   taken    how many bytes of the piece are done; 0 after a refusal
+ *   written  how many bytes of out were written; 0 after a refusal
+ *
+ * line, nodes, rows and scratch, and used to accepted, are the state: lend them to each call as the call before left them. Each call may lend
+ * another out. Every call writes all of used to written. It refuses
+ *   - as 1 what is lent in another size, used above 255, n above 512 and t above 1,024;
+ *   - as 17, if it is spoutbeetle_take and nothing is to be refused as 1, a piece over 512 bytes, and any after the end, an empty one too.
+ * A refusal changes no byte of line, tables and out, and writes back what used to accepted held (a refused begin: 0 and false). What the calls
+ * ask of their pointers is what is said above; the values behind ended and accepted must be true or false. */
+
+/* Starts, whatever is lent: line and tables are all zero then, used to accepted are 0 and false, and out has the line "mesh lines 1". */
+uint32_t spoutbeetle_begin(uint8_t *line, size_t line_len, int32_t *nodes, size_t nodes_len, uint32_t *rows, size_t rows_len,
+                           uint32_t *scratch, size_t scratch_len, uint8_t *out, size_t out_len, size_t *used, bool *ended, size_t *n,
+                           size_t *t, size_t *n0, bool *accepted, size_t *written);
+
+/* Takes a piece, up to the first line that has an answer. */
+uint32_t spoutbeetle_take(const uint8_t *piece, size_t piece_len, uint8_t *line, size_t line_len, int32_t *nodes, size_t nodes_len,
+                          uint32_t *rows, size_t rows_len, uint32_t *scratch, size_t scratch_len, uint8_t *out, size_t out_len,
+                          size_t *used, bool *ended, size_t *n, size_t *t, size_t *n0, bool *accepted, size_t *taken, size_t *written);
+
+/* Announces the end: a last line without its end byte is malformed now and answered "ff"; then comes the line "end". The tables are only read.
+ * Announced once more, it says 0, writes nothing and changes nothing. */
+uint32_t spoutbeetle_end(uint8_t *line, size_t line_len, const int32_t *nodes, size_t nodes_len, const uint32_t *rows, size_t rows_len,
+                         const uint32_t *scratch, size_t scratch_len, uint8_t *out, size_t out_len, size_t *used, bool *ended, size_t *n,
+                         size_t *t, size_t *n0, bool *accepted, size_t *written);
+
+/* The longest piece, and the least buffer for an answer, in bytes. */
+enum { SPOUTBEETLE_PIECE = 512, SPOUTBEETLE_OUT = 32768 };
+
+/* All that is carried from piece to piece. Any bytes will do before spoutbeetle_reader_begin; after it, read it as you like, and write nothing.
+ * Two that were all zero before they began can be compared by memcmp. */
+typedef struct spoutbeetle_reader {
+    size_t used, n, t, n0;
+    int32_t nodes[1024];
+    uint32_t rows[3072], scratch[6144];
+    uint8_t line[255];
+    bool ended, accepted;
+} spoutbeetle_reader;
+
+/* The three calls, with all that is in the reader lent. So 1 means that out is short. They are in spoutbeetle.c, not in the library, and
+ * not proved; what each takes, writes and says is what the call of the library does. */
+uint32_t spoutbeetle_reader_begin(spoutbeetle_reader *reader, uint8_t *out, size_t out_len, size_t *written);
+uint32_t spoutbeetle_reader_take(spoutbeetle_reader *reader, const uint8_t *piece, size_t piece_len, uint8_t *out, size_t out_len,
+                                 size_t *taken, size_t *written);
+uint32_t spoutbeetle_reader_end(spoutbeetle_reader *reader, uint8_t *out, size_t out_len, size_t *written);
+
+/* ---- words */
 
 /* The number and the culprit of an answer in words: what is wrong and where, and the number in brackets, e.g.
  * "triangle 17 has a directed edge that a lower row already has (5)". A number that names no culprit, or that no call gives, has its words

@@ -1,13 +1,14 @@
 //! The line program of document 01, with `09` of request W1 and the culprits of W2, by an ordinary method.
 use crate::calls::{self, Answer, Tables};
+use crate::pieces::{Reader, PIECE};
 
 const NODES: usize = 512;
 const ROWS: usize = 1024;
 
 /// The rows held, and the base's node count once a base is accepted.
 pub struct Desk {
-    g: Tables,
-    base: Option<usize>,
+    pub g: Tables,
+    pub base: Option<usize>,
 }
 
 impl Default for Desk {
@@ -18,22 +19,12 @@ impl Default for Desk {
 
 /// All that the program writes for this input.
 pub fn program(input: &[u8]) -> Vec<u8> {
-    let mut out = b"mesh lines 1\n".to_vec();
-    let mut desk = Desk::default();
-    let mut rest = input;
-    while !rest.is_empty() {
-        match rest.iter().position(|&b| b == b'\n') {
-            Some(k) => {
-                desk.line(&rest[..k], &mut out);
-                rest = &rest[k + 1..];
-            }
-            None => {
-                out.extend(b"ff\n");
-                rest = &[];
-            }
-        }
+    let mut out = vec![];
+    let mut reader = Reader::begin(&mut out);
+    for piece in input.chunks(PIECE) {
+        reader.take(piece, &mut out);
     }
-    out.extend(b"end\n");
+    reader.end(&mut out);
     out
 }
 

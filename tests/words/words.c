@@ -64,6 +64,19 @@ static void say_calls(void) {
     say("check, row 1 turned", check(SCRATCH));
 }
 
+/* The reader's refusals. */
+static void say_reader(void) {
+    static spoutbeetle_reader reader;
+    static uint8_t out[SPOUTBEETLE_OUT];
+    static const uint8_t piece[SPOUTBEETLE_PIECE + 1];
+    size_t taken, written;
+    say("begin, out a byte short", spoutbeetle_reader_begin(&reader, out, sizeof out - 1, &written));
+    say("begin", spoutbeetle_reader_begin(&reader, out, sizeof out, &written));
+    say("take, a piece of 513 bytes", spoutbeetle_reader_take(&reader, piece, sizeof piece, out, sizeof out, &taken, &written));
+    say("end", spoutbeetle_reader_end(&reader, out, sizeof out, &written));
+    say("take, an empty piece after the end", spoutbeetle_reader_take(&reader, piece, 0, out, sizeof out, &taken, &written));
+}
+
 /* Whether the words, cut to any size, are those of the whole text, with an ending 0 and nothing written behind. */
 static int cut_well(uint32_t number, size_t who) {
     char whole[128], text[128], before[128];
@@ -94,8 +107,9 @@ static int say_number(uint32_t number) {
 
 int main(void) {
     int well = 1;
-    for (uint32_t number = 0; number <= 11; number++)
+    for (uint32_t number = 0; number <= 18; number++)
         well = say_number(number) && well;
     say_calls();
+    say_reader();
     return well ? 0 : 1;
 }

@@ -1,6 +1,8 @@
 //! The calls of the proved library on tables that the caller lends. Every call takes anything, ends, and is done or refuses: a [`Refusal`]
-//! says what is wrong and where. A refusal changes no node, triangle, mark or count; scratch is all zero after every call.
+//! says what is wrong and where. A refusal changes no node, triangle, mark or count; scratch is all zero after every call. [`reader`] takes the
+//! line program's text in pieces and makes these calls for it.
 pub mod ffi;
+pub mod reader;
 mod refusal;
 
 pub use refusal::Refusal;

@@ -8,7 +8,8 @@ use std::fmt;
 #[derive(Clone, Copy, Debug, PartialEq, Eq, Hash)]
 #[non_exhaustive]
 pub enum Refusal {
-    /// 1: a table length is not a multiple of its row, a room or count is out of bounds, n0 is above n, or scratch is short.
+    /// 1: a table length is not a multiple of its row, a room or count is out of bounds, n0 is above n, or scratch is short; of the reader:
+    /// something is lent in another size, or the state is none that a call left.
     Sizes,
     /// 2: the marks are not one byte for each triangle (refine, quarter) or node (coarsen), or one is above 1.
     Marks,
@@ -28,6 +29,8 @@ pub enum Refusal {
     NoRoom,
     /// 10: the labelling is not compatible (check only).
     NotCompatible,
+    /// 17: the piece is over 512 bytes, or comes after the end was announced (reader only).
+    Piece,
     /// A number that no call gives.
     Unknown { number: u32 },
 }
@@ -47,11 +50,12 @@ impl Refusal {
             8 => Refusal::OddSum,
             9 => Refusal::NoRoom,
             10 => Refusal::NotCompatible,
+            17 => Refusal::Piece,
             _ => Refusal::Unknown { number },
         })
     }
 
-    /// The number of document 01's table.
+    /// The number of document 01's table, or of a request.
     pub fn number(self) -> u32 {
         match self {
             Refusal::Sizes => 1,
@@ -64,6 +68,7 @@ impl Refusal {
             Refusal::OddSum => 8,
             Refusal::NoRoom => 9,
             Refusal::NotCompatible => 10,
+            Refusal::Piece => 17,
             Refusal::Unknown { number } => number,
         }
     }
@@ -88,7 +93,7 @@ impl Refusal {
 impl fmt::Display for Refusal {
     fn fmt(&self, f: &mut fmt::Formatter) -> fmt::Result {
         match self {
-            Refusal::Sizes => f.write_str("a table length is not a multiple of its row, a room or count is out of bounds, or scratch is short")?,
+            Refusal::Sizes => f.write_str("a table length is not a multiple of its row, a room, buffer or count is out of bounds, or scratch is short")?,
             Refusal::Marks => f.write_str("the marks are not one byte for each triangle or node, or one is above 1")?,
             Refusal::OutOfRange { node } => write!(f, "node {node} has a coordinate outside -1,048,576 to 1,048,576")?,
             Refusal::Misnamed { triangle } => write!(f, "triangle {triangle} names a node that is not there, or one node twice")?,
@@ -98,6 +103,7 @@ impl fmt::Display for Refusal {
             Refusal::OddSum => f.write_str("an edge to be split has an odd sum of x or of y")?,
             Refusal::NoRoom => f.write_str("there is no room for the new nodes or triangles")?,
             Refusal::NotCompatible => f.write_str("the labelling is not compatible")?,
+            Refusal::Piece => f.write_str("the piece is over 512 bytes, or comes after the end")?,
             Refusal::Unknown { .. } => f.write_str("no call gives this number")?,
         }
         write!(f, " ({})", self.number())

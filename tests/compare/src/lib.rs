@@ -1,5 +1,9 @@
-//! The proved calls, by their exported form and by the Rust wrapper, and the rival's behind one face, so that all can be driven alike.
+//! The proved calls, by their exported form and by the Rust wrapper, and the rival's behind one face, so that all can be driven alike. Those of
+//! the reader are in `reader`.
 pub mod meshes;
+pub mod panel;
+pub mod reader;
+pub mod text_times;
 
 use rival::calls::{self, Answer, Tables};
 use spoutbeetle::ffi;

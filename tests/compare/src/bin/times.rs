@@ -1,6 +1,7 @@
 //! Times of the proved library beside the rival's, on the same tables in one run. Both are optimised; tables are copied and scratch is
 //! filled with sevens before each call, outside the time taken. Calls are timed in two ways: "warm" is the middle of runs of a call one after
 //! the other, "cold" that of runs made once in a round of all calls, whose tables were all copied before it. Usage: times, or
+//!   times lines     how fast the reader takes text, beside the rival's
 //!   times counted   the instructions that the proved library takes for each call, counted by callgrind
 //!   times once      each call made once by the proved library, for the former
 use compare::meshes::{any_order, copies, dense, double_fan, fan, fitting, full, grown, shuffled, tables, widen, Marked, Mesh};
@@ -249,6 +250,7 @@ fn tell(measures: &str, ways: &[(&str, Measure)]) {
 fn main() {
     match std::env::args().nth(1).as_deref() {
         None => tell("proved | ns a node | ns a row | rival | ratio", &[("warm", warm), ("cold", cold)]),
+        Some("lines") => compare::text_times::tell(),
         Some("counted") => tell("instructions | a node | a row", &[("instructions", counted)]),
         Some("once") => families().iter().chain(&bad()).for_each(|case| drop(made(&case.call, &case.given, proved))),
         Some(word) => panic!("times: no word {word}"),

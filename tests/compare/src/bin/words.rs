@@ -1,5 +1,6 @@
 //! The words of the Rust wrapper: for every number and some culprits; and of a call that draws each refusal. tests/words/words.out has what
 //! is written.
+use spoutbeetle::reader::{State, OUT, PIECE};
 use spoutbeetle::{check, coarsen, quarter, refine, restore, Answer, Refusal, Tables};
 
 /// The tables of a mesh, to be spoilt.
@@ -54,9 +55,25 @@ fn say_number(number: u32) {
     }
 }
 
+/// The reader's refusals.
+fn say_reader() {
+    let (mut state, mut out) = (State::default(), vec![0; OUT]);
+    let said = [
+        ("begin, out a byte short", state.begin(&mut out[..OUT - 1])),
+        ("begin", state.begin(&mut out)),
+        ("take, a piece of 513 bytes", state.take(&[0; PIECE + 1], &mut out)),
+        ("end", state.end(&mut out)),
+        ("take, an empty piece after the end", state.take(&[], &mut out)),
+    ];
+    for (name, said) in said {
+        println!("{name}: {}", said.map_or_else(|refusal| refusal.to_string(), |_| words(|_| (), check)));
+    }
+}
+
 fn main() {
-    (0..=11).for_each(say_number);
+    (0..=18).for_each(say_number);
     for (name, spoil, made) in CALLS {
         println!("{name}: {}", words(spoil, made));
     }
+    say_reader();
 }

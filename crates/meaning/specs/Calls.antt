@@ -1,4 +1,4 @@
--- Document 01, 'What a call says', and W2: for each call, what it says of a mesh, and one outcome for any tables. Assumes nothing.
+-- Document 01, 'What a call says', W2 and W5: for each call, what it says of a mesh, and one outcome for any tables. Assumes nothing.
 use mathlib.Core.Bool.{Bool, true, false, _&&_}
 use mathlib.Core.List.{List, [], _∷_}
 use Prim.Native.Nat.{ℕ, zero, suc, _+_, _*_, _%_}
@@ -6,10 +6,11 @@ use lib.Dec.{eqb, leb}
 use lib.IntN.{pos}
 use lib.ListN.{length}
 use Rattle.lists.specs.Lists.{all, cases}
-use Rattle.meaning.specs.Mesh.{Mesh}
+use Rattle.meaning.specs.Mesh.{Correction, Mesh}
 use Rattle.meaning.specs.Lawful.{faultOf, refusal, compatible}
 use Rattle.meaning.specs.Split.{Way, splitEdges, started, refined, halves}
 use Rattle.meaning.specs.Coarsen.{coarsened, restored}
+use Rattle.meaning.specs.Setting.{corrected, setFault}
 use Rattle.meaning.specs.Tables.{Given, Outcome, Room, outcome, answer, nodeForm, rowForm, meshOf, roomOf, flatNodes, flatRows, filled, cleared}
 
 -- ---- of a mesh
@@ -26,10 +27,13 @@ pub record Reply : Type 0 where
 unfoldable pub culpritOf : Mesh → ℕ → ℕ
 culpritOf m k = cases (eqb k (refusal m)) (faultOf m .at) 0
 
--- done, with the new mesh and the passes; or refused, with "0 passes": "It changes no node, triangle or mark."
+-- done, with the new mesh and the passes; or refused, with the culprit c and "0 passes": "It changes no node, triangle or mark."
+abbrev pub saysOf : ℕ → ℕ → Mesh → Mesh → ℕ → Reply
+saysOf zero c old new k = record { number = 0; after = new; passes = k; culprit = 0 }
+saysOf (suc j) c old new k = record { number = suc j; after = old; passes = 0; culprit = c }
+
 abbrev pub says : ℕ → Mesh → Mesh → ℕ → Reply
-says zero old new k = record { number = 0; after = new; passes = k; culprit = 0 }
-says (suc j) old new k = record { number = suc j; after = old; passes = 0; culprit = culpritOf old (suc j) }
+says k old = saysOf k (culpritOf old k) old
 
 -- number k unless a test says yes
 abbrev pub unless : Bool → ℕ → ℕ → ℕ
@@ -78,6 +82,10 @@ coarsens n0 m marks = says (coarsenNo m marks) m (coarsened n0 m marks) 0
 unfoldable pub restores : ℕ → Mesh → Reply
 restores n0 m = says (refusal m) m (restored n0 m .end) (restored n0 m .passes)
 
+-- W5: node z is to carry c
+unfoldable pub sets : ℕ → Mesh → ℕ → Correction → Reply
+sets n0 m z c = saysOf (setFault n0 m z c .number) (setFault n0 m z c .at) m (corrected m z c) 0
+
 -- ---- of tables
 
 -- not 1: "a table length is not a multiple of its row, a room or count breaks the sizes above, or scratch is short"
@@ -124,3 +132,6 @@ coarsenOut g n0 marks = sized g n0 (leaves g (coarsens n0 (meshOf g) marks))
 
 unfoldable pub restoreOut : Given → ℕ → Outcome
 restoreOut g n0 = sized g n0 (leaves g (restores n0 (meshOf g)))
+
+unfoldable pub setOut : Given → ℕ → ℕ → Correction → Outcome
+setOut g n0 z c = sized g n0 (leaves g (sets n0 (meshOf g) z c))

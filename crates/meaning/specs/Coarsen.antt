@@ -6,7 +6,7 @@ use Prim.Native.Nat.{ℕ, zero, suc}
 use lib.Dec.{eqb}
 use lib.ListN.{length, getD}
 use Rattle.lists.specs.Lists.{any, only, first, consIf, sucIf, joined, upTo}
-use Rattle.meaning.specs.Mesh.{Place, Tri, Mesh, tri, sameTri, mesh}
+use Rattle.meaning.specs.Mesh.{Tri, Mesh, tri, sameTri, mesh}
 use Rattle.meaning.specs.Good.{Brothers, father, pairs, good}
 
 -- ---- coarsen
@@ -43,8 +43,8 @@ renumber zs k = stayed zs 0 k
 abbrev pub renamed : List ℕ → Tri → Tri
 renamed zs t = tri (renumber zs (t .p)) (renumber zs (t .q)) (renumber zs (t .r))
 
--- the nodes that stay, where the first of the list has the number i
-abbrev pub staying : List ℕ → ℕ → List Place → List Place
+-- the nodes that stay, as they are, where the first of the list has the number i
+abbrev pub staying : {A : Type 0} → List ℕ → ℕ → List A → List A
 staying zs i [] = []
 staying zs i (a ∷ more) = consIf (stays zs i) a (staying zs (suc i) more)
 
@@ -60,7 +60,7 @@ coarsened n0 m marks = without m (taken n0 m marks)
 unfoldable pub goodNodes : ℕ → Mesh → List ℕ
 goodNodes n0 m = only (good n0 m) (upTo (length (m .nodes)))
 
-abbrev pub allMarked : List Place → List ℕ
+abbrev pub allMarked : {A : Type 0} → List A → List ℕ
 allMarked ns = map (λ a. 1) ns
 
 -- "A full pass is coarsen with all nodes marked."

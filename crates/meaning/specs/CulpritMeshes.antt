@@ -6,13 +6,13 @@ use Prim.Native.Nat.{ℕ}
 use lib.IntN.{ℤ, pos, negsuc}
 use lib.ListN.{length, replicate}
 use Rattle.lists.specs.Search.{lowest, lowestFrom}
-use Rattle.meaning.specs.Mesh.{Mesh, place, tri, mesh, total, twiceArea}
+use Rattle.meaning.specs.Mesh.{Mesh, tri, mesh, total, twiceArea}
 use Rattle.meaning.specs.Lawful.{refusal, compatible, faultOf, firstOutside, firstMisnamed, firstRepeat, firstFlat, firstUnused, firstClash}
 use Rattle.meaning.specs.Split.{closure, splitEdges, splitAt, split, refined}
 use Rattle.meaning.specs.Good.{pairs, span, G1-4, good}
 use Rattle.meaning.specs.Coarsen.{taken, without, coarsened, goodNodes, pass, restored}
 use Rattle.meaning.specs.Calls.{culpritOf, checkNo, refineNo, coarsenNo, checks, refines, coarsens, restores}
-use Rattle.meaning.specs.HandCase.{Case, check, refine, quarter, coarsen, restore, computed, says, blames, case, within, at}
+use Rattle.meaning.specs.HandCase.{Case, check, refine, quarter, coarsen, restore, computed, says, blames, case, within, at, spot}
 use Rattle.meaning.specs.HandMeshes.{square, S, after2}
 
 -- ---- several at fault: one is named, and later numbers apply to a lower row or node
@@ -20,7 +20,7 @@ use Rattle.meaning.specs.HandMeshes.{square, S, after2}
 -- 3: node 2 by its y, node 3 by its x, node 4 by both. Row 0 names node 9, node 0 is in no row
 abbrev outsiders : Mesh
 outsiders =
-    mesh (at 0 0 ∷ at 8 0 ∷ at 0 1_048_577 ∷ place (negsuc 1_048_576) (pos 0) ∷ at 1_048_577 1_048_577 ∷ at 8 8 ∷ []) (tri 1 5 9 ∷ [])
+    mesh (at 0 0 ∷ at 8 0 ∷ at 0 1_048_577 ∷ spot (negsuc 1_048_576) (pos 0) ∷ at 1_048_577 1_048_577 ∷ at 8 8 ∷ []) (tri 1 5 9 ∷ [])
 
 -- 4: row 2 names node 3 twice, rows 3 and 5 name nodes 4 and 7. Row 1 has 2→0 as row 0 has
 abbrev misnaming : Mesh
@@ -29,7 +29,7 @@ misnaming = mesh square (tri 1 2 0 ∷ tri 2 0 3 ∷ tri 3 3 1 ∷ tri 0 1 4 ∷
 -- 5: rows 1, 3 and 4 have 1→2. Row 0 is flat, node 0 is in no row
 abbrev thrice : Mesh
 thrice =
-    mesh (at 9 9 ∷ at 0 0 ∷ at 8 0 ∷ at 8 8 ∷ at 0 8 ∷ at 4 4 ∷ place (pos 4) (negsuc 3) ∷ [])
+    mesh (at 9 9 ∷ at 0 0 ∷ at 8 0 ∷ at 8 8 ∷ at 0 8 ∷ at 4 4 ∷ spot (pos 4) (negsuc 3) ∷ [])
     (tri 1 5 3 ∷ tri 1 2 5 ∷ tri 2 3 5 ∷ tri 4 1 2 ∷ tri 2 6 1 ∷ [])
 
 -- 5: rows 0 and 3 have 0→1, rows 1 and 2 have 2→3

@@ -2,10 +2,10 @@
 use mathlib.Core.List.{List}
 use Prim.Native.Nat.{ℕ}
 use lib.IntN.{ℤ, pos}
-use Rattle.meaning.specs.Mesh.{Place, Mesh, place, total}
+use Rattle.meaning.specs.Mesh.{Correction, Node, Mesh, place, plain, total}
 use Rattle.meaning.specs.Split.{newest, allThree}
 use Rattle.meaning.specs.Tables.{Room}
-use Rattle.meaning.specs.Calls.{Reply, checks, refines, coarsens, restores}
+use Rattle.meaning.specs.Calls.{Reply, checks, refines, coarsens, restores, sets}
 
 pub data Call : Type 0 where
   check : Call
@@ -13,6 +13,7 @@ pub data Call : Type 0 where
   quarter : List ℕ → Call
   coarsen : List ℕ → Call
   restore : Call
+  setting : ℕ → Correction → Call
 
 -- what a call says: its number, the mesh after it, the passes, the culprit; and the total twice-area of that mesh
 pub record Said : Type 0 where
@@ -35,6 +36,7 @@ call r n0 m (refine marks) = refines newest r m marks
 call r n0 m (quarter marks) = refines allThree r m marks
 call r n0 m (coarsen marks) = coarsens n0 m marks
 call r n0 m restore = restores n0 m
+call r n0 m (setting z c) = sets n0 m z c
 
 abbrev pub said : Reply → Said
 said a = record { number = a .number; after = a .after; passes = a .passes; culprit = a .culprit; twice = total (a .after) }
@@ -58,5 +60,9 @@ within nc tc n0 m c s = record { room = record { nodes = nc; rows = tc }; n0 = n
 abbrev pub case : ℕ → Mesh → Call → Said → Case
 case = within 1024 2048
 
-abbrev pub at : ℕ → ℕ → Place
-at a b = place (pos a) (pos b)
+-- nodes that carry no correction: by two numbers not below 0, and by any two
+abbrev pub at : ℕ → ℕ → Node
+at a b = plain (place (pos a) (pos b))
+
+abbrev pub spot : ℤ → ℤ → Node
+spot a b = plain (place a b)

@@ -4,7 +4,7 @@ use mathlib.Core.List.{List, [], _∷_, _++_, map}
 use Prim.Native.Nat.{ℕ}
 use lib.ListN.{replicate}
 use Rattle.lists.specs.Search.{lowest, lowestFrom}
-use Rattle.meaning.specs.Mesh.{Place, Mesh, tri, mesh, total, twiceArea}
+use Rattle.meaning.specs.Mesh.{Node, Mesh, tri, mesh, total, twiceArea}
 use Rattle.meaning.specs.Lawful.{refusal, compatible, faultOf, firstOutside, firstMisnamed, firstRepeat, firstFlat, firstUnused, firstClash}
 use Rattle.meaning.specs.Split.{closure, splitEdges, splitAt, split, refined}
 use Rattle.meaning.specs.Good.{pairs, span, G1-4, good}
@@ -12,7 +12,7 @@ use Rattle.meaning.specs.Coarsen.{taken, without, coarsened, goodNodes, 
 use Rattle.meaning.specs.Calls.{culpritOf, checkNo, refineNo, coarsenNo, checks, refines, coarsens, restores}
 use Rattle.meaning.specs.HandCase.{Case, check, refine, coarsen, restore, computed, says, case, at}
 
-abbrev pub square : List Place
+abbrev pub square : List Node
 square = at 0 0 ∷ at 8 0 ∷ at 8 8 ∷ at 0 8 ∷ []
 
 abbrev pub S : Mesh

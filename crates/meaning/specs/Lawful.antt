@@ -1,4 +1,4 @@
--- Document 01, 'What a call says', and W2: lawful meshes and compatible labellings, as named facts, and as what is computed: the number
+-- Document 01, 'What a call says', W2 and W5: lawful meshes and compatible labellings, as named facts, and as what is computed: the number
 -- of the refusal and the lowest node or row at fault. Assumes nothing.
 use mathlib.Core.Bool.{Bool, true, false, not, _&&_, _||_}
 use mathlib.Core.List.{List, [], _∷_, List·Memᴰ}
@@ -6,15 +6,15 @@ use mathlib.Core.Path.{_≡_}
 use mathlib.Core.Logic.{_≢_, _⊎_}
 use Prim.Native.Nat.{ℕ, zero, suc, _≤_, _<_}
 use lib.Dec.{leb, eqb}
-use lib.IntN.{ℤ, pos, natAbs}
-use lib.Signed.{ltZ, _<ℤ_}
+use lib.IntN.{ℤ, pos, negsuc, natAbs}
+use lib.Signed.{ltZ, _<ℤ_, _≤ℤ_}
 use lib.ListN.{length, getD, take}
 use Rattle.lists.specs.declared.Found.{Found}
 use Rattle.lists.specs.declared.Found.the-variants.{At, Nothing}
 use Rattle.lists.specs.Lists.{any, count, joined, whereFirst, isFound, All}
 use Rattle.lists.specs.Search.{lowest}
 use Rattle.meaning.specs.declared.Fault.{Fault}
-use Rattle.meaning.specs.Mesh.{Place, Tri, Mesh, Arrow, Edge, tri, arrows, base, sameArrow, sameEdge, holdsNode, holdsArrow, holdsEdge, at, twiceArea}
+use Rattle.meaning.specs.Mesh.{Place, Correction, Node, Tri, Mesh, Arrow, Edge, tri, arrows, base, sameArrow, sameEdge, holdsNode, holdsArrow, holdsEdge, nodeOf, twiceArea}
 
 -- ---- as facts
 
@@ -22,6 +22,18 @@ use Rattle.meaning.specs.Mesh.{Place, Tri, Mesh, Arrow, Edge, tri, arrow
 pub record InRange (a : Place) : Type 0 where
   pub x-near : natAbs (a .x) ≤ 1_048_576
   pub y-near : natAbs (a .y) ≤ 1_048_576
+
+-- W5: "dx and dy from −32,768 to 32,767", both ends allowed
+pub record InBounds (c : Correction) : Type 0 where
+  pub dx-from : negsuc 32_767 ≤ℤ c .dx
+  pub dx-to : c .dx ≤ℤ pos 32_767
+  pub dy-from : negsuc 32_767 ≤ℤ c .dy
+  pub dy-to : c .dy ≤ℤ pos 32_767
+
+-- a node whose place and correction are in their ranges
+pub record NodeInRange (a : Node) : Type 0 where
+  pub place-in : InRange (a .place)
+  pub correction-in : InBounds (a .correction)
 
 -- not "a triangle names a node ≥ n, or one node twice"
 pub record Named (n : ℕ) (t : Tri) : Type 0 where
@@ -34,8 +46,8 @@ pub record Named (n : ℕ) (t : Tri) : Type 0 where
 
 -- "A mesh that draws none of 1 and 3 to 7 is lawful." (1 is about tables: see Calls)
 pub record Lawful (m : Mesh) : Type 0 where
-  -- not 3: "a coordinate of a node below n is outside its range"
-  pub range : All InRange (m .nodes)
+  -- not 3: "a coordinate of a node below n is outside its range"; W5: "a value out of range, stored"
+  pub range : All NodeInRange (m .nodes)
   -- not 4
   pub named : All (Named (length (m .nodes))) (m .tris)
   -- not 5: "a directed edge occurs twice"
@@ -51,8 +63,8 @@ rowOf ts i = getD ts i (tri 0 0 0)
 
 -- when each of 3 to 7 applies, line by line
 pub data Applies (m : Mesh) : ℕ → Type 0 where
-  -- 3 "a coordinate of a node below n is outside its range"
-  out-of-range : (k : ℕ) → k < length (m .nodes) → ¬ InRange (at m k) → Applies m 3
+  -- 3 "a coordinate of a node below n is outside its range"; W5: "a value out of range, stored .., is refused as 3"
+  out-of-range : (k : ℕ) → k < length (m .nodes) → ¬ NodeInRange (nodeOf m k) → Applies m 3
   -- 4 "a triangle names a node ≥ n, or one node twice"
   misnames : (i : ℕ) → i < length (m .tris) → ¬ Named (length (m .nodes)) (rowOf (m .tris) i) → Applies m 4
   -- 5 "a directed edge occurs twice"
@@ -63,9 +75,12 @@ pub data Applies (m : Mesh) : ℕ → Type 0 where
   in-none : (z : ℕ) → z < length (m .nodes) → count (holdsNode z) (m .tris) ≡ 0 → Applies m 7
 
 -- "The lowest number that applies is given, and none is given otherwise" (0: none)
-pub record Lowest (m : Mesh) (k : ℕ) : Type 0 where
-  pub applies : 0 < k → Applies m k
-  pub no-lower : (j : ℕ) → Applies m j → (0 < k) × (k ≤ j)
+pub record LowestOf (A : ℕ → Type 0) (k : ℕ) : Type 0 where
+  pub applies : 0 < k → A k
+  pub no-lower : (j : ℕ) → A j → (0 < k) × (k ≤ j)
+
+abbrev pub Lowest : Mesh → ℕ → Type 0
+Lowest m = LowestOf (Applies m)
 
 -- z is the lowest of 0 to end − 1 at fault, all below it being sound
 pub record First (end : ℕ) (Faulty Sound : ℕ → Type 0) (z : ℕ) : Type 0 where
@@ -88,7 +103,7 @@ Other k = (k < 3) ⊎ (7 < k)
 -- W2: what an answer names with its number, line by line. "Refusals 3 to 7 are to carry the lowest offending number as well:"
 pub data Names (m : Mesh) : ℕ → ℕ → Type 0 where
   -- "a node for 3 and 7,"
-  names-3 : {z : ℕ} → First (length (m .nodes)) (λ j. ¬ InRange (at m j)) (λ j. InRange (at m j)) z → Names m 3 z
+  names-3 : {z : ℕ} → First (length (m .nodes)) (λ j. ¬ NodeInRange (nodeOf m j)) (λ j. NodeInRange (nodeOf m j)) z → Names m 3 z
   names-7 : {z : ℕ} → First (length (m .nodes)) (λ j. count (holdsNode j) (m .tris) ≡ 0) (λ j. 1 ≤ count (holdsNode j) (m .tris)) z → Names m 7 z
   -- "a triangle for 4 and 6,"
   names-4 : {z : ℕ} → First (length (m .tris)) (λ i. ¬ Named (length (m .nodes)) (rowOf (m .tris) i)) (λ i. Named (length (m .nodes)) (rowOf (m .tris) i)) z → Names m 4 z
@@ -107,9 +122,20 @@ Compatible m = All (λ t. All (λ u. holdsEdge (base t) u ≡ true → base t �
 abbrev pub far : ℤ → Bool
 far z = not (leb (natAbs z) 1_048_576)
 
--- 3
+-- 3: of a place,
 abbrev pub outside : Place → Bool
 outside a = far (a .x) || far (a .y)
+
+abbrev pub tooLong : ℤ → Bool
+tooLong z = ltZ z (negsuc 32_767) || ltZ (pos 32_767) z
+
+-- of a correction,
+abbrev pub beyond : Correction → Bool
+beyond c = tooLong (c .dx) || tooLong (c .dy)
+
+-- and of a node: "place or correction, one judgement"
+abbrev pub nodeOutside : Node → Bool
+nodeOutside a = outside (a .place) || beyond (a .correction)
 
 -- 4
 abbrev pub misnamed : ℕ → Tri → Bool
@@ -134,7 +160,7 @@ clashes ts t = any (λ u. holdsEdge (base t) u && not (sameEdge (base t) (base u
 -- ---- as the lowest node or row at fault, and the number
 
 unfoldable pub firstOutside : Mesh → Found
-firstOutside m = whereFirst outside (m .nodes)
+firstOutside m = whereFirst nodeOutside (m .nodes)
 
 unfoldable pub firstMisnamed : Mesh → Found
 firstMisnamed m = whereFirst (misnamed (length (m .nodes))) (m .tris)
@@ -159,15 +185,18 @@ abbrev pub orLater : ℕ → Found → Fault → Fault
 orLater k (At i) rest = fault k i
 orLater k Nothing rest = rest
 
--- "The lowest number that applies is given, and none is given otherwise": of 3 to 7
-unfoldable pub faultOf : Mesh → Fault
-faultOf m =
-    orLater 3 (firstOutside m)
-    (orLater 4 (firstMisnamed m)
+-- 4 to 7, else the rest
+abbrev pub from4 : Mesh → Fault → Fault
+from4 m rest =
+    orLater 4 (firstMisnamed m)
     (orLater 5 (firstRepeat m)
     (orLater 6 (firstFlat m)
     (orLater 7 (firstUnused m)
-    (fault 0 0)))))
+    rest)))
+
+-- "The lowest number that applies is given, and none is given otherwise": of 3 to 7
+unfoldable pub faultOf : Mesh → Fault
+faultOf m = orLater 3 (firstOutside m) (from4 m (fault 0 0))
 
 unfoldable pub refusal : Mesh → ℕ
 refusal m = faultOf m .number

@@ -6,13 +6,15 @@ use lib.Dec.{eqb}
 use lib.IntN.{ℤ, pos, _+ℤ_, _-ℤ_, _*ℤ_}
 use lib.ListN.{length, getD}
 use Rattle.lists.specs.Lists.{any}
--- "A node is a place (x, y)."
+-- "A node is a place (x, y)"; W5: "Each node is to carry its stretch correction, dx and dy"
 pub use Rattle.meaning.specs.declared.Place.{Place}
+pub use Rattle.meaning.specs.declared.Correction.{Correction}
+pub use Rattle.meaning.specs.declared.Node.{Node}
 -- "A triangle is three .. node numbers (p, q, r), counted from 0. The first, p, is its newest vertex"
 pub use Rattle.meaning.specs.declared.Tri.{Tri}
 
 pub record Mesh : Type 0 where
-  pub nodes : List Place
+  pub nodes : List Node
   pub tris : List Tri
 
 -- a directed edge, from one node to the other
@@ -28,6 +30,12 @@ pub record Edge : Type 0 where
 abbrev pub place : ℤ → ℤ → Place
 place a b = record { x = a; y = b }
 
+abbrev pub correction : ℤ → ℤ → Correction
+correction a b = record { dx = a; dy = b }
+
+abbrev pub node : Place → Correction → Node
+node a c = record { place = a; correction = c }
+
 abbrev pub tri : ℕ → ℕ → ℕ → Tri
 tri a b c = record { p = a; q = b; r = c }
 
@@ -37,7 +45,7 @@ arrow a b = record { from = a; to = b }
 abbrev pub edge : ℕ → ℕ → Edge
 edge a b = record { lo = min a b; hi = max a b }
 
-abbrev pub mesh : List Place → List Tri → Mesh
+abbrev pub mesh : List Node → List Tri → Mesh
 mesh ns ts = record { nodes = ns; tris = ts }
 
 -- "Its directed edges are p→q, q→r, r→p."
@@ -72,14 +80,22 @@ holdsArrow e t = any (sameArrow e) (arrows t)
 abbrev pub holdsEdge : Edge → Tri → Bool
 holdsEdge e t = any (sameEdge e) (edges t)
 
--- ---- places
+-- ---- nodes and places
 
-abbrev pub origin : Place
-origin = place (pos 0) (pos 0)
+-- a node that carries no correction
+abbrev pub plain : Place → Node
+plain a = node a (correction (pos 0) (pos 0))
 
--- the place of node k
+abbrev pub origin : Node
+origin = plain (place (pos 0) (pos 0))
+
+-- node k
+abbrev pub nodeOf : Mesh → ℕ → Node
+nodeOf m k = getD (m .nodes) k origin
+
+-- the place of node k: all that is asked of a node but for its correction
 abbrev pub at : Mesh → ℕ → Place
-at m k = getD (m .nodes) k origin
+at m k = nodeOf m k .place
 
 -- "Twice-area is (xq−xp)(yr−yp) − (xr−xp)(yq−yp), over whole numbers."
 abbrev pub turn : Place → Place → Place → ℤ

@@ -5,21 +5,21 @@ use mathlib.Core.List.{List, [], _∷_, _++_, map}
 use Prim.Native.Nat.{ℕ}
 use lib.IntN.{pos, negsuc}
 use Rattle.lists.specs.Search.{lowest, lowestFrom}
-use Rattle.meaning.specs.Mesh.{Place, Mesh, place, tri, mesh, total, twiceArea}
+use Rattle.meaning.specs.Mesh.{Node, Mesh, tri, mesh, total, twiceArea}
 use Rattle.meaning.specs.Lawful.{refusal, compatible, faultOf, fault, firstOutside, firstMisnamed, firstRepeat, firstFlat, firstUnused, firstClash}
 use Rattle.meaning.specs.Split.{closure, splitEdges, splitAt, split, refined}
 use Rattle.meaning.specs.Good.{pairs, span, G1-4, good}
 use Rattle.meaning.specs.Coarsen.{taken, without, coarsened, goodNodes, pass, restored}
 use Rattle.meaning.specs.Calls.{culpritOf, checkNo, refineNo, coarsenNo, checks, refines, coarsens, restores}
-use Rattle.meaning.specs.HandCase.{Case, check, refine, coarsen, restore, computed, says, blames, case, within, at}
+use Rattle.meaning.specs.HandCase.{Case, check, refine, coarsen, restore, computed, says, blames, case, within, at, spot}
 use Rattle.meaning.specs.HandMeshes.{square, S, after2}
 
 -- 12: the ends (−3,0) and (1,0), and the midpoint (−1,0)
 abbrev across : Mesh
-across = mesh (at 0 4 ∷ place (negsuc 2) (pos 0) ∷ at 1 0 ∷ []) (tri 0 1 2 ∷ [])
+across = mesh (at 0 4 ∷ spot (negsuc 2) (pos 0) ∷ at 1 0 ∷ []) (tri 0 1 2 ∷ [])
 
 abbrev crossed : Mesh
-crossed = mesh (at 0 4 ∷ place (negsuc 2) (pos 0) ∷ at 1 0 ∷ place (negsuc 0) (pos 0) ∷ []) (tri 3 0 1 ∷ tri 3 2 0 ∷ [])
+crossed = mesh (at 0 4 ∷ spot (negsuc 2) (pos 0) ∷ at 1 0 ∷ spot (negsuc 0) (pos 0) ∷ []) (tri 3 0 1 ∷ tri 3 2 0 ∷ [])
 
 -- 12: a node at x = k
 abbrev reaching : ℕ → Mesh
@@ -67,8 +67,8 @@ stripped = mesh (at 0 0 ∷ at 8 0 ∷ at 0 8 ∷ at 8 8 ∷ at 4 0 ∷ []) (tri
 
 -- ---- the four cuts, father by father
 
-abbrev pub wings : List Place
-wings = at 0 0 ∷ at 16 0 ∷ at 0 16 ∷ place (pos 8) (negsuc 7) ∷ place (negsuc 7) (pos 8) ∷ []
+abbrev pub wings : List Node
+wings = at 0 0 ∷ at 16 0 ∷ at 0 16 ∷ spot (pos 8) (negsuc 7) ∷ spot (negsuc 7) (pos 8) ∷ []
 
 -- row 0 with a neighbour on p–q and one on r–p, each with that side as its refinement edge
 abbrev pub winged : Mesh

@@ -5,13 +5,13 @@ use mathlib.Core.List.{List, [], _∷_, _++_, map}
 use lib.IntN.{pos, negsuc}
 use lib.ListN.{replicate}
 use Rattle.lists.specs.Search.{lowest, lowestFrom}
-use Rattle.meaning.specs.Mesh.{Place, Mesh, place, tri, mesh, total, twiceArea}
+use Rattle.meaning.specs.Mesh.{Node, Mesh, tri, mesh, total, twiceArea}
 use Rattle.meaning.specs.Lawful.{refusal, compatible, faultOf, firstOutside, firstMisnamed, firstRepeat, firstFlat, firstUnused, firstClash}
 use Rattle.meaning.specs.Split.{closure, splitEdges, splitAt, split, refined}
 use Rattle.meaning.specs.Good.{pairs, span, G1-4, good}
 use Rattle.meaning.specs.Coarsen.{taken, without, coarsened, goodNodes, pass, restored}
 use Rattle.meaning.specs.Calls.{culpritOf, checkNo, refineNo, coarsenNo, checks, refines, coarsens, restores}
-use Rattle.meaning.specs.HandCase.{Case, refine, quarter, coarsen, restore, computed, says, case, within, at}
+use Rattle.meaning.specs.HandCase.{Case, refine, quarter, coarsen, restore, computed, says, case, within, at, spot}
 use Rattle.meaning.specs.HandMeshes.{square, S, R, after2}
 use Rattle.meaning.specs.OwnMeshes.{wings, winged, cut-all, empty}
 
@@ -43,7 +43,7 @@ sideShared =
 --       |  \   |  \   |  \   |  \
 --       | 6 \  | 4 \  | 2 \  | 0 \
 --       0------1------2------3------4
-abbrev chainPlaces : List Place
+abbrev chainPlaces : List Node
 chainPlaces = at 0 0 ∷ at 8 0 ∷ at 16 0 ∷ at 24 0 ∷ at 32 0 ∷ at 0 8 ∷ at 8 8 ∷ at 16 8 ∷ at 24 8 ∷ []
 
 abbrev chain : Mesh
@@ -82,13 +82,13 @@ roundQuartered =
 -- row 1 of `winged` marked: row 0 has its refinement edge for a side
 abbrev wingQuartered : Mesh
 wingQuartered =
-    mesh (wings ++ at 8 8 ∷ at 8 0 ∷ place (pos 12) (negsuc 3) ∷ place (pos 4) (negsuc 3) ∷ [])
+    mesh (wings ++ at 8 8 ∷ at 8 0 ∷ spot (pos 12) (negsuc 3) ∷ spot (pos 4) (negsuc 3) ∷ [])
     (tri 6 5 0 ∷ tri 7 6 3 ∷ tri 4 0 2 ∷ tri 5 2 0 ∷ tri 6 1 5 ∷ tri 8 6 0 ∷ tri 7 1 6 ∷ tri 8 3 6 ∷ [])
 
 -- rows 0 and 1 marked: the edge 0–1 starts by both
 abbrev wingsQuartered : Mesh
 wingsQuartered =
-    mesh (wings ++ at 8 8 ∷ at 8 0 ∷ at 0 8 ∷ place (pos 12) (negsuc 3) ∷ place (pos 4) (negsuc 3) ∷ [])
+    mesh (wings ++ at 8 8 ∷ at 8 0 ∷ at 0 8 ∷ spot (pos 12) (negsuc 3) ∷ spot (pos 4) (negsuc 3) ∷ [])
     (tri 6 5 0 ∷ tri 8 6 3 ∷ tri 7 4 0 ∷ tri 7 5 2 ∷ tri 6 1 5 ∷ tri 7 0 5 ∷ tri 9 6 0 ∷ tri 8 1 6 ∷ tri 9 3 6 ∷ tri 7 2 4 ∷ [])
 
 -- ---- 8

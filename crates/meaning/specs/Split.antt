@@ -3,9 +3,9 @@
 use mathlib.Core.Bool.{Bool, true, false, not, _&&_}
 use mathlib.Core.List.{List, [], _∷_, _++_, map}
 use mathlib.Core.Option.{Option, none, some}
-use Prim.Native.Nat.{ℕ, zero, suc, _+_, _%_}
+use Prim.Native.Nat.{ℕ, zero, suc, _+_, _/_, _%_}
 use lib.Dec.{eqb}
-use lib.IntN.{ℤ, pos, _+ℤ_, natAbs}
+use lib.IntN.{ℤ, pos, negsuc, _+ℤ_, natAbs}
 use lib.Signed.{quotZ}
 use lib.ListN.{length}
 use Rattle.lists.specs.declared.Found.{Found}
@@ -13,7 +13,7 @@ use Rattle.lists.specs.declared.Found.the-variants.{At, Nothing}
 use Rattle.lists.specs.Lists.{any, only, once, first, whereFirst, joined, All}
 use Rattle.meaning.specs.declared.Manner.{Manner}
 use Rattle.meaning.specs.declared.Manner.the-variants.{Newest, AllThree}
-use Rattle.meaning.specs.Mesh.{Place, Tri, Mesh, Edge, place, tri, edge, edges, base, sameEdge, at, mesh}
+use Rattle.meaning.specs.Mesh.{Place, Correction, Node, Tri, Mesh, Edge, place, correction, node, tri, edge, edges, base, sameEdge, nodeOf, at, mesh}
 
 -- ---- the split edges
 
@@ -73,6 +73,19 @@ halves m e = even (at m (e .lo) .x +ℤ at m (e .hi) .x) && even (at m (e .lo) .
 abbrev pub midpoint : Mesh → Edge → Place
 midpoint m e = place (half (at m (e .lo) .x +ℤ at m (e .hi) .x)) (half (at m (e .lo) .y +ℤ at m (e .hi) .y))
 
+-- half, rounded down: −3 gives −2 (its bounds: `floor-half` in crates/whole)
+abbrev pub halfDown : ℤ → ℤ
+halfDown (pos n) = pos (n / 2)
+halfDown (negsuc n) = negsuc (n / 2)
+
+-- W5: "the mean of the two ends, rounded down (−3 and 0 give −2)"
+abbrev pub mean : Correction → Correction → Correction
+mean c d = correction (halfDown (c .dx +ℤ d .dx)) (halfDown (c .dy +ℤ d .dy))
+
+-- the node that a split edge gets
+abbrev pub newNode : Mesh → Edge → Node
+newNode m e = node (midpoint m e) (mean (nodeOf m (e .lo) .correction) (nodeOf m (e .hi) .correction))
+
 -- ---- the rows of one triangle
 
 -- the row that keeps the father's place, and the rows that are appended
@@ -108,7 +121,7 @@ cutOf c n s t =
 -- "Appended at the end, fathers in row order"
 unfoldable pub splitAt : Cutting → Mesh → List Edge → Mesh
 splitAt c m s =
-    mesh (m .nodes ++ map (midpoint m) s)
+    mesh (m .nodes ++ map (newNode m) s)
     (map (λ t. cutOf c (length (m .nodes)) s t .kept) (m .tris) ++
     joined (λ t. cutOf c (length (m .nodes)) s t .added) (m .tris))
 

@@ -8,7 +8,7 @@ use lib.ListN.{length, replicate}
 use Rattle.lists.specs.Search.{items, itemsFrom}
 use Rattle.lists.specs.Table.{Form, readAt, flatten, Faithful}
 use Rattle.meaning.specs.declared.Answer.{Answer}
-use Rattle.meaning.specs.Mesh.{Place, Tri, Mesh, place, tri, mesh}
+use Rattle.meaning.specs.Mesh.{Place, Node, Tri, Mesh, place, correction, node, tri, mesh}
 
 -- ---- what a call is given, and what it leaves
 
@@ -38,9 +38,14 @@ answer k n t p c = record { number = k; n = n; t = t; passes = p; culprit = c }
 
 -- ---- how a node and a row stand in their tables
 
--- "Node table: two numbers a node"
-abbrev pub nodeForm : Form ℤ Place
-nodeForm = record { width = 2; blank = pos 0; fields = λ a. a .x ∷ a .y ∷ []; from = λ f b. place (f b) (f (b + 1)) }
+-- W5: "a node row has four numbers", x, y, dx, dy
+abbrev pub nodeForm : Form ℤ Node
+nodeForm = record {
+  width = 4;
+  blank = pos 0;
+  fields = λ a. a .place .x ∷ a .place .y ∷ a .correction .dx ∷ a .correction .dy ∷ [];
+  from = λ f b. node (place (f b) (f (b + 1))) (correction (f (b + 2)) (f (b + 3)));
+}
 
 -- "Triangle table: three numbers a row"
 abbrev pub rowForm : Form ℕ Tri
@@ -49,8 +54,12 @@ rowForm = record { width = 3; blank = 0; fields = λ t. t .p ∷ t .q ∷ t .r �
 -- ---- reading
 
 -- node k of a node table
-unfoldable pub placeAt : List ℤ → ℕ → Place
-placeAt = readAt nodeForm
+unfoldable pub nodeAt : List ℤ → ℕ → Node
+nodeAt = readAt nodeForm
+
+-- its place
+abbrev pub placeAt : List ℤ → ℕ → Place
+placeAt l k = nodeAt l k .place
 
 -- row i of a triangle table
 unfoldable pub rowAt : List ℕ → ℕ → Tri
@@ -58,19 +67,19 @@ rowAt = readAt rowForm
 
 -- the mesh in the tables: its first n nodes and t rows
 unfoldable pub meshOf : Given → Mesh
-meshOf g = mesh (items (placeAt (g .nodes)) 0 (g .n)) (items (rowAt (g .rows)) 0 (g .t))
+meshOf g = mesh (items (nodeAt (g .nodes)) 0 (g .n)) (items (rowAt (g .rows)) 0 (g .t))
 
 pub record Room : Type 0 where
   pub nodes : ℕ
   pub rows : ℕ
 
--- "The rooms are the table lengths divided by 2 and by 3."
+-- "The rooms are the table lengths divided by" 4 (W5) "and by 3."
 abbrev pub roomOf : Given → Room
 roomOf g = record { nodes = length (g .nodes) / nodeForm .width; rows = length (g .rows) / rowForm .width }
 
 -- ---- writing
 
-abbrev pub flatNodes : List Place → List ℤ
+abbrev pub flatNodes : List Node → List ℤ
 flatNodes = flatten nodeForm
 
 abbrev pub flatRows : List Tri → List ℕ
@@ -79,7 +88,13 @@ flatRows = flatten rowForm
 -- reading and writing agree
 pub nodes-faithful : Faithful nodeForm
 unfolding itemsFrom
-nodes-faithful = record { fields-from = λ f b. refl; from-fields = λ a more. refl }
+nodes-faithful = record {
+  fields-from = λ f b.
+      (let e : b + 1 + 1 ≡ b + 2 = omega arith in
+      let d : b + 2 + 1 ≡ b + 3 = omega arith in
+      rw (e, d));
+  from-fields = λ a more. refl;
+}
 
 pub rows-faithful : Faithful rowForm
 unfolding itemsFrom

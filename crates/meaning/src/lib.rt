@@ -1,9 +1,21 @@
 // What the device holds and what a call answers: the structs that code and definitions share. Document 01 as definitions is in specs/.
 
-// A node is a place.
+// Where a node stands.
 pub struct Place {
     pub x: i32,
     pub y: i32,
+}
+
+// W5: a node's stretch correction.
+pub struct Correction {
+    pub dx: i32,
+    pub dy: i32,
+}
+
+// A node is a place that carries a correction. Whatever asks where a node stands asks for its place alone.
+pub struct Node {
+    pub place: Place,
+    pub correction: Correction,
 }
 
 // A triangle is three node numbers: p is its newest vertex, q-r its refinement edge.

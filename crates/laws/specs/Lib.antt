@@ -9,6 +9,7 @@ pub mod Check
 pub mod Closure
 pub mod Cut
 pub mod Bisected
+pub mod Mean
 pub mod Midpoints
 pub mod Source
 pub mod SplitLaw

@@ -1,9 +1,9 @@
--- A row or a place put into its table. Assumes nothing.
+-- A row or a node put into its table. Assumes nothing.
 use mathlib.Core.List.{List}
 use Prim.Native.Nat.{ℕ}
 use lib.IntN.{ℤ}
 use Rattle.lists.specs.Table.{writeAt}
-use Rattle.meaning.specs.declared.Place.{Place}
+use Rattle.meaning.specs.declared.Node.{Node}
 use Rattle.meaning.specs.declared.Tri.{Tri}
 use Rattle.meaning.specs.Tables.{nodeForm, rowForm}
 
@@ -12,5 +12,5 @@ unfoldable pub setRow : List ℕ → ℕ → Tri → List ℕ
 setRow = writeAt rowForm
 
 -- the table with node k replaced
-unfoldable pub setPlace : List ℤ → ℕ → Place → List ℤ
-setPlace = writeAt nodeForm
+unfoldable pub setNode : List ℤ → ℕ → Node → List ℤ
+setNode = writeAt nodeForm

@@ -8,18 +8,20 @@ ghost use Rattle.lists.specs.Lists.{isFound};
 ghost use lib.IntN.{pos};
 ghost use Rattle.lists.specs.Search.{lowest, items};
 ghost use Rattle.meaning.specs.Mesh.{arrow, holdsArrow};
-ghost use Rattle.meaning.specs.Tables.{rowAt, placeAt, flatRows, flatNodes, filled};
+ghost use Rattle.meaning.specs.Tables.{rowAt, nodeAt, placeAt, flatRows, flatNodes, filled};
 ghost use Rattle.tables.specs.Arrow.{arrowAt};
-ghost use Rattle.tables.specs.Put.{setRow, setPlace};
+ghost use Rattle.tables.specs.Put.{setRow, setNode};
 ghost use Rattle.tables.specs.Sized.{indexAt, Corners};
 ghost use Rattle.tables.specs.Ready.{Ready};
 use lists::Found;
+use meaning::Correction;
+use meaning::Node;
 use meaning::Place;
 use meaning::Tri;
 
 mod index; // index.rt: the index of the neighbour search
 
-// ---- rows and places
+// ---- rows and nodes
 
 // Row i of the triangle table.
 pub fn row_at(rows: &[u32], i: usize) -> Tri
@@ -34,19 +36,40 @@ pub fn row_at(rows: &[u32], i: usize) -> Tri
 }
 
 // Node k of the node table.
+pub fn node_at(nodes: &[i32], k: usize) -> Node
+    requires { ⌜ 4 * k + 4 ≤ length (now nodes) ⌝ }
+    ensures { λ a. ⌜ a ≡ nodeAt (now (nodes .entry)) k ⌝ }
+{
+    let place = place_at(nodes, k);
+    let correction = correction_at(nodes, k);
+    Node { place, correction }
+}
+
+// Its place.
 pub fn place_at(nodes: &[i32], k: usize) -> Place
-    requires { ⌜ 2 * k + 2 ≤ length (now nodes) ⌝ }
+    requires { ⌜ 4 * k + 4 ≤ length (now nodes) ⌝ }
     ensures { λ a. ⌜ a ≡ placeAt (now (nodes .entry)) k ⌝ }
 {
     Place {
-        x: nodes[2 * k],
-        y: nodes[2 * k + 1],
+        x: nodes[4 * k],
+        y: nodes[4 * k + 1],
+    }
+}
+
+// Its correction.
+fn correction_at(nodes: &[i32], k: usize) -> Correction
+    requires { ⌜ 4 * k + 4 ≤ length (now nodes) ⌝ }
+    ensures { λ c. ⌜ c ≡ nodeAt (now (nodes .entry)) k .correction ⌝ }
+{
+    Correction {
+        dx: nodes[4 * k + 2],
+        dy: nodes[4 * k + 3],
     }
 }
 
 // The place of a corner.
 pub fn corner(nodes: &[i32], k: u32) -> Place
-    requires { ⌜ 2 * k + 2 ≤ length (now nodes) ⌝ }
+    requires { ⌜ 4 * k + 4 ≤ length (now nodes) ⌝ }
     ensures { λ a. ⌜ a ≡ placeAt (now (nodes .entry)) k ⌝ }
 {
     place_at(nodes, k as usize)
@@ -61,14 +84,18 @@ pub fn put_row(rows: &mut [u32], i: usize, w: Tri)
     rows[3 * i + 2] = w.r;
 }
 
-pub fn put_place(nodes: &mut [i32], k: usize, a: Place)
-    requires { ⌜ 2 * k + 2 ≤ length (now nodes) ⌝ }
-    ensures { λ _. ⌜ now (nodes .exit) ≡ setPlace (now (nodes .entry)) k a ⌝ }
+pub fn put_node(nodes: &mut [i32], k: usize, a: Node)
+    requires { ⌜ 4 * k + 4 ≤ length (now nodes) ⌝ }
+    ensures { λ _. ⌜ now (nodes .exit) ≡ setNode (now (nodes .entry)) k a ⌝ }
 {
-    let x = a.x;
-    let y = a.y;
-    nodes[2 * k] = x;
-    nodes[2 * k + 1] = y;
+    let x = a.place.x;
+    let y = a.place.y;
+    let dx = a.correction.dx;
+    let dy = a.correction.dy;
+    nodes[4 * k] = x;
+    nodes[4 * k + 1] = y;
+    nodes[4 * k + 2] = dx;
+    nodes[4 * k + 3] = dy;
 }
 
 // ---- zeros past the counts
@@ -92,12 +119,12 @@ fn clear_nodes(nodes: &mut [i32])
     }
 }
 
-// The first n places stay; the rest of the table is zero.
-pub fn clear_places_from(nodes: &mut [i32], n: usize)
-    requires { ⌜ 2 * n ≤ length (now nodes) ⌝ }
-    ensures { λ _. ⌜ now (nodes .exit) ≡ filled (pos 0) (length (now (nodes .entry))) (flatNodes (items (placeAt (now (nodes .entry))) 0 n)) ⌝ }
+// The first n nodes stay; the rest of the table is zero.
+pub fn clear_nodes_from(nodes: &mut [i32], n: usize)
+    requires { ⌜ 4 * n ≤ length (now nodes) ⌝ }
+    ensures { λ _. ⌜ now (nodes .exit) ≡ filled (pos 0) (length (now (nodes .entry))) (flatNodes (items (nodeAt (now (nodes .entry))) 0 n)) ⌝ }
 {
-    clear_nodes(&mut nodes[2 * n..]);
+    clear_nodes(&mut nodes[4 * n..]);
 }
 
 // ---- notes

@@ -1,10 +1,10 @@
-use Rattle.meaning.specs.Tables.{placeAt}
+use Rattle.meaning.specs.Tables.{nodeAt}
 use borrow.Author.Needs.{needs}
 use Rattle.tables.proofs.place_at.Statement.{statement}
 use Rattle.tables.proofs.place_at.Tie as tie
 
 returns : tie.Need-returns
-unfolding placeAt
+unfolding nodeAt
 returns c = search needs
 
 pub place-at-spec : {M : Type 1} → statement M

@@ -15,13 +15,14 @@ use Rattle.lists.specs.Lists.{joined, cases}
 use Rattle.lists.specs.Search.{items}
 use Rattle.lists.specs.IterLaw.{length-items}
 use Rattle.meaning.specs.declared.Answer.{Answer}
+use Rattle.meaning.specs.declared.Correction.{Correction}
 use Rattle.meaning.specs.declared.Node.{Node}
 use Rattle.meaning.specs.declared.Tri.{Tri}
 use Rattle.meaning.specs.Mesh.{place, correction, node, tri}
-use Rattle.meaning.specs.Lawful.{NodeInRange}
+use Rattle.meaning.specs.Lawful.{InBounds, NodeInRange}
 use Rattle.meaning.specs.Tables.{answer, nodeAt, rowAt}
 use Rattle.text.specs.DigitsLaw.{worth-digit, worth-letter}
-use Rattle.text.specs.Digits.{bytes, hex, hexDigit, signed, unsigned, number, worth}
+use Rattle.text.specs.Digits.{bytes, field, hex, hexDigit, signed, unsigned, number, worth}
 use Rattle.text.specs.Lines.{correctionIn, nodeIn, rowIn, answerLine, nodeLine, rowLine, allLines}
 
 -- "kind, number (2 digits each), n, t, passes (4 each)", W2's "four digits at their end", and the end byte: 21 in all
@@ -118,6 +119,25 @@ node-read a h =
       part-back (a .correction .dx) (c .dx-from) (c .dx-to),
       part-back (a .correction .dy) (c .dy-from) (c .dy-to),
     )
+
+-- AND THE FIELDS OF `08` SAY A NODE AND A CORRECTION IN RANGE.
+abbrev pub settingText : ℕ → Correction → List ℕ
+settingText z c = hex 4 z ++ hex 4 (unsigned (c .dx)) ++ hex 4 (unsigned (c .dy))
+
+module _ (z : ℕ) (c : Correction) where
+  pub setting-node : z < 65536 → field 4 (settingText z c) 0 ≡ z
+  unfolding hex number
+  setting-node h = four-digits z ∙ omega arith
+
+  pub setting-correction : InBounds c → correctionIn (settingText z c) 1 ≡ c
+  unfolding correctionIn hex number
+  setting-correction b =
+      rw (
+        four-digits (unsigned (c .dx)),
+        four-digits (unsigned (c .dy)),
+        part-back (c .dx) (b .dx-from) (b .dx-to),
+        part-back (c .dy) (b .dy-from) (b .dy-to),
+      )
 
 lines-length : {A : Type 0} (f : A → List ℕ) (k : ℕ) → ((a : A) → length (f a) ≡ k) → (l : List A) → length (joined f l) ≡ k * length l
 lines-length f k h [] = omega arith

@@ -13,7 +13,7 @@ use Rattle.meaning.specs.Mesh.{Mesh}
 use Rattle.meaning.specs.Lawful.{refusal}
 use Rattle.meaning.specs.Split.{Way, bisected, refined}
 use Rattle.meaning.specs.Coarsen.{coarsened, pass, Restored, restored}
-use Rattle.meaning.specs.Tables.{Given, Outcome, Room, given, outcome, answer, meshOf, roomOf, filled, cleared}
+use Rattle.meaning.specs.Tables.{Given, Outcome, Room, given, outcome, answer, nodeForm, rowForm, meshOf, roomOf, filled, cleared}
 use Rattle.meaning.specs.Calls.{says, checkNo, refineNo, coarsenNo, refines, coarsens, restores, sizesFit, untouched, checkOut, refineOut, coarsenOut, restoreOut}
 use Rattle.laws.specs.Lawful.{lawful-refusal}
 use Rattle.laws.specs.Restore.{Passes, none-good, one-pass, pass-fewer, restored-is, restored-passes}
@@ -129,8 +129,8 @@ fullPass g n0 = coarsenOut g n0 (replicate (g .n) 1)
 abbrev pub baseAgain : Given → Given → Outcome
 baseAgain g₀ g =
     outcome (answer 0 (g₀ .n) (g₀ .t) (restored (g₀ .n) (meshOf g) .passes) 0)
-    (filled (pos 0) (length (g₀ .nodes)) (take (2 * g₀ .n) (g₀ .nodes)))
-    (filled 0 (length (g₀ .rows)) (take (3 * g₀ .t) (g₀ .rows)))
+    (filled (pos 0) (length (g₀ .nodes)) (take (nodeForm .width * g₀ .n) (g₀ .nodes)))
+    (filled 0 (length (g₀ .rows)) (take (rowForm .width * g₀ .t) (g₀ .rows)))
     (cleared (g .scratch))
 
 pub record Restores (g₀ g : Given) : Type 0 where

@@ -14,7 +14,7 @@ use Rattle.meaning.specs.Mesh.{Mesh}
 use Rattle.meaning.specs.Lawful.{refusal}
 use Rattle.meaning.specs.Split.{Way, bisected, refined}
 use Rattle.meaning.specs.Coarsen.{coarsened, pass, restored}
-use Rattle.meaning.specs.Tables.{Given, given, meshOf, roomOf}
+use Rattle.meaning.specs.Tables.{Given, given, nodeForm, rowForm, meshOf, roomOf}
 use Rattle.meaning.specs.Calls.{checkNo, sizesFit, done, checkOut, refineOut, coarsenOut, restoreOut}
 use Rattle.laws.specs.Lawful.{lawful-refusal}
 use Rattle.laws.specs.Marks.{ones-fit}
@@ -59,7 +59,7 @@ module _ (g₀ : Given) (ok : checkOut g₀ .answer .number ≡ 0) where
   fit₀ = let s = sizes₀ in record { nodes-fit = omega (arith, s .n-fits); rows-fit = omega (arith, s .t-fits) }
 
   -- An accepted call leaves a mesh that is grown from the base, if it fits.
-  tables-done : (g : Given) → GrownTables g₀ g → (m : Mesh) (k : ℕ) → GrownFrom base m → 2 * length (m .nodes) ≤ length (g .nodes) → 3 * length (m .tris) ≤ length (g .rows) →
+  tables-done : (g : Given) → GrownTables g₀ g → (m : Mesh) (k : ℕ) → GrownFrom base m → nodeForm .width * length (m .nodes) ≤ length (g .nodes) → rowForm .width * length (m .tris) ≤ length (g .rows) →
       GrownTables g₀ (tablesAfter (done g m k))
   tables-done g h m k G a b = record {
     grown = subst (GrownFrom base) (sym (done-mesh g m k)) G;
@@ -91,7 +91,7 @@ module _ (g₀ : Given) (ok : checkOut g₀ .answer .number ≡ 0) where
   coarsen-keeps m G marks = subst (λ (j : ℕ). GrownFrom base (coarsened j m marks)) (nodes-count g₀) (from-coarsened base m G marks)
 
   coarsen-fits : (g : Given) → GrownTables g₀ g → (marks : List ℕ) →
-      (2 * length (coarsened (g₀ .n) (meshOf g) marks .nodes) ≤ length (g .nodes)) × (3 * length (coarsened (g₀ .n) (meshOf g) marks .tris) ≤ length (g .rows))
+      (nodeForm .width * length (coarsened (g₀ .n) (meshOf g) marks .nodes) ≤ length (g .nodes)) × (rowForm .width * length (coarsened (g₀ .n) (meshOf g) marks .tris) ≤ length (g .rows))
   coarsen-fits g h marks =
       let c = coarsened-gone (g₀ .n) (meshOf g) marks (h .grown .lawful) in
       (omega (arith, c .node-count, nodes-count g, h .fit .nodes-fit), omega (arith, c .row-count, rows-count g, h .fit .rows-fit))

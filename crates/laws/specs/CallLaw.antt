@@ -12,16 +12,20 @@ use lib.ListN.{length, getD, replicate}
 use lib.Seq.{getD-append-add}
 use Rattle.lists.specs.Lists.{cases}
 use Rattle.lists.specs.ListsLaw.{and-left, and-right}
+use Rattle.meaning.specs.declared.Correction.{Correction}
 use Rattle.meaning.specs.Mesh.{Mesh}
 use Rattle.meaning.specs.Tables.{Given, Outcome, nodeForm, rowForm, meshOf, roomOf, flatNodes, flatRows, filled, cleared}
 use Rattle.meaning.specs.Lawful.{Names, names-none, refusal}
 use Rattle.meaning.specs.Split.{Way, refined}
 use Rattle.meaning.specs.Coarsen.{coarsened, restored}
-use Rattle.meaning.specs.Calls.{marksFit, culpritOf, saysOf, says, checkNo, refineNo, coarsenNo, refines, coarsens, restores, sizesFit, untouched, done, leaves, sized, checkOut, refineOut, coarsenOut, restoreOut}
+use Rattle.meaning.specs.Setting.{corrected, setFault, SetNames, names-stored}
+use Rattle.meaning.specs.Calls.{marksFit, culpritOf, saysOf, says, checkNo, refineNo, coarsenNo, refines, coarsens, restores, sets, sizesFit, untouched, done, leaves, sized, checkOut, refineOut, coarsenOut, restoreOut, setOut}
 use Rattle.laws.specs.Exact.{unfit}
 use Rattle.laws.specs.Marks.{marks-exact, ones-fit}
 use Rattle.laws.specs.Culprit.{Due, names-exact, culprit-names, culprit-none, check-due, refine-due, coarsen-due, restore-due}
-use Rattle.laws.specs.TableMesh.{nodes-count, flat-nodes-length, flat-rows-length, tablesAfter, done-mesh, done-nodes, done-rows}
+use Rattle.laws.specs.PlaceOnly.{SamePlaces}
+use Rattle.laws.specs.Setting.{corrected-count, corrected-places, set-names, set-nobody}
+use Rattle.laws.specs.TableMesh.{nodes-count, rows-count, flat-nodes-length, flat-rows-length, tablesAfter, done-mesh, done-nodes, done-rows}
 
 -- ---- sizes
 
@@ -217,7 +221,7 @@ leaves-no-passes {o = o} l = go (o .answer .number) refl
     go zero e = ap (λ (x : Outcome). x .answer .passes) (l .done-is e)
     go (suc j) e = l .refusal-leaves (λ z. omega arith) .no-passes
 
--- ---- the four calls
+-- ---- the calls
 
 -- "the base check writes no table but scratch"
 pub record CheckLeaves (g : Given) (o : Outcome) : Type 0 where
@@ -242,6 +246,11 @@ module _ (g : Given) (n0 : ℕ) where
   pub coarsen-leaves : (marks : List ℕ) → CallLeaves g n0 (coarsenNo (meshOf g) marks) (culpritOf (meshOf g) (coarsenNo (meshOf g) marks)) (coarsened n0 (meshOf g) marks) 0 (coarsenOut g n0 marks)
   unfolding coarsenOut coarsens
   coarsen-leaves marks = mesh-leaves g n0 (coarsenNo (meshOf g) marks) (coarsened n0 (meshOf g) marks) 0
+
+  pub set-leaves : (z : ℕ) (c : Correction) →
+      CallLeaves g n0 (setFault n0 (meshOf g) z c .number) (setFault n0 (meshOf g) z c .at) (corrected (meshOf g) z c) 0 (setOut g n0 z c)
+  unfolding setOut sets
+  set-leaves z c = call-leaves g n0 (setFault n0 (meshOf g) z c .number) (setFault n0 (meshOf g) z c .at) (corrected (meshOf g) z c) 0 (set-nobody n0 (meshOf g) z c)
 
   pub restore-leaves : CallLeaves g n0 (refusal (meshOf g)) (culpritOf (meshOf g) (refusal (meshOf g))) (restored n0 (meshOf g) .end) (restored n0 (meshOf g) .passes) (restoreOut g n0)
   unfolding restoreOut restores
@@ -271,6 +280,14 @@ module _ (g : Given) (n0 : ℕ) where
   pub restore-names : Names (meshOf g) (restoreOut g n0 .answer .number) (restoreOut g n0 .answer .culprit)
   restore-names = call-names (restore-due (meshOf g)) (restore-leaves g n0)
 
+  -- W5: a setting names the node given where its value alone is out of range
+  pub set-call-names : (z : ℕ) (c : Correction) → SetNames (meshOf g) z c (setOut g n0 z c .answer .number) (setOut g n0 z c .answer .culprit)
+  set-call-names z c = let l = set-leaves g n0 z c in rw (l .number-said, l .culprit-said) (go (sizesFit g n0))
+    where
+      go : (b : Bool) → SetNames (meshOf g) z c (cases b (setFault n0 (meshOf g) z c .number) 1) (cases b (setFault n0 (meshOf g) z c .at) 0)
+      go true = set-names n0 (meshOf g) z c
+      go false = names-stored (names-none 1 (inl (omega arith)))
+
 -- "Only restore reports passes; after 0 the other calls give 0 there." A refusal gives 0 too.
 pub check-no-passes : (g : Given) → checkOut g .answer .passes ≡ 0
 check-no-passes g = check-leaves g .all-as-given .no-passes
@@ -280,6 +297,23 @@ refine-no-passes w g n0 marks = leaves-no-passes (refine-leaves g n0 w marks)
 
 pub coarsen-no-passes : (g : Given) (n0 : ℕ) (marks : List ℕ) → coarsenOut g n0 marks .answer .passes ≡ 0
 coarsen-no-passes g n0 marks = leaves-no-passes (coarsen-leaves g n0 marks)
+
+pub set-no-passes : (g : Given) (n0 z : ℕ) (c : Correction) → setOut g n0 z c .answer .passes ≡ 0
+set-no-passes g n0 z c = leaves-no-passes (set-leaves g n0 z c)
+
+-- A setting changes no count.
+pub set-counts : (g : Given) (n0 z : ℕ) (c : Correction) → (setOut g n0 z c .answer .n ≡ g .n) × (setOut g n0 z c .answer .t ≡ g .t)
+set-counts g n0 z c = go (setOut g n0 z c .answer .number) refl
+  where
+    l : CallLeaves g n0 (setFault n0 (meshOf g) z c .number) (setFault n0 (meshOf g) z c .at) (corrected (meshOf g) z c) 0 (setOut g n0 z c)
+    l = set-leaves g n0 z c
+
+    go : (k : ℕ) → setOut g n0 z c .answer .number ≡ k → (setOut g n0 z c .answer .n ≡ g .n) × (setOut g n0 z c .answer .t ≡ g .t)
+    go zero e = (
+      ap (λ (o : Outcome). o .answer .n) (l .done-is e) ∙ corrected-count (meshOf g) z c ∙ nodes-count g,
+      ap (λ (o : Outcome). o .answer .t) (l .done-is e) ∙ ap length (sym (corrected-places (meshOf g) z c .rows-same)) ∙ rows-count g,
+    )
+    go (suc k) e = let a = l .refusal-leaves (λ q. omega arith) in (a .n-same, a .t-same)
 
 -- A restore that is refused leaves what its first full pass leaves, which is made on the tables as given.
 pub restore-refused : (g : Given) (n0 : ℕ) → restoreOut g n0 .answer .number ≢ 0 → restoreOut g n0 ≡ coarsenOut g n0 (replicate (g .n) 1)

@@ -206,6 +206,14 @@ module _ (n0 : ℕ) (m : Mesh) (z : ℕ) (c : Correction) where
           go (inl f) = names-stored (names-3 (first-3 m i f))
           go (inr (f, b, w)) = subst (SetNames m z c 3) w (names-given (none-3 m f) (not-bounded b))
 
+-- with 0 it names nobody
+pub set-nobody : (n0 : ℕ) (m : Mesh) (z : ℕ) (c : Correction) → setFault n0 m z c .number ≡ 0 → setFault n0 m z c .at ≡ 0
+set-nobody n0 m z c e = go (set-names n0 m z c) e
+  where
+    go : {k y : ℕ} → SetNames m z c k y → k ≡ 0 → y ≡ 0
+    go (names-stored n) q = named-0 n (inl (omega arith))
+    go (names-given r f) q = absurd (omega arith)
+
 stored-clash : {m : Mesh} {y : ℕ} → Names m 3 y → All NodeInRange (m .nodes) → ⊥
 stored-clash a r = let f = named-3 a in f .at-fault (All-getD r _ origin (f .below))
 

@@ -1,4 +1,4 @@
--- Meshes grown from a base: the invariant that refining and coarsening keep. The base has it; with no node added the mesh is the base.
+-- Meshes grown from a base: the invariant that refining, coarsening and setting keep. The base has it; with no node added the mesh is the base.
 -- Assumes nothing.
 use mathlib.Core.Path.{_≡_, refl, subst, subst₂, _∙_}
 use Prim.Native.Nat.{ℕ, _<_}

@@ -15,14 +15,14 @@ use Rattle.lists.specs.ListsLaw.{and-both, and-left, and-right, All-at, All-of,
 use Rattle.lists.specs.MembersLaw.{only-in, only-passes, only-keeps, upTo-below, upTo-in, upTo-once}
 use Rattle.lists.specs.Tally.{bit, tally, count-tally, only-le}
 use Rattle.meaning.specs.declared.Tri.{Tri}
-use Rattle.meaning.specs.Mesh.{Mesh, sameTri, at, total}
+use Rattle.meaning.specs.Mesh.{Mesh, sameTri, nodeOf, total}
 use Rattle.meaning.specs.Lawful.{Lawful}
 use Rattle.meaning.specs.Good.{Brothers, pairs, good}
 use Rattle.meaning.specs.Coarsen.{marked, taken, becomes, fate, stays, renumber, renamed, without, coarsened}
 use Rattle.laws.specs.Stay.{stayed-mono, stayed-all, renumber-lt, renumber-falls, staying-rest}
 use Rattle.laws.specs.Star.{Pair, GoodStar, good-added, good-star}
 use Rattle.laws.specs.CoarsenRows.{Takeable, Fate, brood, broods, fate-is}
-use Rattle.laws.specs.Without.{without-length, without-at, without-below, without-onto, without-lawful, without-total, without-rows}
+use Rattle.laws.specs.Without.{without-length, without-node, without-below, without-onto, without-lawful, without-total, without-rows}
 
 -- ---- the nodes that are taken
 
@@ -84,8 +84,8 @@ coarsened-rows n0 m marks =
 pub record Gone (m : Mesh) (zs : List ℕ) (after : Mesh) : Type 0 where
   pub node-count : length (after .nodes) + length zs ≡ length (m .nodes)
   pub row-count : length (after .tris) + length (brood m zs) ≡ length (m .tris)
-  -- a node that stays keeps its place, under a number of the new mesh: as many as stay below it, so less by as many as go below it
-  pub place-kept : (k : ℕ) → k < length (m .nodes) → stays zs k ≡ true → at after (renumber zs k) ≡ at m k
+  -- a node that stays is as it was, place and correction, under a number of the new mesh: as many as stay below it, so less by as many as go below it
+  pub node-kept : (k : ℕ) → k < length (m .nodes) → stays zs k ≡ true → nodeOf after (renumber zs k) ≡ nodeOf m k
   pub number-below : (k : ℕ) → k < length (m .nodes) → stays zs k ≡ true → renumber zs k < length (after .nodes)
   pub number-falls : (k : ℕ) → renumber zs k + length (only (λ z. ltb z k) zs) ≡ k
   -- the order is kept
@@ -101,9 +101,9 @@ pub record Gone (m : Mesh) (zs : List ℕ) (after : Mesh) : Type 0 where
 pub record Preserved (n0 : ℕ) (m after : Mesh) : Type 0 where
   pub lawful : Lawful after
   pub total-kept : total after ≡ total m
-  -- the base nodes are there, with their numbers and places
+  -- the base nodes are there, with their numbers, places and corrections
   pub base-there : n0 ≤ length (after .nodes)
-  pub base-kept : (k : ℕ) → k < n0 → at after k ≡ at m k
+  pub base-kept : (k : ℕ) → k < n0 → nodeOf after k ≡ nodeOf m k
 
 module _ (n0 : ℕ) (m : Mesh) (marks : List ℕ) where
   -- a base node stays, with its number
@@ -148,7 +148,7 @@ module _ (n0 : ℕ) (m : Mesh) (marks : List ℕ) where
         record {
           node-count = coarsened-count n0 m marks;
           row-count = without-rows m zs law takeable;
-          place-kept = without-at m zs;
+          node-kept = without-node m zs;
           number-below = without-below m zs;
           number-falls = renumber-falls zs (taken-once n0 m marks);
           order-kept = renumber-lt zs;
@@ -171,5 +171,5 @@ module _ (n0 : ℕ) (m : Mesh) (marks : List ℕ) where
               let c = base-number n0 (omega arith) in
               omega arith);
           base-kept = λ k h.
-              subst (λ j. at (coarsened n0 m marks) j ≡ at m k) (base-number k (omega arith)) (g .place-kept k (omega arith) (base-stays k h));
+              subst (λ j. nodeOf (coarsened n0 m marks) j ≡ nodeOf m k) (base-number k (omega arith)) (g .node-kept k (omega arith) (base-stays k h));
         }

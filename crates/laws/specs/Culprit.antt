@@ -16,8 +16,8 @@ use Rattle.lists.specs.declared.Found.{Found}
 use Rattle.lists.specs.declared.Found.the-variants.{At, Nothing}
 use Rattle.lists.specs.Lists.{all, cases, count}
 use Rattle.meaning.specs.declared.Fault.{Fault}
-use Rattle.meaning.specs.Mesh.{Mesh, at, holdsNode, twiceArea}
-use Rattle.meaning.specs.Lawful.{InRange, Named, First, Repeats, Other, Names, names-3, names-4, names-5, names-6, names-7, names-none, firstOutside, firstMisnamed, firstRepeat, firstFlat, firstUnused, rowOf, orLater, faultOf, refusal, compatible}
+use Rattle.meaning.specs.Mesh.{Mesh, nodeOf, holdsNode, twiceArea}
+use Rattle.meaning.specs.Lawful.{NodeInRange, Named, First, Repeats, Other, Names, names-3, names-4, names-5, names-6, names-7, names-none, firstOutside, firstMisnamed, firstRepeat, firstFlat, firstUnused, rowOf, orLater, faultOf, refusal, compatible}
 use Rattle.meaning.specs.Split.{Way, splitEdges, started, halves, refined}
 use Rattle.meaning.specs.Tables.{Room}
 use Rattle.meaning.specs.Calls.{culpritOf, unless, orElse, marksFit, fits, checkNo, refineNo, coarsenNo}
@@ -47,7 +47,7 @@ other-no a b (inr h) = absurd (omega arith)
 
 module _ {m : Mesh} where
   -- WHAT 3 NAMES: a node out of range, all below it being in range.
-  pub named-3 : {z : ℕ} → Names m 3 z → First (length (m .nodes)) (λ j. ¬ InRange (at m j)) (λ j. InRange (at m j)) z
+  pub named-3 : {z : ℕ} → Names m 3 z → First (length (m .nodes)) (λ j. ¬ NodeInRange (nodeOf m j)) (λ j. NodeInRange (nodeOf m j)) z
   named-3 (names-3 f) = f
   named-3 (names-none k o) = other-no (omega arith) (omega arith) o
 

@@ -7,12 +7,12 @@ use mathlib.Core.Path.{_≡_, refl, sym, subst, ap, _∙_}
 use Prim.Native.Nat.{ℕ, zero, suc, _+_, _≤_, _<_}
 use native.Mathlib.Omega.{arith}
 use lib.Dec.{eqb, leb}
-use lib.IntN.{ℤ, pos, natAbs}
-use lib.Signed.{_<ℤ_}
+use lib.IntN.{ℤ, pos, negsuc, natAbs}
+use lib.Signed.{ltZ, _<ℤ_, _≤ℤ_}
 use lib.ListN.{length, getD, take}
 use lib.Seq.{getD-take, length-take-le}
 use borrow.Author.Tests.{eqb-true, eqb-false, ne-eqb, leb-true, leb-false, le-leb, lt-leb, not-false}
-use Rattle.whole.specs.Tests.{ltZ-true, lt-ltZ}
+use Rattle.whole.specs.Tests.{ltZ-true, ltZ-false, lt-ltZ, le-ltZ}
 use Rattle.lists.specs.declared.Found.the-variants.{At, Nothing}
 use Rattle.lists.specs.Lists.{any, count, sucIf, joined, whereFirst, All, nil, cons}
 use Rattle.lists.specs.ListsLaw.{clash, or-no, All-imp, All-at, All-of, any-at, any-row, any-none, where-none}
@@ -22,9 +22,11 @@ use Rattle.lists.specs.Search.{lowest}
 use Rattle.lists.specs.SearchLaw.{lowest-below, lowest-true, lowest-lower, lowest-nothing}
 use Rattle.lists.specs.ByNumberLaw.{where-lowest}
 use Rattle.meaning.specs.declared.Place.{Place}
+use Rattle.meaning.specs.declared.Correction.{Correction}
+use Rattle.meaning.specs.declared.Node.{Node}
 use Rattle.meaning.specs.declared.Tri.{Tri}
-use Rattle.meaning.specs.Mesh.{Mesh, Arrow, tri, arrow, arrows, origin, at, sameArrow, holdsNode, holdsArrow, twiceArea}
-use Rattle.meaning.specs.Lawful.{InRange, Named, First, Repeats, far, outside, misnamed, rowOf, repeats, flat, unused, firstOutside, firstMisnamed, firstRepeat, firstFlat, firstUnused}
+use Rattle.meaning.specs.Mesh.{Mesh, Arrow, tri, arrow, arrows, origin, nodeOf, sameArrow, holdsNode, holdsArrow, twiceArea}
+use Rattle.meaning.specs.Lawful.{InRange, InBounds, NodeInRange, Named, First, Repeats, far, outside, tooLong, beyond, nodeOutside, misnamed, rowOf, repeats, flat, unused, firstOutside, firstMisnamed, firstRepeat, firstFlat, firstUnused}
 use Rattle.laws.specs.Edges.{sameArrow-eq, hit, hits, count-arrows, hit-no, eq-arrow, not-held, held-hit}
 
 -- ---- 3
@@ -37,6 +39,30 @@ in-range a e = let h = or-no (far (a .x)) (far (a .y)) e in record { x-near = ne
 
 range-exact : (a : Place) → (outside a ≡ false) ↔ InRange a
 range-exact a = (in-range a, λ h. rw (le-leb _ _ (h .x-near), le-leb _ _ (h .y-near)))
+
+long-exact : (z : ℤ) → (tooLong z ≡ false) ↔ ((negsuc 32_767 ≤ℤ z) × (z ≤ℤ pos 32_767))
+long-exact z = (
+  λ e. (let h = or-no (ltZ z (negsuc 32_767)) (ltZ (pos 32_767) z) e in (ltZ-false z (negsuc 32_767) (h .0), ltZ-false (pos 32_767) z (h .1))),
+  λ h. rw (le-ltZ z (negsuc 32_767) (h .0), le-ltZ (pos 32_767) z (h .1)),
+)
+
+pub bounds-exact : (c : Correction) → (beyond c ≡ false) ↔ InBounds c
+bounds-exact c = (
+  λ e.
+      (let h = or-no (tooLong (c .dx)) (tooLong (c .dy)) e in
+      let x = long-exact (c .dx) .0 (h .0) in
+      let y = long-exact (c .dy) .0 (h .1) in
+      record { dx-from = x .0; dx-to = x .1; dy-from = y .0; dy-to = y .1 }),
+  λ b. rw (long-exact (c .dx) .1 (b .dx-from, b .dx-to), long-exact (c .dy) .1 (b .dy-from, b .dy-to)),
+)
+
+pub node-exact : (a : Node) → (nodeOutside a ≡ false) ↔ NodeInRange a
+node-exact a = (
+  λ e.
+      (let h = or-no (outside (a .place)) (beyond (a .correction)) e in
+      record { place-in = range-exact (a .place) .0 (h .0); correction-in = bounds-exact (a .correction) .0 (h .1) }),
+  λ r. rw (range-exact (a .place) .1 (r .place-in), bounds-exact (a .correction) .1 (r .correction-in)),
+)
 
 -- ---- 4
 
@@ -212,13 +238,13 @@ module _ {A : Type 0} {Sound : A → Type 0} (f : A → Bool) (exact : (x : A) �
   all-sound e = All-imp (λ x. exact x .0) (where-none f l e)
 
 module _ (m : Mesh) where
-  pub first-3 : (i : ℕ) → firstOutside m ≡ At i → First (length (m .nodes)) (λ j. ¬ InRange (at m j)) (λ j. InRange (at m j)) i
+  pub first-3 : (i : ℕ) → firstOutside m ≡ At i → First (length (m .nodes)) (λ j. ¬ NodeInRange (nodeOf m j)) (λ j. NodeInRange (nodeOf m j)) i
   unfolding firstOutside
-  first-3 = first-unsound outside range-exact (m .nodes) origin
+  first-3 = first-unsound nodeOutside node-exact (m .nodes) origin
 
-  pub none-3 : firstOutside m ≡ Nothing → All InRange (m .nodes)
+  pub none-3 : firstOutside m ≡ Nothing → All NodeInRange (m .nodes)
   unfolding firstOutside
-  none-3 = all-sound outside range-exact (m .nodes)
+  none-3 = all-sound nodeOutside node-exact (m .nodes)
 
   pub first-4 : (i : ℕ) → firstMisnamed m ≡ At i → First (length (m .tris)) (λ j. ¬ Named (length (m .nodes)) (rowOf (m .tris) j)) (λ j. Named (length (m .nodes)) (rowOf (m .tris) j)) i
   unfolding firstMisnamed

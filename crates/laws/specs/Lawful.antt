@@ -19,8 +19,8 @@ use Rattle.lists.specs.SearchLaw.{lowest-below, lowest-true}
 use Rattle.lists.specs.ByNumberLaw.{where-lowest}
 use Rattle.meaning.specs.declared.Tri.{Tri}
 use Rattle.meaning.specs.declared.Fault.{Fault}
-use Rattle.meaning.specs.Mesh.{Mesh, Arrow, tri, arrows, base, origin, at, sameArrow, sameEdge, holdsNode, holdsEdge, twiceArea}
-use Rattle.meaning.specs.Lawful.{InRange, Named, Lawful, Compatible, Applies, out-of-range, misnames, occurs-twice, not-above, in-none, Lowest, rowOf, clashes, firstOutside, firstMisnamed, firstRepeat, firstFlat, firstUnused, firstClash, orLater, faultOf, refusal, compatible}
+use Rattle.meaning.specs.Mesh.{Mesh, Arrow, tri, arrows, base, origin, sameArrow, sameEdge, holdsNode, holdsEdge, twiceArea}
+use Rattle.meaning.specs.Lawful.{NodeInRange, Named, Lawful, Compatible, Applies, out-of-range, misnames, occurs-twice, not-above, in-none, LowestOf, Lowest, rowOf, clashes, firstOutside, firstMisnamed, firstRepeat, firstFlat, firstUnused, firstClash, orLater, faultOf, refusal, compatible}
 use Rattle.laws.specs.Edges.{sameEdge-eq, sameEdge-refl}
 use Rattle.laws.specs.Faults.{first-3, first-4, first-5, first-6, first-7, none-3, none-4, none-5, none-6, none-7, repeat-twice}
 
@@ -75,7 +75,7 @@ module _ (m : Mesh) where
 -- ---- where a fact holds, its number does not apply
 
 module _ {m : Mesh} where
-  not-3 : All InRange (m .nodes) → ¬ Applies m 3
+  not-3 : All NodeInRange (m .nodes) → ¬ Applies m 3
   not-3 h (out-of-range k l f) = f (All-getD h k origin l)
 
   not-4 : All (Named (length (m .nodes))) (m .tris) → ¬ Applies m 4

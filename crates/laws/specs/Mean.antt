@@ -51,6 +51,14 @@ module _ (a b : ℤ) where
 
 -- ---- of two corrections
 
+-- e is the mean of c and d, each part rounded down
+pub record MeanDown (e c d : Correction) : Type 0 where
+  pub dx-mean : FloorHalf (c .dx +ℤ d .dx) (e .dx)
+  pub dy-mean : FloorHalf (c .dy +ℤ d .dy) (e .dy)
+
+pub mean-down : (c d : Correction) → MeanDown (mean c d) c d
+mean-down c d = record { dx-mean = floor-half (c .dx +ℤ d .dx); dy-mean = floor-half (c .dy +ℤ d .dy) }
+
 -- A MEAN OF TWO CORRECTIONS IN THEIR RANGE IS IN IT.
 pub mean-bounds : (c d : Correction) → InBounds c → InBounds d → InBounds (mean c d)
 mean-bounds c d p q = record {

@@ -1,5 +1,5 @@
 -- The mesh in the tables by its counts, its rows alone, and what a lawful mesh tells of nodes and rows by number. Assumes nothing.
-use mathlib.Core.Path.{_≡_, refl}
+use mathlib.Core.Path.{_≡_, refl, ap}
 use mathlib.Core.Bool.{true}
 use mathlib.Core.List.{List, []}
 use Prim.Native.Nat.{ℕ, _*_, _≤_, _<_}
@@ -10,14 +10,14 @@ use Rattle.lists.specs.ListsLaw.{All-at}
 use Rattle.lists.specs.Search.{items}
 use Rattle.lists.specs.IterLaw.{length-items, getD-items}
 use Rattle.lists.specs.ByNumberLaw.{items-in}
-use Rattle.meaning.specs.Mesh.{Mesh, Arrow, mesh, at, origin, holdsArrow}
+use Rattle.meaning.specs.Mesh.{Mesh, Arrow, mesh, nodeOf, at, origin, holdsArrow}
 use Rattle.meaning.specs.Lawful.{Named, Lawful}
-use Rattle.meaning.specs.Tables.{placeAt, rowAt, given, meshOf}
+use Rattle.meaning.specs.Tables.{nodeAt, placeAt, rowAt, given, meshOf}
 use Rattle.laws.specs.Pairs.{RowsOnce, arrows-once, row-once, holder-item}
 
 -- the first n nodes and t rows
 unfoldable pub meshAt : List ℤ → List ℕ → ℕ → ℕ → Mesh
-meshAt nodes rows n t = mesh (items (placeAt nodes) 0 n) (items (rowAt rows) 0 t)
+meshAt nodes rows n t = mesh (items (nodeAt nodes) 0 n) (items (rowAt rows) 0 t)
 
 -- the first t rows, without nodes: G1 and G2 ask for no place
 abbrev pub rowsAlone : List ℕ → ℕ → Mesh
@@ -37,16 +37,19 @@ module _ (nodes : List ℤ) (rows : List ℕ) (n t : ℕ) where
 
   pub count-nodes : length (meshAt nodes rows n t .nodes) ≡ n
   unfolding meshAt
-  count-nodes = length-items (placeAt nodes) n
+  count-nodes = length-items (nodeAt nodes) n
+
+  pub node-is : (k : ℕ) → k < n → nodeOf (meshAt nodes rows n t) k ≡ nodeAt nodes k
+  unfolding meshAt
+  node-is k h = getD-items (nodeAt nodes) n k origin h
 
   pub place-is : (k : ℕ) → k < n → at (meshAt nodes rows n t) k ≡ placeAt nodes k
-  unfolding meshAt
-  place-is k h = getD-items (placeAt nodes) n k origin h
+  place-is k h = ap (λ a. a .place) (node-is k h)
 
   module _ (law : Lawful (meshAt nodes rows n t)) where
     pub row-named : (i : ℕ) → i < t → Named n (rowAt rows i)
     unfolding meshAt
-    row-named i h = rw (length-items (placeAt nodes) n) at (All-at (law .named) (items-in (rowAt rows) t i h))
+    row-named i h = rw (length-items (nodeAt nodes) n) at (All-at (law .named) (items-in (rowAt rows) t i h))
 
     -- a directed edge is in one row
     pub holder-at : (e : Arrow) (i j : ℕ) → i < t → j < t → holdsArrow e (rowAt rows i) ≡ true → holdsArrow e (rowAt rows j) ≡ true → i ≡ j

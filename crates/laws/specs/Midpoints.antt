@@ -1,4 +1,4 @@
--- The nodes of a split mesh: the old ones stay where they are; a new one's number tells the edge it halves, and its place is the exact
+-- The nodes of a split mesh: the old ones stay as they are; a new one's number tells the edge it halves, and its place is the exact
 -- midpoint. Assumes nothing.
 use mathlib.Core.Bool.{true}
 use mathlib.Core.List.{List, [], _∷_, map}
@@ -17,10 +17,10 @@ use Rattle.lists.specs.declared.Found.{Found}
 use Rattle.lists.specs.Lists.{All}
 use Rattle.lists.specs.ListsLaw.{and-left, and-right, All-getD, WhereIs, nowhere, place-of, where-is}
 use Rattle.meaning.specs.declared.Tri.{Tri}
-use Rattle.meaning.specs.Mesh.{Mesh, Edge, edge, sameEdge, origin, at}
+use Rattle.meaning.specs.Mesh.{Mesh, Edge, edge, sameEdge, origin, nodeOf, at}
 use Rattle.meaning.specs.Lawful.{Named}
 use Rattle.meaning.specs.Good.{Middle}
-use Rattle.meaning.specs.Split.{Cutting, plus, numberOf, even, half, halves, midpoint, splitAt}
+use Rattle.meaning.specs.Split.{Cutting, plus, numberOf, even, half, halves, midpoint, newNode, splitAt}
 use Rattle.laws.specs.Area.{middle-either}
 use Rattle.laws.specs.Edges.{sameEdge-eq}
 use Rattle.laws.specs.Cut.{MidOf, Centred, NewNode, Differ, Fresh}
@@ -102,17 +102,23 @@ module _ (c : Cutting) (m : Mesh) (s : List Edge) where
   -- "Number new nodes from n upward": one for each split edge
   pub splitAt-nodes : length (splitAt c m s .nodes) ≡ length (m .nodes) + length s
   unfolding splitAt
-  splitAt-nodes = length-append (m .nodes) (map (midpoint m) s) ∙ ap (λ k. length (m .nodes) + k) (length-map s (midpoint m))
+  splitAt-nodes = length-append (m .nodes) (map (newNode m) s) ∙ ap (λ k. length (m .nodes) + k) (length-map s (newNode m))
 
-  -- an old node keeps its number and its place
+  -- an old node keeps its number and is as it was
+  pub node-old : (k : ℕ) → k < length (m .nodes) → nodeOf (splitAt c m s) k ≡ nodeOf m k
+  unfolding splitAt
+  node-old k h = List·getD-append (m .nodes) (map (newNode m) s) origin k h
+
   pub at-old : (k : ℕ) → k < length (m .nodes) → at (splitAt c m s) k ≡ at m k
-  unfolding splitAt
-  at-old k h = List·getD-append (m .nodes) (map (midpoint m) s) origin k h
+  at-old k h = ap (λ a. a .place) (node-old k h)
 
-  -- a new one stands at the midpoint of its edge
-  pub at-new : (i : ℕ) (d : Edge) → i < length s → at (splitAt c m s) (length (m .nodes) + i) ≡ midpoint m (getD s i d)
+  -- a new one is that of its edge: it stands at the midpoint
+  pub node-new : (i : ℕ) (d : Edge) → i < length s → nodeOf (splitAt c m s) (length (m .nodes) + i) ≡ newNode m (getD s i d)
   unfolding splitAt
-  at-new i d h = getD-append-add (m .nodes) (map (midpoint m) s) i origin ∙ getD-map (midpoint m) s i d origin h
+  node-new i d h = getD-append-add (m .nodes) (map (newNode m) s) i origin ∙ getD-map (newNode m) s i d origin h
+
+  pub at-new : (i : ℕ) (d : Edge) → i < length s → at (splitAt c m s) (length (m .nodes) + i) ≡ midpoint m (getD s i d)
+  at-new i d h = ap (λ a. a .place) (node-new i d h)
 
   mid-of : All (λ e. halves m e ≡ true) s → (a b : ℕ) → a < length (m .nodes) → b < length (m .nodes) →
       MidOf (splitAt c m s) a b (numberOf (length (m .nodes)) s (edge a b))

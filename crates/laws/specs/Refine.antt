@@ -4,7 +4,7 @@
 use mathlib.Core.Bool.{Bool, true, false, _&&_}
 use mathlib.Core.List.{List, [], _∷_, _++_, map, List·Memᴰ, List·Memᴰ·head, List·Memᴰ·tail, List·Memᴰ·eq-of-singleton}
 use mathlib.Core.Logic.{_↔_, _≢_, _⊎_, inl, inr}
-use mathlib.Core.Path.{_≡_, refl, subst}
+use mathlib.Core.Path.{_≡_, refl, subst, subst⁻¹}
 use Prim.Native.Nat.{ℕ, zero, suc, _+_, _%_, _≤_, _<_}
 use native.Mathlib.Omega.{arith}
 use lib.Dec.{eqb, leb}
@@ -17,10 +17,10 @@ use Rattle.lists.specs.Tally.{tally}
 use Rattle.meaning.specs.declared.Manner.{Manner}
 use Rattle.meaning.specs.declared.Manner.the-variants.{Newest, AllThree}
 use Rattle.meaning.specs.declared.Tri.{Tri}
-use Rattle.meaning.specs.Mesh.{Mesh, Edge, edges, base, at, total}
+use Rattle.meaning.specs.Mesh.{Mesh, Edge, edges, base, nodeOf, at, total}
 use Rattle.meaning.specs.Lawful.{Lawful, Applies, out-of-range, misnames, occurs-twice, not-above, in-none, Lowest, refusal, rowOf}
 use Rattle.meaning.specs.Good.{Middle}
-use Rattle.meaning.specs.Split.{Closed, memEdge, Way, startsOf, wayOf, newest, allThree, even, halves, midpoint, cutOf, splitEdges, splitAt, started, split, refined}
+use Rattle.meaning.specs.Split.{Closed, memEdge, Way, startsOf, wayOf, newest, allThree, even, halves, newNode, cutOf, splitEdges, splitAt, started, split, refined}
 use Rattle.meaning.specs.Tables.{Room}
 use Rattle.meaning.specs.Calls.{unless, orElse, marksFit, fits, refineNo}
 use Rattle.laws.specs.Exact.{refuted, orElse-first}
@@ -29,6 +29,7 @@ use Rattle.laws.specs.Marks.{WellMarked, marks-exact, marks-unfit}
 use Rattle.laws.specs.Closure.{Apart, splitEdges-closed, splitEdges-least, splitEdges-apart, started-marked, started-only, started-edges}
 use Rattle.laws.specs.Cut.{CutLaws}
 use Rattle.laws.specs.Bisected.{bisected-laws}
+use Rattle.laws.specs.Mean.{MeanDown, mean-down}
 use Rattle.laws.specs.Midpoints.{midpoint-middle}
 use Rattle.laws.specs.SplitLaw.{split-nodes, split-rows, split-old, split-new, split-lawful, split-total}
 
@@ -281,13 +282,16 @@ pub record Refined (w : Way) (room : Room) (m : Mesh) (marks : List ℕ) (after 
   pub node-count : length (after .nodes) ≡ length (m .nodes) + length (toSplit w m marks)
   pub row-count : length (after .tris) ≡ length (m .tris) + tally (λ t. count (λ e. memEdge e (toSplit w m marks)) (edges t)) (m .tris)
   pub fit : Fits room after
-  -- an old node keeps its number and place
-  pub place-kept : (k : ℕ) → k < length (m .nodes) → at after k ≡ at m k
+  -- an old node keeps its number and is as it was
+  pub node-kept : (k : ℕ) → k < length (m .nodes) → nodeOf after k ≡ nodeOf m k
   -- "The place is the exact midpoint": node n + i halves the i-th of them
   pub place-new : (i : ℕ) (d : Edge) → i < length (toSplit w m marks) →
       Middle (at after (length (m .nodes) + i)) (at m (getD (toSplit w m marks) i d .lo)) (at m (getD (toSplit w m marks) i d .hi))
+  -- W5: it "starts with the mean of the two ends, rounded down"
+  pub correction-new : (i : ℕ) (d : Edge) → i < length (toSplit w m marks) →
+      MeanDown (nodeOf after (length (m .nodes) + i) .correction) (nodeOf m (getD (toSplit w m marks) i d .lo) .correction) (nodeOf m (getD (toSplit w m marks) i d .hi) .correction)
   -- the whole of it: the old nodes, then the new; each row's first part in its place, then the other parts, "fathers in row order"
-  pub nodes-are : after .nodes ≡ m .nodes ++ map (midpoint m) (toSplit w m marks)
+  pub nodes-are : after .nodes ≡ m .nodes ++ map (newNode m) (toSplit w m marks)
   pub rows-are : after .tris ≡
       map (λ t. cutOf (w .cutting) (length (m .nodes)) (toSplit w m marks) t .kept) (m .tris) ++
       joined (λ t. cutOf (w .cutting) (length (m .nodes)) (toSplit w m marks) t .added) (m .tris)
@@ -309,9 +313,13 @@ refine-done w laws room m marks e = go (refine-exact w room m marks 0 .0 e)
           node-count = split-nodes (w .cutting) m start;
           row-count = split-rows laws m start;
           fit = f;
-          place-kept = split-old (w .cutting) m start;
+          node-kept = split-old (w .cutting) m start;
           place-new = λ i d l.
-              rw (split-new (w .cutting) m start i d l) (midpoint-middle m (getD (splitEdges m start) i d) (All-getD (all-yes (halves m) (splitEdges m start) even) i d l));
+              subst⁻¹ (λ x. Middle (x .place) (at m (getD (splitEdges m start) i d .lo)) (at m (getD (splitEdges m start) i d .hi))) (split-new (w .cutting) m start i d l)
+              (midpoint-middle m (getD (splitEdges m start) i d) (All-getD (all-yes (halves m) (splitEdges m start) even) i d l));
+          correction-new = λ i d l.
+              rw (split-new (w .cutting) m start i d l)
+              (mean-down (nodeOf m (getD (splitEdges m start) i d .lo) .correction) (nodeOf m (getD (splitEdges m start) i d .hi) .correction));
           nodes-are = refl;
           rows-are = refl;
         }

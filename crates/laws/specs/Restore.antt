@@ -11,7 +11,6 @@ use lib.ListN.{length, replicate}
 use Rattle.lists.specs.Lists.{upTo}
 use Rattle.lists.specs.ListsLaw.{All-imp, All-at}
 use Rattle.lists.specs.MembersLaw.{only-in, only-passes, only-keeps, only-cong, upTo-below, upTo-in}
-use Rattle.meaning.specs.declared.Place.{Place}
 use Rattle.meaning.specs.Mesh.{Mesh}
 use Rattle.meaning.specs.Lawful.{Lawful, refusal}
 use Rattle.meaning.specs.Good.{good}
@@ -29,12 +28,12 @@ goodNodes-is n0 m z = (
 
 -- ---- a full pass
 
-all-marked : (ns : List Place) (z : ℕ) → z < length ns → marked (allMarked ns) z ≡ true
+all-marked : {A : Type 0} (ns : List A) (z : ℕ) → z < length ns → marked (allMarked ns) z ≡ true
 all-marked [] z h = absurd (omega arith)
 all-marked (a ∷ ns) zero h = refl
 all-marked (a ∷ ns) (suc z) h = all-marked ns z (omega arith)
 
-pub ones-mark-all : (ns : List Place) → replicate (length ns) 1 ≡ allMarked ns
+pub ones-mark-all : {A : Type 0} (ns : List A) → replicate (length ns) 1 ≡ allMarked ns
 ones-mark-all [] = refl
 ones-mark-all (a ∷ ns) = ap (λ l. 1 ∷ l) (ones-mark-all ns)
 

@@ -18,14 +18,15 @@ use Rattle.lists.specs.ListsLaw.{clash, All·head, All·tail, All-imp, All-both
 use Rattle.lists.specs.MembersLaw.{at-mem}
 use Rattle.lists.specs.Tally.{bit, tally, tally-append, tally-add, tally-le, tally-eq, tally-at, tally-length, tally-map, tally-joined, count-tally}
 use Rattle.meaning.specs.declared.Tri.{Tri}
-use Rattle.meaning.specs.Mesh.{Mesh, Edge, Arrow, edge, edges, base, sameEdge, sameArrow, arrows, holdsNode, at, origin, twiceArea, sum, total}
-use Rattle.meaning.specs.Lawful.{Lawful, InRange, Named}
-use Rattle.meaning.specs.Split.{Cut, Cutting, plus, numberOf, memEdge, halves, midpoint, cutOf, closure, splitEdges, splitAt, split}
+use Rattle.meaning.specs.Mesh.{Mesh, Edge, Arrow, edge, edges, base, sameEdge, sameArrow, arrows, holdsNode, nodeOf, at, origin, twiceArea, sum, total}
+use Rattle.meaning.specs.Lawful.{Lawful, InRange, NodeInRange, Named}
+use Rattle.meaning.specs.Split.{Cut, Cutting, plus, numberOf, memEdge, halves, midpoint, newNode, cutOf, closure, splitEdges, splitAt, split}
 use Rattle.laws.specs.Area.{middle-near}
+use Rattle.laws.specs.Mean.{mean-bounds}
 use Rattle.laws.specs.Edges.{memEdge-in, hits, count-arrows, here-self, names, count-names, names-count}
 use Rattle.laws.specs.Closure.{EdgeOf, splitEdges-within, splitEdges-apart, splitEdges-pull}
 use Rattle.laws.specs.Cut.{parts, there, hereIf, CutLaws, cut-area, cut-above, cut-named, cut-arrows, cut-corners, cut-rows}
-use Rattle.laws.specs.Midpoints.{edgeAt, numbered, fresh, midpoint-middle, splitAt-nodes, at-old, at-new, centred}
+use Rattle.laws.specs.Midpoints.{edgeAt, numbered, fresh, midpoint-middle, splitAt-nodes, node-old, at-old, node-new, centred}
 use Rattle.laws.specs.Source.{source, allowed-source}
 
 -- ---- the rows of all cuts: those that keep their fathers' places, then those that are appended
@@ -151,13 +152,13 @@ module _ (c : Cutting) (m : Mesh) (start : List Edge) where
   unfolding split
   split-nodes = splitAt-nodes c m (splitEdges m start)
 
-  pub split-old : (k : ℕ) → k < length (m .nodes) → at (split c m start) k ≡ at m k
+  pub split-old : (k : ℕ) → k < length (m .nodes) → nodeOf (split c m start) k ≡ nodeOf m k
   unfolding split
-  split-old k h = at-old c m (splitEdges m start) k h
+  split-old k h = node-old c m (splitEdges m start) k h
 
-  pub split-new : (i : ℕ) (d : Edge) → i < length (splitEdges m start) → at (split c m start) (length (m .nodes) + i) ≡ midpoint m (getD (splitEdges m start) i d)
+  pub split-new : (i : ℕ) (d : Edge) → i < length (splitEdges m start) → nodeOf (split c m start) (length (m .nodes) + i) ≡ newNode m (getD (splitEdges m start) i d)
   unfolding split
-  split-new i d h = at-new c m (splitEdges m start) i d h
+  split-new i d h = node-new c m (splitEdges m start) i d h
 
 module _ {c : Cutting} (laws : CutLaws c) (m : Mesh) (start : List Edge) where
   S : List Edge
@@ -263,19 +264,26 @@ module _ {c : Cutting} (laws : CutLaws c) (m : Mesh) (start : List Edge) where
       exact = all-yes (halves m) (splitEdges m start) even
 
       -- 3: a mean of two numbers of the range is in it
-      split-range : All InRange (splitAt c m S .nodes)
+      midpoint-range : (e : Edge) → halves m e ≡ true → InRange (at m (e .lo)) → InRange (at m (e .hi)) → InRange (midpoint m e)
+      midpoint-range e h a b =
+          let k = midpoint-middle m e h in
+          record {
+            x-near = middle-near (midpoint m e .x) (at m (e .lo) .x) (at m (e .hi) .x) 1_048_576 (k .x-middle) (a .x-near) (b .x-near);
+            y-near = middle-near (midpoint m e .y) (at m (e .lo) .y) (at m (e .hi) .y) 1_048_576 (k .y-middle) (a .y-near) (b .y-near);
+          }
+
+      split-range : All NodeInRange (splitAt c m S .nodes)
       unfolding splitAt S
-      split-range = All-append (law .range) (All-map (midpoint m) (All-imp one (All-both (splitEdges-within m start) exact)))
+      split-range = All-append (law .range) (All-map (newNode m) (All-imp one (All-both (splitEdges-within m start) exact)))
         where
-          one : (e : Edge) → (EdgeOf (m .tris) e × (memEdge e (closure (m .tris) start) ≡ true)) × (halves m e ≡ true) → InRange (midpoint m e)
+          one : (e : Edge) → (EdgeOf (m .tris) e × (memEdge e (closure (m .tris) start) ≡ true)) × (halves m e ≡ true) → NodeInRange (newNode m e)
           one e h =
               let ends = old-ends (law .named) e (h .0 .0) in
               let a = All-getD (law .range) (e .lo) origin (ends .0) in
               let b = All-getD (law .range) (e .hi) origin (ends .1) in
-              let k = midpoint-middle m e (h .1) in
               record {
-                x-near = middle-near (midpoint m e .x) (at m (e .lo) .x) (at m (e .hi) .x) 1_048_576 (k .x-middle) (a .x-near) (b .x-near);
-                y-near = middle-near (midpoint m e .y) (at m (e .lo) .y) (at m (e .hi) .y) 1_048_576 (k .y-middle) (a .y-near) (b .y-near);
+                place-in = midpoint-range e (h .1) (a .place-in) (b .place-in);
+                correction-in = mean-bounds (nodeOf m (e .lo) .correction) (nodeOf m (e .hi) .correction) (a .correction-in) (b .correction-in);
               }
 
       pub split-lawful : Lawful (split c m start)

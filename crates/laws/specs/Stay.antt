@@ -1,4 +1,4 @@
--- The nodes that stay when the nodes zs go, whichever these are: they keep their places and their order, and close up.
+-- The nodes that stay when the nodes zs go, whichever these are and whatever a node carries: they are as they were, in their order, and close up.
 -- Assumes nothing.
 use mathlib.Core.Bool.{Bool, true, false, not}
 use mathlib.Core.List.{List, [], _∷_}
@@ -12,7 +12,6 @@ use Rattle.lists.specs.Lists.{any, only, consIf, sucIf, upTo, All, nil, cons}
 use Rattle.lists.specs.ListsLaw.{All-imp, All-of}
 use Rattle.lists.specs.MembersLaw.{upTo-below, upTo-in, upTo-once}
 use Rattle.lists.specs.Tally.{bit, tally, tally-append, tally-eq, tally-swap, tally-length, tally-only, count-tally, bits-none, bits-any, pick-one}
-use Rattle.meaning.specs.declared.Place.{Place}
 use Rattle.meaning.specs.Coarsen.{stays, stayed, renumber, staying}
 
 module _ (zs : List ℕ) where
@@ -79,7 +78,7 @@ module _ (zs : List ℕ) where
 
   -- ---- their places
 
-  pub staying-length : (i : ℕ) (ns : List Place) → length (staying zs i ns) ≡ stayed zs i (length ns)
+  pub staying-length : {A : Type 0} (i : ℕ) (ns : List A) → length (staying zs i ns) ≡ stayed zs i (length ns)
   staying-length i [] = refl
   staying-length i (a ∷ ns) = go (stays zs i) (staying-length (suc i) ns)
     where
@@ -87,7 +86,7 @@ module _ (zs : List ℕ) where
       go true h = ap suc h
       go false h = h
 
-  staying-from : (i : ℕ) (ns : List Place) (d : Place) (k : ℕ) → k < length ns → stays zs (i + k) ≡ true → getD (staying zs i ns) (stayed zs i k) d ≡ getD ns k d
+  staying-from : {A : Type 0} (i : ℕ) (ns : List A) (d : A) (k : ℕ) → k < length ns → stays zs (i + k) ≡ true → getD (staying zs i ns) (stayed zs i k) d ≡ getD ns k d
   staying-from i [] d k h s = absurd (omega arith)
   staying-from i (a ∷ ns) d zero h s = let e : i + 0 ≡ i = omega arith in rw (rw e at s)
   staying-from i (a ∷ ns) d (suc k) h s =
@@ -99,10 +98,10 @@ module _ (zs : List ℕ) where
       go false h = h
 
   -- a node that stays keeps its place
-  pub staying-at : (ns : List Place) (d : Place) (k : ℕ) → k < length ns → stays zs k ≡ true → getD (staying zs 0 ns) (renumber zs k) d ≡ getD ns k d
+  pub staying-at : {A : Type 0} (ns : List A) (d : A) (k : ℕ) → k < length ns → stays zs k ≡ true → getD (staying zs 0 ns) (renumber zs k) d ≡ getD ns k d
   staying-at ns d k h s = staying-from 0 ns d k h (from-0 k s)
 
-  onto-from : (i : ℕ) (ns : List Place) (j : ℕ) → j < length (staying zs i ns) → (k : ℕ) × (k < length ns) × (stays zs (i + k) ≡ true) × (stayed zs i k ≡ j)
+  onto-from : {A : Type 0} (i : ℕ) (ns : List A) (j : ℕ) → j < length (staying zs i ns) → (k : ℕ) × (k < length ns) × (stays zs (i + k) ≡ true) × (stayed zs i k ≡ j)
   onto-from i [] j h = absurd (omega arith)
   onto-from i (a ∷ ns) j h = go (stays zs i) refl j h (onto-from (suc i) ns)
     where
@@ -118,13 +117,13 @@ module _ (zs : List ℕ) where
       go false e j h below = let r = below j h in up false e (r .0) j (r .1) (r .2) (r .3)
 
   -- every node left is one that stayed
-  pub staying-onto : (ns : List Place) (j : ℕ) → j < length (staying zs 0 ns) → (k : ℕ) × (k < length ns) × (stays zs k ≡ true) × (renumber zs k ≡ j)
+  pub staying-onto : {A : Type 0} (ns : List A) (j : ℕ) → j < length (staying zs 0 ns) → (k : ℕ) × (k < length ns) × (stays zs k ≡ true) × (renumber zs k ≡ j)
   staying-onto ns j h =
       let r = onto-from 0 ns j h in
       let w : 0 + r .0 ≡ r .0 = omega arith in
       (r .0, r .1, rw w at (r .2), r .3)
 
-  pub staying-all : {P : Place → Type 0} (i : ℕ) {ns : List Place} → All P ns → All P (staying zs i ns)
+  pub staying-all : {A : Type 0} {P : A → Type 0} (i : ℕ) {ns : List A} → All P ns → All P (staying zs i ns)
   staying-all i nil = nil
   staying-all {P} i (cons {x = a} {xs = ns} h hs) = go (stays zs i) (staying-all (suc i) hs)
     where
@@ -176,7 +175,7 @@ module _ (zs : List ℕ) where
         omega arith
 
     -- as many nodes go as are listed
-    pub staying-rest : (ns : List Place) → All (λ z. z < length ns) zs → length (staying zs 0 ns) + length zs ≡ length ns
+    pub staying-rest : {A : Type 0} (ns : List A) → All (λ z. z < length ns) zs → length (staying zs 0 ns) + length zs ≡ length ns
     staying-rest ns h =
         let a = stayed-or-gone (length ns) in
         let b = gone-below (length ns) in

@@ -5,7 +5,6 @@ use mathlib.Core.Path.{_≡_, refl, sym, ap, ap₂, _∙_}
 use Prim.Native.Nat.{ℕ, zero, suc, _+_, _<_}
 use native.Mathlib.Omega.{arith}
 use Rattle.lists.specs.Lists.{joined}
-use Rattle.meaning.specs.declared.Place.{Place}
 use Rattle.meaning.specs.declared.Tri.{Tri}
 use Rattle.meaning.specs.Mesh.{Mesh, mesh, tri}
 use Rattle.meaning.specs.Good.{pairs}
@@ -23,7 +22,7 @@ row-still t =
     let r = number-still (t .r) in
     λ i. record { p = p i; q = q i; r = r i }
 
-nodes-still : (i : ℕ) (ns : List Place) → staying [] i ns ≡ ns
+nodes-still : {A : Type 0} (i : ℕ) (ns : List A) → staying [] i ns ≡ ns
 nodes-still i [] = refl
 nodes-still i (a ∷ ns) = ap (λ r. a ∷ r) (nodes-still (suc i) ns)
 

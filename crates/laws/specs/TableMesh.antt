@@ -7,17 +7,17 @@ use lib.IntN.{pos}
 use lib.ListN.{length, take, length-append, length-replicate, replicate}
 use Rattle.lists.specs.IterLaw.{length-items}
 use Rattle.lists.specs.TableLaw.{flatten-length, read-back, written-back}
-use Rattle.meaning.specs.declared.Place.{Place}
+use Rattle.meaning.specs.declared.Node.{Node}
 use Rattle.meaning.specs.declared.Tri.{Tri}
 use Rattle.meaning.specs.Mesh.{Mesh, mesh}
-use Rattle.meaning.specs.Tables.{Given, Outcome, given, nodeForm, rowForm, nodes-faithful, rows-faithful, placeAt, rowAt, meshOf, flatNodes, flatRows, filled}
+use Rattle.meaning.specs.Tables.{Given, Outcome, given, nodeForm, rowForm, nodes-faithful, rows-faithful, nodeAt, rowAt, meshOf, flatNodes, flatRows, filled}
 use Rattle.meaning.specs.Calls.{done}
 
 -- ---- reading and writing
 
 pub nodes-count : (g : Given) → length (meshOf g .nodes) ≡ g .n
 unfolding meshOf
-nodes-count g = length-items (placeAt (g .nodes)) (g .n)
+nodes-count g = length-items (nodeAt (g .nodes)) (g .n)
 
 pub rows-count : (g : Given) → length (meshOf g .tris) ≡ g .t
 unfolding meshOf
@@ -30,11 +30,11 @@ pub record Fits (g : Given) : Type 0 where
 
 pub written : (g : Given) → Fits g →
     (flatNodes (meshOf g .nodes) ≡ take (nodeForm .width * g .n) (g .nodes)) × (flatRows (meshOf g .tris) ≡ take (rowForm .width * g .t) (g .rows))
-unfolding meshOf placeAt rowAt
+unfolding meshOf nodeAt rowAt
 written g f =
     (written-back nodeForm nodes-faithful (g .nodes) (g .n) (f .nodes-fit), written-back rowForm rows-faithful (g .rows) (g .t) (f .rows-fit))
 
-pub flat-nodes-length : (ns : List Place) → length (flatNodes ns) ≡ nodeForm .width * length ns
+pub flat-nodes-length : (ns : List Node) → length (flatNodes ns) ≡ nodeForm .width * length ns
 flat-nodes-length = flatten-length nodeForm nodes-faithful
 
 pub flat-rows-length : (ts : List Tri) → length (flatRows ts) ≡ rowForm .width * length ts
@@ -52,7 +52,7 @@ tablesAfter o = given (o .nodes) (o .rows) (o .scratch) (o .answer .n) (o .answe
 -- The tables of an accepted call hold its mesh, and have their lengths.
 module _ (g : Given) (m : Mesh) (k : ℕ) where
   pub done-mesh : meshOf (tablesAfter (done g m k)) ≡ m
-  unfolding meshOf placeAt rowAt
+  unfolding meshOf nodeAt rowAt
   done-mesh = ap₂ mesh (read-back nodeForm nodes-faithful (m .nodes) _) (read-back rowForm rows-faithful (m .tris) _)
 
   module _ (a : nodeForm .width * length (m .nodes) ≤ length (g .nodes)) (b : rowForm .width * length (m .tris) ≤ length (g .rows)) where

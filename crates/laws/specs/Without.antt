@@ -19,8 +19,8 @@ use Rattle.lists.specs.Lists.{any, count, joined, All, nil, cons}
 use Rattle.lists.specs.ListsLaw.{clash, All-imp, All-at, All-of, All-map, any-at, any-row, any-none}
 use Rattle.lists.specs.Tally.{bit, bit-le, tally, tally-le, tally-eq, tally-add, tally-zero, tally-map, tally-joined, tally-length, bits-none}
 use Rattle.meaning.specs.declared.Tri.{Tri}
-use Rattle.meaning.specs.Mesh.{Mesh, Edge, Arrow, arrow, arrows, edge, edges, origin, sameEdge, sameArrow, holdsNode, holdsEdge, at, twiceArea, sum, total}
-use Rattle.meaning.specs.Lawful.{InRange, Named, Lawful}
+use Rattle.meaning.specs.Mesh.{Mesh, Edge, Arrow, arrow, arrows, edge, edges, origin, sameEdge, sameArrow, holdsNode, holdsEdge, nodeOf, at, twiceArea, sum, total}
+use Rattle.meaning.specs.Lawful.{NodeInRange, Named, Lawful}
 use Rattle.meaning.specs.Good.{Brothers, father, pairs, span}
 use Rattle.meaning.specs.Coarsen.{fate, stays, renumber, renamed, without}
 use Rattle.laws.specs.Edges.{sameEdge-eq, sameEdge-refl, hit, hits, count-arrows, hit-no, hit-le, holds-p, holds-q, holds-r, here, here-no, here-le, names, count-names, names-count}
@@ -36,10 +36,13 @@ module _ (m : Mesh) (zs : List ℕ) where
   unfolding without
   without-length = staying-length zs 0 (m .nodes)
 
-  -- a node that stays keeps its place and gets a number of the new mesh
-  pub without-at : (k : ℕ) → k < length (m .nodes) → stays zs k ≡ true → at (without m zs) (renumber zs k) ≡ at m k
+  -- a node that stays is as it was, and gets a number of the new mesh
+  pub without-node : (k : ℕ) → k < length (m .nodes) → stays zs k ≡ true → nodeOf (without m zs) (renumber zs k) ≡ nodeOf m k
   unfolding without
-  without-at k h s = staying-at zs (m .nodes) origin k h s
+  without-node k h s = staying-at zs (m .nodes) origin k h s
+
+  without-at : (k : ℕ) → k < length (m .nodes) → stays zs k ≡ true → at (without m zs) (renumber zs k) ≡ at m k
+  without-at k h s = ap (λ a. a .place) (without-node k h s)
 
   pub without-below : (k : ℕ) → k < length (m .nodes) → stays zs k ≡ true → renumber zs k < length (without m zs .nodes)
   without-below k h s = let a = renumber-lt zs k (length (m .nodes)) h s in let b = without-length in omega arith
@@ -49,7 +52,7 @@ module _ (m : Mesh) (zs : List ℕ) where
   unfolding without
   without-onto j h = staying-onto zs (m .nodes) j h
 
-  without-range : All InRange (m .nodes) → All InRange (without m zs .nodes)
+  without-range : All NodeInRange (m .nodes) → All NodeInRange (without m zs .nodes)
   unfolding without
   without-range h = staying-all zs 0 h
 

@@ -1,5 +1,5 @@
 -- DEMAND 2 OF THE CALLS. Every premise on a call is the equation that its contract ensures, so that what is said here holds of any run of
--- the calls themselves: mesh::check, mesh::refine, mesh::quarter, mesh::coarsen (crates/mesh/src/lib.rt) and job::restore
+-- the calls themselves: mesh::check, mesh::refine, mesh::quarter, mesh::coarsen, mesh::set_correction (crates/mesh/src/lib.rt) and job::restore
 -- (crates/job/src/lib.rt). What `Answers`, `Holds` and `AsGiven` say of tables stands in crates/laws/specs/CallLaw.antt: `Answers` says of every
 -- call which number it gives and, W2, which node or row the culprit is (`Names` in crates/meaning/specs/Lawful.antt). Assumes nothing.
 use mathlib.Core.List.{List, [], _∷_, List·Memᴰ}
@@ -9,15 +9,19 @@ use Prim.Native.Nat.{ℕ, _*_, _/_, _≤_, _<_}
 use native.Mathlib.Omega.{arith}
 use lib.ListN.{length, getD, replicate}
 use Rattle.lists.specs.Lists.{All}
+use Rattle.lists.specs.IterLaw.{getD-items}
 use Rattle.meaning.specs.declared.Manner.{Manner}
 use Rattle.meaning.specs.declared.Manner.the-variants.{Newest, AllThree}
 use Rattle.meaning.specs.declared.Tri.{Tri}
-use Rattle.meaning.specs.Mesh.{Mesh, Edge, edges, base}
-use Rattle.meaning.specs.Lawful.{Lawful, Lowest, refusal, rowOf}
+use Rattle.meaning.specs.declared.Correction.{Correction}
+use Rattle.meaning.specs.declared.Node.{Node}
+use Rattle.meaning.specs.Mesh.{Mesh, Edge, tri, node, nodeOf, origin, edges, base}
+use Rattle.meaning.specs.Lawful.{InBounds, Lawful, Lowest, Names, refusal, rowOf}
 use Rattle.meaning.specs.Split.{Way, startsOf, wayOf, newest, allThree, started, refined}
 use Rattle.meaning.specs.Coarsen.{coarsened, restored}
-use Rattle.meaning.specs.Tables.{Given, Outcome, meshOf, roomOf}
-use Rattle.meaning.specs.Calls.{checkNo, refineNo, coarsenNo, checkOut, refineOut, coarsenOut, restoreOut}
+use Rattle.meaning.specs.Setting.{SetSays, SetNames, corrected, setFault}
+use Rattle.meaning.specs.Tables.{Given, Outcome, nodeForm, rowForm, nodeAt, placeAt, rowAt, meshOf, roomOf}
+use Rattle.meaning.specs.Calls.{culpritOf, checkNo, refineNo, coarsenNo, checkOut, refineOut, coarsenOut, restoreOut, setOut}
 use Rattle.laws.specs.Lawful.{refusal-lawful, refusal-exact, applies-from-3}
 use Rattle.laws.specs.Check.{CheckSays, unlawful-base, check-exact}
 use Rattle.laws.specs.Marks.{WellMarked}
@@ -26,8 +30,10 @@ use Rattle.laws.specs.Bisected.{bisected-laws}
 use Rattle.laws.specs.Refine.{toSplit, Least, OddSum, Fits, TooMany, RefineSays, unlawful, Refined, refine-splits, started-exactly, starts-own, refine-exact, refine-8, refine-9, refine-0, refine-only-8-9, refine-done}
 use Rattle.laws.specs.CoarsenCalls.{Coarsened, CoarsenSays, well-marked, RestoreDone, coarsen-exact, coarsen-0, coarsen-done, restore-done}
 use Rattle.laws.specs.Restore.{LooksAt, looks-lawful, restored-fewer, restored-rows}
+use Rattle.laws.specs.PlaceOnly.{SamePlaces}
+use Rattle.laws.specs.Setting.{Corrected, corrected-count, corrected-places, set-exact, set-not-1, set-0, set-13, set-15, set-done}
 use Rattle.laws.specs.TableMesh.{nodes-count, rows-count, tablesAfter}
-use Rattle.laws.specs.CallLaw.{Sizes, sizes-exact, AsGiven, Holds, Answers, CallLeaves, call-answers, done-holds, check-leaves, refine-leaves, coarsen-leaves, restore-leaves, check-names, refine-names, coarsen-names, restore-names, restore-refused}
+use Rattle.laws.specs.CallLaw.{Sizes, sizes-exact, AsGiven, Holds, AnswersBy, Answers, CallLeaves, call-answers, done-holds, check-leaves, refine-leaves, coarsen-leaves, restore-leaves, set-leaves, check-names, refine-names, coarsen-names, restore-names, set-call-names, set-counts, restore-refused}
 use Rattle.demands.specs.InFour.{InFour, marked-in-four}
 
 -- ---- what a user finds
@@ -92,13 +98,38 @@ pub record RestoreMade (g : Given) (n0 : ℕ) (o : Outcome) : Type 0 where
   pub not-refused-later : o .answer .number ≡ 0 → {x : Mesh} → LooksAt n0 (meshOf g) x → refusal x ≡ 0
   pub leaves-restored : o .answer .number ≡ 0 → RestoreEnded g n0 o
 
+-- after 0, node z being set to c
+pub record SetDone (g : Given) (z : ℕ) (c : Correction) (o : Outcome) : Type 0 where
+  -- the tables hold the mesh, zeros past it
+  pub holds : Holds g (corrected (meshOf g) z c) o
+  -- lawful, of the same total; the node given carries c, nothing else differs
+  pub is-corrected : Corrected (meshOf g) z c (meshOf (tablesAfter o))
+  -- of the tables: two numbers are set, those of every other node and row stay
+  pub numbers-set : nodeAt (o .nodes) z ≡ node (placeAt (g .nodes) z) c
+  pub nodes-stay : (k : ℕ) → k < g .n → k ≢ z → nodeAt (o .nodes) k ≡ nodeAt (g .nodes) k
+  pub rows-stay : (i : ℕ) → i < g .t → rowAt (o .rows) i ≡ rowAt (g .rows) i
+  pub counts-stay : (o .answer .n ≡ g .n) × (o .answer .t ≡ g .t)
+  pub reports-none : o .answer .passes ≡ 0
+
+-- of a lawful mesh and a value in its range: refused only as 13 or 15, and exactly when
+pub record SetOfLawful (g : Given) (n0 z k : ℕ) : Type 0 where
+  pub exactly-13 : (k ≡ 13) ↔ (z < n0)
+  pub exactly-15 : (k ≡ 15) ↔ (g .n ≤ z)
+  pub exactly-0 : (k ≡ 0) ↔ ((n0 ≤ z) × (z < g .n))
+
+pub record SetMade (g : Given) (n0 z : ℕ) (c : Correction) (o : Outcome) : Type 0 where
+  -- the lowest of 3 to 7, 13 and 15 that applies; with 3 the lowest node at fault in the table, else the node given
+  pub answered : AnswersBy g n0 (SetSays n0 (meshOf g) z c) (SetNames (meshOf g) z c) o
+  pub of-lawful : Sizes g n0 → Lawful (meshOf g) → InBounds c → SetOfLawful g n0 z (o .answer .number)
+  pub leaves-set : o .answer .number ≡ 0 → SetDone g z c o
+
 -- ---- the proof
 
 no-1 : (m : Mesh) → ¬ Lowest m 1
 no-1 m l = omega (arith, applies-from-3 m 1 (refusal-exact m 1 .1 l) (omega arith))
 
 -- what fits the rooms fits the tables
-fits-tables : (a b n t : ℕ) → n ≤ a / 2 → t ≤ b / 3 → (2 * n ≤ a) × (3 * t ≤ b)
+fits-tables : (a b n t : ℕ) → n ≤ a / nodeForm .width → t ≤ b / rowForm .width → (nodeForm .width * n ≤ a) × (rowForm .width * t ≤ b)
 fits-tables a b n t h k = (omega arith, omega arith)
 
 pub check-call : (g : Given) (o : Outcome) → o ≡ checkOut g → CheckMade g o
@@ -106,7 +137,7 @@ check-call g o e =
     let c = check-leaves g in
     subst (CheckMade g) (sym e)
     (record {
-      answered = call-answers g 0 (checkNo (meshOf g)) (CheckSays (meshOf g)) (checkOut g) (c .check-number) (check-exact (meshOf g)) not-1 (check-names g) (λ n. c .all-as-given) (c .scratch-zero);
+      answered = call-answers g 0 (checkNo (meshOf g)) (CheckSays (meshOf g)) (Names (meshOf g)) (checkOut g) (c .check-number) (check-exact (meshOf g)) not-1 (check-names g) (λ n. c .all-as-given) (c .scratch-zero);
       never-written = c .all-as-given;
     })
   where
@@ -153,7 +184,7 @@ module _ (w : Way) (laws : CutLaws (w .cutting)) (own : (t : Tri) → All (λ e.
       let c = refine-leaves g n0 w marks in
       subst (RefineMade w (w .starts) g n0 marks) (sym e)
       (record {
-        answered = call-answers g n0 (k g n0 marks) (RefineSays w (roomOf g) (meshOf g) marks) (refineOut w g n0 marks) (c .number-said) (refine-exact w (roomOf g) (meshOf g) marks) (not-1 g n0 marks) (refine-names g n0 w marks) (c .refusal-leaves) (c .scratch-zero);
+        answered = call-answers g n0 (k g n0 marks) (RefineSays w (roomOf g) (meshOf g) marks) (Names (meshOf g)) (refineOut w g n0 marks) (c .number-said) (refine-exact w (roomOf g) (meshOf g) marks) (not-1 g n0 marks) (refine-names g n0 w marks) (c .refusal-leaves) (c .scratch-zero);
         starts-exactly = started-exactly w marks (meshOf g .tris);
         splits-least = refine-splits w own (meshOf g) marks;
         of-lawful = lawful-says g n0 marks;
@@ -177,7 +208,7 @@ coarsen-call g n0 marks o e =
     let c = coarsen-leaves g n0 marks in
     subst (CoarsenMade g n0 marks) (sym e)
     (record {
-      answered = call-answers g n0 (coarsenNo (meshOf g) marks) (CoarsenSays (meshOf g) marks) (coarsenOut g n0 marks) (c .number-said) (coarsen-exact (meshOf g) marks) not-1 (coarsen-names g n0 marks) (c .refusal-leaves) (c .scratch-zero);
+      answered = call-answers g n0 (coarsenNo (meshOf g) marks) (CoarsenSays (meshOf g) marks) (Names (meshOf g)) (coarsenOut g n0 marks) (c .number-said) (coarsen-exact (meshOf g) marks) not-1 (coarsen-names g n0 marks) (c .refusal-leaves) (c .scratch-zero);
       of-lawful = λ s f law. c .number-said ∙ rw (sizes-exact g n0 .1 s) (coarsen-0 (meshOf g) marks .1 (rw (nodes-count g) f, law));
       leaves-coarsened = made c;
     })
@@ -185,7 +216,7 @@ coarsen-call g n0 marks o e =
     not-1 : ¬ CoarsenSays (meshOf g) marks 1
     not-1 (well-marked k w l) = no-1 (meshOf g) l
 
-    made : CallLeaves g n0 (coarsenNo (meshOf g) marks) (coarsened n0 (meshOf g) marks) 0 (coarsenOut g n0 marks) → coarsenOut g n0 marks .answer .number ≡ 0 → CoarsenDone g n0 marks (coarsenOut g n0 marks)
+    made : CallLeaves g n0 (coarsenNo (meshOf g) marks) (culpritOf (meshOf g) (coarsenNo (meshOf g) marks)) (coarsened n0 (meshOf g) marks) 0 (coarsenOut g n0 marks) → coarsenOut g n0 marks .answer .number ≡ 0 → CoarsenDone g n0 marks (coarsenOut g n0 marks)
     made c z =
         let (s, k) = c .sized-and-0 z in
         let d = coarsen-done n0 (meshOf g) marks (omega (arith, s .n0-fits, nodes-count g)) k in
@@ -198,7 +229,7 @@ restore-call g n0 o e =
     let c = restore-leaves g n0 in
     subst (RestoreMade g n0) (sym e)
     (record {
-      answered = call-answers g n0 (refusal (meshOf g)) (Lowest (meshOf g)) (restoreOut g n0) (c .number-said) (refusal-exact (meshOf g)) (no-1 (meshOf g)) (restore-names g n0) (c .refusal-leaves) (c .scratch-zero);
+      answered = call-answers g n0 (refusal (meshOf g)) (Lowest (meshOf g)) (Names (meshOf g)) (restoreOut g n0) (c .number-said) (refusal-exact (meshOf g)) (no-1 (meshOf g)) (restore-names g n0) (c .refusal-leaves) (c .scratch-zero);
       refused-at-first = restore-refused g n0;
       not-refused-later = λ z. let (s, k) = c .sized-and-0 z in looks-lawful (refusal-lawful (meshOf g) k) (base-fits s);
       leaves-restored = made c;
@@ -207,7 +238,7 @@ restore-call g n0 o e =
     base-fits : Sizes g n0 → n0 ≤ length (meshOf g .nodes)
     base-fits s = omega (arith, s .n0-fits, nodes-count g)
 
-    made : CallLeaves g n0 (refusal (meshOf g)) (restored n0 (meshOf g) .end) (restored n0 (meshOf g) .passes) (restoreOut g n0) → restoreOut g n0 .answer .number ≡ 0 → RestoreEnded g n0 (restoreOut g n0)
+    made : CallLeaves g n0 (refusal (meshOf g)) (culpritOf (meshOf g) (refusal (meshOf g))) (restored n0 (meshOf g) .end) (restored n0 (meshOf g) .passes) (restoreOut g n0) → restoreOut g n0 .answer .number ≡ 0 → RestoreEnded g n0 (restoreOut g n0)
     made c z =
         let (s, k) = c .sized-and-0 z in
         let (a, b) = fits-tables (length (g .nodes)) (length (g .rows)) (length (restored n0 (meshOf g) .end .nodes)) (length (restored n0 (meshOf g) .end .tris)) (omega (arith, s .n-fits, nodes-count g, restored-fewer n0 (meshOf g))) (omega (arith, s .t-fits, rows-count g, restored-rows n0 (meshOf g))) in
@@ -215,6 +246,59 @@ restore-call g n0 o e =
           holds = rw (c .done-is z) (done-holds g (restored n0 (meshOf g) .end) (restored n0 (meshOf g) .passes) a b);
           is-restored = restore-done n0 (meshOf g) (base-fits s) k;
           reports-made = ap (λ (x : Outcome). x .answer .passes) (c .done-is z);
+        }
+
+-- a node or row of the tables is that of their mesh
+node-in : (g : Given) (k : ℕ) → k < g .n → nodeOf (meshOf g) k ≡ nodeAt (g .nodes) k
+unfolding meshOf
+node-in g k h = getD-items (nodeAt (g .nodes)) (g .n) k origin h
+
+row-in : (g : Given) (i : ℕ) → i < g .t → rowOf (meshOf g .tris) i ≡ rowAt (g .rows) i
+unfolding meshOf
+row-in g i h = getD-items (rowAt (g .rows)) (g .t) i (tri 0 0 0) h
+
+pub set-call : (g : Given) (n0 z : ℕ) (c : Correction) (o : Outcome) → o ≡ setOut g n0 z c → SetMade g n0 z c o
+set-call g n0 z c o e =
+    let l = set-leaves g n0 z c in
+    subst (SetMade g n0 z c) (sym e)
+    (record {
+      answered = call-answers g n0 (setFault n0 (meshOf g) z c .number) (SetSays n0 (meshOf g) z c) (SetNames (meshOf g) z c) (setOut g n0 z c) (l .number-said) (set-exact n0 (meshOf g) z c) (set-not-1 n0 (meshOf g) z c) (set-call-names g n0 z c) (l .refusal-leaves) (l .scratch-zero);
+      of-lawful = of-lawful;
+      leaves-set = made l;
+    })
+  where
+    of-lawful : Sizes g n0 → Lawful (meshOf g) → InBounds c → SetOfLawful g n0 z (setOut g n0 z c .answer .number)
+    of-lawful s law b =
+        let e : setOut g n0 z c .answer .number ≡ setFault n0 (meshOf g) z c .number = set-leaves g n0 z c .number-said ∙ rw (sizes-exact g n0 .1 s) in
+        let count = nodes-count g in
+        rw e
+        (record {
+          exactly-13 = set-13 n0 (meshOf g) z c law b;
+          exactly-15 = rw count at (set-15 n0 (meshOf g) z c law b (omega (arith, s .n0-fits)));
+          exactly-0 = (
+            λ q. (let (law, b, a, l) = set-0 n0 (meshOf g) z c .0 q in (a, rw count at l)),
+            λ h. set-0 n0 (meshOf g) z c .1 (law, b, h .0, rw count (h .1)),
+          );
+        })
+
+    made : CallLeaves g n0 (setFault n0 (meshOf g) z c .number) (setFault n0 (meshOf g) z c .at) (corrected (meshOf g) z c) 0 (setOut g n0 z c) → setOut g n0 z c .answer .number ≡ 0 → SetDone g z c (setOut g n0 z c)
+    made l q =
+        let (s, k) = l .sized-and-0 q in
+        let d = set-done n0 (meshOf g) z c k in
+        let (n-stays, t-stays) = set-counts g n0 z c in
+        let (a, b) = fits-tables (length (g .nodes)) (length (g .rows)) (length (corrected (meshOf g) z c .nodes)) (length (corrected (meshOf g) z c .tris)) (omega (arith, s .n-fits, nodes-count g, d .count-kept)) (omega (arith, s .t-fits, rows-count g, ap length (d .rows-kept))) in
+        let h : Holds g (corrected (meshOf g) z c) (setOut g n0 z c) = rw (l .done-is q) (done-holds g (corrected (meshOf g) z c) 0 a b) in
+        let (law, in-bounds, added, below) = set-0 n0 (meshOf g) z c .0 k in
+        let z-in : z < g .n = omega (arith, nodes-count g) in
+        let out : Given = tablesAfter (setOut g n0 z c) in
+        record {
+          holds = h;
+          is-corrected = rw (h .mesh-is) d;
+          numbers-set = sym (node-in out z (omega arith)) ∙ ap (λ (m : Mesh). nodeOf m z) (h .mesh-is) ∙ d .node-set ∙ ap (λ (x : Node). node (x .place) c) (node-in g z z-in);
+          nodes-stay = λ j below o. sym (node-in out j (omega arith)) ∙ ap (λ (m : Mesh). nodeOf m j) (h .mesh-is) ∙ d .others-kept j o ∙ node-in g j below;
+          rows-stay = λ i below. sym (row-in out i (omega arith)) ∙ ap (λ (m : Mesh). rowOf (m .tris) i) (h .mesh-is) ∙ ap (λ (ts : List Tri). rowOf ts i) (d .rows-kept) ∙ row-in g i below;
+          counts-stay = (n-stays, t-stays);
+          reports-none = ap (λ (x : Outcome). x .answer .passes) (l .done-is q);
         }
 
 -- DEMAND 2 OF THE CALLS.
@@ -229,6 +313,8 @@ pub record Demand2 : Type 1 where
       InFour (rowOf (meshOf g .tris) i) i (meshOf (tablesAfter o))
   pub of-coarsen : (g : Given) (n0 : ℕ) (marks : List ℕ) (o : Outcome) → o ≡ coarsenOut g n0 marks → CoarsenMade g n0 marks o
   pub of-restore : (g : Given) (n0 : ℕ) (o : Outcome) → o ≡ restoreOut g n0 → RestoreMade g n0 o
+  -- W5: "A job may set the correction of an added node"
+  pub of-set : (g : Given) (n0 z : ℕ) (c : Correction) (o : Outcome) → o ≡ setOut g n0 z c → SetMade g n0 z c o
 
 pub demand2-calls : Demand2
-demand2-calls = record { of-check = check-call; of-refine = manner-call Newest; of-quarter = manner-call AllThree; cut-in-four = quarter-in-four; of-coarsen = coarsen-call; of-restore = restore-call }
+demand2-calls = record { of-check = check-call; of-refine = manner-call Newest; of-quarter = manner-call AllThree; cut-in-four = quarter-in-four; of-coarsen = coarsen-call; of-restore = restore-call; of-set = set-call }

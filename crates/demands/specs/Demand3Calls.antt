@@ -1,6 +1,7 @@
 -- DEMAND 3 OF THE CALLS. Every premise on a call is the equation that its contract ensures, so that what is said here holds of any run of
--- the calls themselves: mesh::check, mesh::refine, mesh::quarter, mesh::coarsen (crates/mesh/src/lib.rt) and job::restore
--- (crates/job/src/lib.rt). W1: "Demand 3 then covers sequences that mix both ways." Assumes nothing.
+-- the calls themselves: mesh::check, mesh::refine, mesh::quarter, mesh::coarsen, mesh::set_correction (crates/mesh/src/lib.rt) and
+-- job::restore (crates/job/src/lib.rt). W1: "Demand 3 then covers sequences that mix both ways." W5: it "now includes in the sequence accepted settings
+-- made with the base's node count, and refused settings, and base rows come back with their corrections." Assumes nothing.
 use mathlib.Core.Bool.{Bool, true, false}
 use mathlib.Core.List.{List}
 use mathlib.Core.Logic.{_≢_}
@@ -10,12 +11,13 @@ use native.Mathlib.Omega.{arith}
 use lib.Dec.{leb}
 use lib.ListN.{length, replicate}
 use Rattle.lists.specs.Lists.{cases}
+use Rattle.meaning.specs.declared.Correction.{Correction}
 use Rattle.meaning.specs.Split.{Way, bisected}
 use Rattle.meaning.specs.Coarsen.{restored}
 use Rattle.meaning.specs.Tables.{Given, Outcome, given, meshOf, roomOf}
-use Rattle.meaning.specs.Calls.{sizesFit, checkOut, refineOut, coarsenOut, restoreOut}
+use Rattle.meaning.specs.Calls.{sizesFit, checkOut, refineOut, coarsenOut, restoreOut, setOut}
 use Rattle.laws.specs.TableMesh.{tablesAfter}
-use Rattle.growth.specs.Demand3.{Removals, TablesReached, begin, lent, refined-by, coarsened-by, restored-by, refused-by, checked-by, a-refine, a-coarsen, a-restore, still, baseAgain, Restores, demand3-tables}
+use Rattle.growth.specs.Demand3.{Removals, TablesReached, begin, lent, refined-by, coarsened-by, set-by, restored-by, refused-by, checked-by, a-refine, a-coarsen, a-set, a-restore, still, baseAgain, Restores, demand3-tables}
 
 -- A call that was made on the tables g: what it left, o, is what its contract ensures.
 pub data Made (g : Given) (o : Outcome) : Type 0 where
@@ -23,6 +25,7 @@ pub data Made (g : Given) (o : Outcome) : Type 0 where
   -- by `newest`, 01's way, or by `allThree`, W1's
   refine-made : (w : Way) (n0 : ℕ) (marks : List ℕ) → o ≡ refineOut w g n0 marks → Made g o
   coarsen-made : (n0 : ℕ) (marks : List ℕ) → o ≡ coarsenOut g n0 marks → Made g o
+  set-made : (n0 z : ℕ) (c : Correction) → o ≡ setOut g n0 z c → Made g o
   restore-made : (n0 : ℕ) → o ≡ restoreOut g n0 → Made g o
 
 -- What a user holds who made calls one after the other on the tables g₀ of a base: the tables, and the counts of the accepted call before.
@@ -31,13 +34,15 @@ pub data Held (g₀ : Given) : Given → Type 0 where
   base-held : Held g₀ g₀
   -- scratch may be another table at every call
   scratch-anew : {g : Given} → Held g₀ g → (scratch : List ℕ) → Held g₀ (given (g .nodes) (g .rows) scratch (g .n) (g .t))
-  -- an accepted refine, coarsen or restore with the base's node count, on the tables and counts left by the accepted call before;
+  -- an accepted refine, coarsen, setting or restore with the base's node count, on the tables and counts left by the accepted call before;
   -- a refine by any way that cuts by bisection, as `newest` and `allThree` do, and by another at every step
   after-refine : {g : Given} → Held g₀ g → (w : Way) → w .cutting ≡ bisected → (marks : List ℕ) (o : Outcome) →
       o ≡ refineOut w g (g₀ .n) marks → o .answer .number ≡ 0 → Held g₀ (tablesAfter o)
   after-coarsen : {g : Given} → Held g₀ g → (marks : List ℕ) (o : Outcome) → o ≡ coarsenOut g (g₀ .n) marks → o .answer .number ≡ 0 → Held g₀ (tablesAfter o)
+  -- whatever node it is and whatever correction
+  after-set : {g : Given} → Held g₀ g → (z : ℕ) (c : Correction) (o : Outcome) → o ≡ setOut g (g₀ .n) z c → o .answer .number ≡ 0 → Held g₀ (tablesAfter o)
   after-restore : {g : Given} → Held g₀ g → (o : Outcome) → o ≡ restoreOut g (g₀ .n) → o .answer .number ≡ 0 → Held g₀ (tablesAfter o)
-  -- a refused call of any kind, with whatever counts, n0, marks and scratch: the counts held stay
+  -- a refused call of any kind, with whatever counts, n0, marks or correction, and scratch: the counts held stay
   after-refusal : {g : Given} → Held g₀ g → (scratch : List ℕ) (n t : ℕ) (o : Outcome) → Made (given (g .nodes) (g .rows) scratch n t) o → o .answer .number ≢ 0 →
       Held g₀ (still g o)
 
@@ -49,7 +54,7 @@ pub record Ends (g₀ g : Given) : Type 0 where
   -- restore with the base's node count is refused at most as 1, and that only where scratch is short
   pub refused-as-1 : (o : Outcome) → o ≡ restoreOut g (g₀ .n) → o .answer .number ≡ cases (sizesFit g (g₀ .n)) 0 1
   pub scratch-alone : sizesFit g (g₀ .n) ≡ leb (4 * (roomOf g₀ .nodes + roomOf g₀ .rows)) (length (g .scratch))
-  -- else it ends with the base row for row: node table, triangle table, counts, zeros past them, scratch zero
+  -- else it ends with the base row for row: node table with its corrections, triangle table, counts, zeros past them, scratch zero
   pub base-again : (o : Outcome) → o ≡ restoreOut g (g₀ .n) → o .answer .number ≡ 0 → o ≡ baseAgain g₀ g
   -- after no more passes than there were added nodes
   pub passes-bounded : (o : Outcome) → o ≡ restoreOut g (g₀ .n) → o .answer .number ≡ 0 → o .answer .passes + g₀ .n ≤ g .n
@@ -65,6 +70,8 @@ held-reached g₀ (after-refine {g = g} h w cuts marks o e z) =
     subst (λ x. TablesReached g₀ (tablesAfter x)) (sym e) (refined-by (held-reached g₀ h) w cuts marks (ap (λ x. x .answer .number) (sym e) ∙ z))
 held-reached g₀ (after-coarsen {g = g} h marks o e z) =
     subst (λ x. TablesReached g₀ (tablesAfter x)) (sym e) (coarsened-by (held-reached g₀ h) marks (ap (λ x. x .answer .number) (sym e) ∙ z))
+held-reached g₀ (after-set {g = g} h y c o e z) =
+    subst (λ x. TablesReached g₀ (tablesAfter x)) (sym e) (set-by (held-reached g₀ h) y c (ap (λ x. x .answer .number) (sym e) ∙ z))
 held-reached g₀ (after-restore {g = g} h o e z) =
     subst (λ x. TablesReached g₀ (tablesAfter x)) (sym e) (restored-by (held-reached g₀ h) (ap (λ x. x .answer .number) (sym e) ∙ z))
 held-reached g₀ (after-refusal {g = g} h scratch n t o m z) = go m (held-reached g₀ h)
@@ -73,6 +80,7 @@ held-reached g₀ (after-refusal {g = g} h scratch n t o m z) = go m (held-reach
     go (check-made e) l = subst (λ x. TablesReached g₀ (still g x)) (sym e) (checked-by l scratch n t)
     go (refine-made w n0 marks e) l = subst (λ x. TablesReached g₀ (still g x)) (sym e) (refused-by l scratch n t (a-refine w n0 marks) (λ y. z (ap (λ x. x .answer .number) e ∙ y)))
     go (coarsen-made n0 marks e) l = subst (λ x. TablesReached g₀ (still g x)) (sym e) (refused-by l scratch n t (a-coarsen n0 marks) (λ y. z (ap (λ x. x .answer .number) e ∙ y)))
+    go (set-made n0 y c e) l = subst (λ x. TablesReached g₀ (still g x)) (sym e) (refused-by l scratch n t (a-set n0 y c) (λ y. z (ap (λ x. x .answer .number) e ∙ y)))
     go (restore-made n0 e) l = subst (λ x. TablesReached g₀ (still g x)) (sym e) (refused-by l scratch n t (a-restore n0) (λ y. z (ap (λ x. x .answer .number) e ∙ y)))
 
 -- DEMAND 3 OF THE CALLS: the base check, made on g₀, said 0; then any calls; then what is found.

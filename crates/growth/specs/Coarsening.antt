@@ -261,7 +261,7 @@ module _ (base m : Mesh) (G : GrownFrom base m) (marks : List ℕ) where
     row-joined = λ k l z a b c d P e. ap three (new-number-at k l (tri a b c) (ap (λ (j : ℕ). g (row-at j)) (sym e) ∙ left-fate z a b c d P)) ∙ renum-is (tri a b c);
     place-kept = λ k l. let (lx, n, e) = close-old D D? (length (m .nodes)) k (omega (arith, staying-length zs 0 (m .nodes), renumber-is (length (m .nodes)))) in
         ap (at after) (sym (renumber-is (owner (keep D D?) (length (m .nodes)) k) ∙ e))
-        ∙ coarsened-gone (length (base .nodes)) m marks (G .lawful) .place-kept (owner (keep D D?) (length (m .nodes)) k) lx (off _ n);
+        ∙ ap (λ a. a .place) (coarsened-gone (length (base .nodes)) m marks (G .lawful) .node-kept (owner (keep D D?) (length (m .nodes)) k) lx (off _ n));
   }
 
   -- COARSENING KEEPS THE INVARIANT.
@@ -269,5 +269,5 @@ module _ (base m : Mesh) (G : GrownFrom base m) (marks : List ℕ) where
   from-coarsened = record {
     lawful = coarsened-lawful (length (base .nodes)) m marks (G .lawful);
     grown = grown-coarsened (G .grown) Y merging;
-    base-place = λ k l. coarsened-preserved (length (base .nodes)) m marks (G .lawful) (G .grown .enough) .base-kept k l ∙ G .base-place k l;
+    base-node = λ k l. coarsened-preserved (length (base .nodes)) m marks (G .lawful) (G .grown .enough) .base-kept k l ∙ G .base-node k l;
   }

@@ -1,4 +1,4 @@
--- DEMAND 3: from a lawful base with a compatible labelling, whatever refine and coarsen calls did, a full pass removes a node while added
+-- DEMAND 3: from a lawful base with a compatible labelling, whatever refine, coarsen and set calls did, a full pass removes a node while added
 -- nodes remain, and restore ends with the base, row for row. Of meshes, and of the tables that a caller lends. Assumes nothing.
 use mathlib.Core.Bool.{Bool, true, false}
 use mathlib.Core.List.{List}
@@ -9,21 +9,24 @@ use lib.Dec.{leb}
 use lib.IntN.{pos}
 use lib.ListN.{length, take, replicate}
 use Rattle.lists.specs.Lists.{cases}
+use Rattle.meaning.specs.declared.Correction.{Correction}
 use Rattle.meaning.specs.Mesh.{Mesh}
 use Rattle.meaning.specs.Lawful.{refusal}
 use Rattle.meaning.specs.Split.{Way, bisected, refined}
 use Rattle.meaning.specs.Coarsen.{coarsened, pass, Restored, restored}
-use Rattle.meaning.specs.Tables.{Given, Outcome, Room, given, outcome, answer, meshOf, roomOf, filled, cleared}
-use Rattle.meaning.specs.Calls.{says, checkNo, refineNo, coarsenNo, refines, coarsens, restores, sizesFit, untouched, checkOut, refineOut, coarsenOut, restoreOut}
+use Rattle.meaning.specs.Setting.{corrected, setFault}
+use Rattle.meaning.specs.Tables.{Given, Outcome, Room, given, outcome, answer, nodeForm, rowForm, meshOf, roomOf, filled, cleared}
+use Rattle.meaning.specs.Calls.{saysOf, says, checkNo, refineNo, coarsenNo, refines, coarsens, restores, sets, sizesFit, untouched, checkOut, refineOut, coarsenOut, restoreOut, setOut}
 use Rattle.laws.specs.Lawful.{lawful-refusal}
 use Rattle.laws.specs.Restore.{Passes, none-good, one-pass, pass-fewer, restored-is, restored-passes}
 use Rattle.growth.specs.GrownFrom.{GrownFrom, from-checked}
 use Rattle.growth.specs.Coarsening.{from-coarsened}
 use Rattle.growth.specs.Refining.{from-refine}
+use Rattle.growth.specs.Correcting.{from-set}
 use Rattle.growth.specs.Restoring.{pass-removes, restored-base}
 use Rattle.laws.specs.TableMesh.{nodes-count, rows-count, written, tablesAfter}
-use Rattle.laws.specs.CallLaw.{AsGiven, check-leaves, refine-leaves, coarsen-leaves, restore-leaves}
-use Rattle.growth.specs.OnTables.{GrownTables, fit₀, tables-begin, tables-same, tables-refine, tables-coarsen, tables-restore, tables-sizes, restore-number, restore-leaves-base, tables-passes, end-here, pass-done, pass-less}
+use Rattle.laws.specs.CallLaw.{AsGiven, check-leaves, refine-leaves, coarsen-leaves, restore-leaves, set-leaves}
+use Rattle.growth.specs.OnTables.{GrownTables, fit₀, tables-begin, tables-same, tables-refine, tables-coarsen, tables-set, tables-restore, tables-sizes, restore-number, restore-leaves-base, tables-passes, end-here, pass-done, pass-less}
 
 -- ---- passes
 
@@ -44,6 +47,7 @@ pub data Reached (base : Mesh) : Mesh → Type 0 where
   begin : Reached base base
   refine : {m : Mesh} → Reached base m → (w : Way) → w .cutting ≡ bisected → (room : Room) (marks : List ℕ) → Reached base (refines w room m marks .after)
   coarsen : {m : Mesh} → Reached base m → (marks : List ℕ) → Reached base (coarsens (length (base .nodes)) m marks .after)
+  set : {m : Mesh} → Reached base m → (z : ℕ) (c : Correction) → Reached base (sets (length (base .nodes)) m z c .after)
   restore : {m : Mesh} → Reached base m → Reached base (restores (length (base .nodes)) m .after)
 
 pub record Restorable (base m : Mesh) : Type 0 where
@@ -59,7 +63,7 @@ pub record Restorable (base m : Mesh) : Type 0 where
 -- Every mesh that is reached is grown from the base.
 module _ (base : Mesh) where
   reached-grown : GrownFrom base base → {m : Mesh} → Reached base m → GrownFrom base m
-  unfolding refines coarsens restores
+  unfolding refines coarsens restores sets
   reached-grown B begin = B
   reached-grown B (refine {m = m} r w cuts room marks) = go (refineNo w room m marks) refl (reached-grown B r)
     where
@@ -71,6 +75,11 @@ module _ (base : Mesh) where
       go : (k : ℕ) → GrownFrom base m → GrownFrom base (says k m (coarsened (length (base .nodes)) m marks) 0 .after)
       go zero G = from-coarsened base m G marks
       go (suc k) G = G
+  reached-grown B (set {m = m} r z c) = go (setFault (length (base .nodes)) m z c .number) refl (reached-grown B r)
+    where
+      go : (k : ℕ) → setFault (length (base .nodes)) m z c .number ≡ k → GrownFrom base m → GrownFrom base (saysOf k (setFault (length (base .nodes)) m z c .at) m (corrected m z c) 0 .after)
+      go zero e G = from-set base m G z c e
+      go (suc k) e G = G
   reached-grown B (restore {m = m} r) = go (refusal m) (reached-grown B r)
     where
       go : (k : ℕ) → GrownFrom base m → GrownFrom base (says k m (restored (length (base .nodes)) m .end) (restored (length (base .nodes)) m .passes) .after)
@@ -93,10 +102,11 @@ demand3 base ok {m} r =
 
 -- ---- tables
 
--- A refine, coarsen or restore, with whatever it is given, and its outcome.
+-- A refine, coarsen, set or restore, with whatever it is given, and its outcome.
 pub data Call (g : Given) : Outcome → Type 0 where
   a-refine : (w : Way) (n0 : ℕ) (marks : List ℕ) → Call g (refineOut w g n0 marks)
   a-coarsen : (n0 : ℕ) (marks : List ℕ) → Call g (coarsenOut g n0 marks)
+  a-set : (n0 z : ℕ) (c : Correction) → Call g (setOut g n0 z c)
   a-restore : (n0 : ℕ) → Call g (restoreOut g n0)
 
 -- the tables as a call left them, with the counts held before it
@@ -114,8 +124,10 @@ pub data TablesReached (g₀ : Given) : Given → Type 0 where
       refineOut w g (g₀ .n) marks .answer .number ≡ 0 → TablesReached g₀ (tablesAfter (refineOut w g (g₀ .n) marks))
   coarsened-by : {g : Given} → TablesReached g₀ g → (marks : List ℕ) →
       coarsenOut g (g₀ .n) marks .answer .number ≡ 0 → TablesReached g₀ (tablesAfter (coarsenOut g (g₀ .n) marks))
+  -- W5: "accepted settings made with the base's node count"
+  set-by : {g : Given} → TablesReached g₀ g → (z : ℕ) (c : Correction) → setOut g (g₀ .n) z c .answer .number ≡ 0 → TablesReached g₀ (tablesAfter (setOut g (g₀ .n) z c))
   restored-by : {g : Given} → TablesReached g₀ g → restoreOut g (g₀ .n) .answer .number ≡ 0 → TablesReached g₀ (tablesAfter (restoreOut g (g₀ .n)))
-  -- refused, with whatever counts, n0, marks and scratch: the counts held stay
+  -- refused, with whatever counts, n0, marks or correction, and scratch: the counts held stay
   refused-by : {g : Given} → TablesReached g₀ g → (scratch : List ℕ) (n t : ℕ) {o : Outcome} → Call (given (g .nodes) (g .rows) scratch n t) o →
       o .answer .number ≢ 0 → TablesReached g₀ (still g o)
   -- a base check, refused or not, with whatever counts and scratch
@@ -129,8 +141,8 @@ fullPass g n0 = coarsenOut g n0 (replicate (g .n) 1)
 abbrev pub baseAgain : Given → Given → Outcome
 baseAgain g₀ g =
     outcome (answer 0 (g₀ .n) (g₀ .t) (restored (g₀ .n) (meshOf g) .passes) 0)
-    (filled (pos 0) (length (g₀ .nodes)) (take (2 * g₀ .n) (g₀ .nodes)))
-    (filled 0 (length (g₀ .rows)) (take (3 * g₀ .t) (g₀ .rows)))
+    (filled (pos 0) (length (g₀ .nodes)) (take (nodeForm .width * g₀ .n) (g₀ .nodes)))
+    (filled 0 (length (g₀ .rows)) (take (rowForm .width * g₀ .t) (g₀ .rows)))
     (cleared (g .scratch))
 
 pub record Restores (g₀ g : Given) : Type 0 where
@@ -151,6 +163,7 @@ pub record Restores (g₀ g : Given) : Type 0 where
 call-refused : {g : Given} {o : Outcome} → Call g o → o .answer .number ≢ 0 → AsGiven g o
 call-refused {g} (a-refine w n0 marks) = refine-leaves g n0 w marks .refusal-leaves
 call-refused {g} (a-coarsen n0 marks) = coarsen-leaves g n0 marks .refusal-leaves
+call-refused {g} (a-set n0 z c) = set-leaves g n0 z c .refusal-leaves
 call-refused {g} (a-restore n0) = restore-leaves g n0 .refusal-leaves
 
 -- Tables that calls left hold a mesh grown from the base.
@@ -159,6 +172,7 @@ reached-tables g₀ ok begin = tables-begin g₀ ok
 reached-tables g₀ ok (lent {g = g} r s) = tables-same g₀ ok g (reached-tables g₀ ok r) (g .nodes) (g .rows) s refl refl
 reached-tables g₀ ok (refined-by {g = g} r w cuts marks e) = tables-refine g₀ ok g (reached-tables g₀ ok r) w cuts marks e
 reached-tables g₀ ok (coarsened-by {g = g} r marks e) = tables-coarsen g₀ ok g (reached-tables g₀ ok r) marks e
+reached-tables g₀ ok (set-by {g = g} r z c e) = tables-set g₀ ok g (reached-tables g₀ ok r) z c e
 reached-tables g₀ ok (restored-by {g = g} r e) = tables-restore g₀ ok g (reached-tables g₀ ok r) e
 reached-tables g₀ ok (refused-by {g = g} r s n t {o = o} c e) = let a = call-refused c e in tables-same g₀ ok g (reached-tables g₀ ok r) (o .nodes) (o .rows) (o .scratch) (a .nodes-same) (a .rows-same)
 reached-tables g₀ ok (checked-by {g = g} r s n t) = let a = check-leaves (given (g .nodes) (g .rows) s n t) .all-as-given in tables-same g₀ ok g (reached-tables g₀ ok r) _ _ _ (a .nodes-same) (a .rows-same)

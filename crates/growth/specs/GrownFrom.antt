@@ -1,10 +1,10 @@
--- Meshes grown from a base: the invariant that refining and coarsening keep. The base has it; with no node added the mesh is the base.
+-- Meshes grown from a base: the invariant that refining, coarsening and setting keep. The base has it; with no node added the mesh is the base.
 -- Assumes nothing.
 use mathlib.Core.Path.{_≡_, refl, subst, subst₂, _∙_}
 use Prim.Native.Nat.{ℕ, _<_}
 use lib.ListN.{length}
 use lib.Seq.{ext-getD}
-use Rattle.meaning.specs.Mesh.{Mesh, mesh, tri, at, origin}
+use Rattle.meaning.specs.Mesh.{Mesh, mesh, tri, nodeOf, at, origin}
 use Rattle.meaning.specs.Lawful.{Lawful, Compatible, rowOf}
 use Rattle.meaning.specs.Calls.{checkNo}
 use Rattle.laws.specs.Check.{check-done}
@@ -15,7 +15,8 @@ use Rattle.growth.specs.Rows.{rows, all-rows, row-is-three, rows-length,
 pub record GrownFrom (base m : Mesh) : Type 0 where
   pub lawful : Lawful m
   pub grown : Grown (all-rows base) (length (base .nodes)) (length (m .nodes)) (length (m .tris)) (rows m) (at m)
-  pub base-place : (k : ℕ) → k < length (base .nodes) → at m k ≡ at base k
+  -- the base nodes are as they were, places and corrections
+  pub base-node : (k : ℕ) → k < length (base .nodes) → nodeOf m k ≡ nodeOf base k
 
 -- THE BASE.
 from-start : (base : Mesh) → Lawful base → Compatible base → GrownFrom base base
@@ -23,7 +24,7 @@ from-start base law c = record {
   lawful = law;
   grown = subst₂ (λ (t : ℕ) (f : ℕ → Corners ℕ). Grown (all-rows base) (length (base .nodes)) (length (base .nodes)) t f (at base)) (rows-length base) (λ i j. row-is-three base j i)
       (grown-base (all-rows base) (base-compatible base law c) (length (base .nodes)) (at base) (base-below base law) (base-used base law));
-  base-place = λ k l. refl;
+  base-node = λ k l. refl;
 }
 
 -- "a lawful base with a compatible labelling"
@@ -44,4 +45,4 @@ grown-end-is-base base m G e = λ i. mesh (same-nodes i) (same-rows i)
     same-rows = ext-getD (tri 0 0 0) (m .tris) (base .tris) (end .0 ∙ rows-length base) same-row
 
     same-nodes : m .nodes ≡ base .nodes
-    same-nodes = ext-getD origin (m .nodes) (base .nodes) e (λ k l. G .base-place k (rw e at l))
+    same-nodes = ext-getD origin (m .nodes) (base .nodes) e (λ k l. G .base-node k (rw e at l))

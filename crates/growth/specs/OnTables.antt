@@ -10,12 +10,14 @@ use lib.IntN.{ℤ}
 use lib.ListN.{length, replicate}
 use borrow.Author.Tests.{leb-true, leb-false}
 use Rattle.lists.specs.Lists.{cases}
+use Rattle.meaning.specs.declared.Correction.{Correction}
 use Rattle.meaning.specs.Mesh.{Mesh}
 use Rattle.meaning.specs.Lawful.{refusal}
 use Rattle.meaning.specs.Split.{Way, bisected, refined}
 use Rattle.meaning.specs.Coarsen.{coarsened, pass, restored}
-use Rattle.meaning.specs.Tables.{Given, given, meshOf, roomOf}
-use Rattle.meaning.specs.Calls.{checkNo, sizesFit, done, checkOut, refineOut, coarsenOut, restoreOut}
+use Rattle.meaning.specs.Setting.{corrected, setFault}
+use Rattle.meaning.specs.Tables.{Given, given, nodeForm, rowForm, meshOf, roomOf}
+use Rattle.meaning.specs.Calls.{checkNo, sizesFit, done, checkOut, refineOut, coarsenOut, restoreOut, setOut}
 use Rattle.laws.specs.Lawful.{lawful-refusal}
 use Rattle.laws.specs.Marks.{ones-fit}
 use Rattle.laws.specs.Cut.{CutLaws}
@@ -27,9 +29,12 @@ use Rattle.laws.specs.CoarsenCalls.{coarsen-0}
 use Rattle.growth.specs.GrownFrom.{GrownFrom, from-checked}
 use Rattle.growth.specs.Coarsening.{from-coarsened}
 use Rattle.growth.specs.Refining.{from-refine}
+use Rattle.growth.specs.Correcting.{from-set}
 use Rattle.growth.specs.Restoring.{pass-removes, restored-base}
+use Rattle.laws.specs.PlaceOnly.{SamePlaces}
+use Rattle.laws.specs.Setting.{corrected-count, corrected-places}
 use Rattle.laws.specs.TableMesh.{Fits, nodes-count, rows-count, tablesAfter, done-mesh, done-nodes, done-rows}
-use Rattle.laws.specs.CallLaw.{Sizes, sizes-exact, sizes-unfit, sizes-again, check-leaves, refine-leaves, coarsen-leaves, restore-leaves}
+use Rattle.laws.specs.CallLaw.{Sizes, sizes-exact, sizes-unfit, sizes-again, check-leaves, refine-leaves, coarsen-leaves, restore-leaves, set-leaves}
 
 -- What the tables have, whatever calls left them.
 pub record GrownTables (g₀ g : Given) : Type 0 where
@@ -59,7 +64,7 @@ module _ (g₀ : Given) (ok : checkOut g₀ .answer .number ≡ 0) where
   fit₀ = let s = sizes₀ in record { nodes-fit = omega (arith, s .n-fits); rows-fit = omega (arith, s .t-fits) }
 
   -- An accepted call leaves a mesh that is grown from the base, if it fits.
-  tables-done : (g : Given) → GrownTables g₀ g → (m : Mesh) (k : ℕ) → GrownFrom base m → 2 * length (m .nodes) ≤ length (g .nodes) → 3 * length (m .tris) ≤ length (g .rows) →
+  tables-done : (g : Given) → GrownTables g₀ g → (m : Mesh) (k : ℕ) → GrownFrom base m → nodeForm .width * length (m .nodes) ≤ length (g .nodes) → rowForm .width * length (m .tris) ≤ length (g .rows) →
       GrownTables g₀ (tablesAfter (done g m k))
   tables-done g h m k G a b = record {
     grown = subst (GrownFrom base) (sym (done-mesh g m k)) G;
@@ -91,7 +96,7 @@ module _ (g₀ : Given) (ok : checkOut g₀ .answer .number ≡ 0) where
   coarsen-keeps m G marks = subst (λ (j : ℕ). GrownFrom base (coarsened j m marks)) (nodes-count g₀) (from-coarsened base m G marks)
 
   coarsen-fits : (g : Given) → GrownTables g₀ g → (marks : List ℕ) →
-      (2 * length (coarsened (g₀ .n) (meshOf g) marks .nodes) ≤ length (g .nodes)) × (3 * length (coarsened (g₀ .n) (meshOf g) marks .tris) ≤ length (g .rows))
+      (nodeForm .width * length (coarsened (g₀ .n) (meshOf g) marks .nodes) ≤ length (g .nodes)) × (rowForm .width * length (coarsened (g₀ .n) (meshOf g) marks .tris) ≤ length (g .rows))
   coarsen-fits g h marks =
       let c = coarsened-gone (g₀ .n) (meshOf g) marks (h .grown .lawful) in
       (omega (arith, c .node-count, nodes-count g, h .fit .nodes-fit), omega (arith, c .row-count, rows-count g, h .fit .rows-fit))
@@ -100,6 +105,16 @@ module _ (g₀ : Given) (ok : checkOut g₀ .answer .number ≡ 0) where
   tables-coarsen g h marks e =
       let (a, b) = coarsen-fits g h marks in
       rw (coarsen-leaves g (g₀ .n) marks .done-is e) (tables-done g h (coarsened (g₀ .n) (meshOf g) marks) 0 (coarsen-keeps (meshOf g) (h .grown) marks) a b)
+
+  -- W5: "accepted settings made with the base's node count"
+  pub tables-set : (g : Given) → GrownTables g₀ g → (z : ℕ) (c : Correction) → setOut g (g₀ .n) z c .answer .number ≡ 0 → GrownTables g₀ (tablesAfter (setOut g (g₀ .n) z c))
+  tables-set g h z c e =
+      let l = set-leaves g (g₀ .n) z c in
+      let G = subst (λ (j : ℕ). setFault j (meshOf g) z c .number ≡ 0 → GrownFrom base (corrected (meshOf g) z c)) (nodes-count g₀) (from-set base (meshOf g) (h .grown) z c) in
+      let k = corrected-count (meshOf g) z c in
+      let r = ap length (corrected-places (meshOf g) z c .rows-same) in
+      rw (l .done-is e)
+      (tables-done g h (corrected (meshOf g) z c) 0 (G (l .sized-and-0 e .1)) (omega (arith, k, nodes-count g, h .fit .nodes-fit)) (omega (arith, r, rows-count g, h .fit .rows-fit)))
 
   pub end-here : (g : Given) → GrownTables g₀ g → restored (g₀ .n) (meshOf g) .end ≡ base
   end-here g h = subst (λ (j : ℕ). restored j (meshOf g) .end ≡ base) (nodes-count g₀) (restored-base base (h .grown))

@@ -23,7 +23,7 @@ use Rattle.laws.specs.Numbers.{unless-done, orElse-done}
 use Rattle.laws.specs.Edges.{edge-comm, sameEdge-eq, memEdge-in}
 use Rattle.laws.specs.Closure.{splitEdges-within, splitEdges-apart, splitEdges-pull}
 use Rattle.laws.specs.Bisected.{bisected-laws}
-use Rattle.laws.specs.Midpoints.{midpoint-middle, splitAt-nodes, at-old, at-new}
+use Rattle.laws.specs.Midpoints.{midpoint-middle, splitAt-nodes, node-old, at-old, at-new}
 use Rattle.laws.specs.SplitLaw.{split-lawful}
 use Rattle.growth.specs.Labels.Corners.{Corners}
 use Rattle.growth.specs.Labels.Corners as Corners
@@ -239,7 +239,7 @@ module _ (base m : Mesh) (G : GrownFrom base m) (start : List Edge) (even : all 
   grown-by-split = record {
     lawful = split-lawful bisected-laws m start (G .lawful) even;
     grown = grown-refined (G .grown) closed halving (at-old bisected m s) put;
-    base-place = λ k l. at-old bisected m s k (omega (arith, G .grown .enough)) ∙ G .base-place k l;
+    base-node = λ k l. node-old bisected m s k (omega (arith, G .grown .enough)) ∙ G .base-node k l;
   }
 
 -- REFINING KEEPS THE INVARIANT, for any way that cuts by bisection.

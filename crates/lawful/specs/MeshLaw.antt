@@ -12,8 +12,8 @@ use Rattle.lists.specs.SearchLaw.{or-three, lowest-where, lowest-any, lowest-ag
 use Rattle.lists.specs.IterLaw.{length-items, getD-items, take-items}
 use Rattle.meaning.specs.declared.Fault.{Fault}
 use Rattle.meaning.specs.Mesh.{arrow, holdsArrow, tri, twiceArea}
-use Rattle.meaning.specs.Lawful.{outside, misnamed, Named, repeats, flat, unused, orLater, faultOf, firstOutside, firstMisnamed, firstRepeat, firstFlat, firstUnused}
-use Rattle.meaning.specs.Tables.{placeAt, rowAt, given, meshOf}
+use Rattle.meaning.specs.Lawful.{nodeOutside, misnamed, Named, repeats, flat, unused, orLater, faultOf, firstOutside, firstMisnamed, firstRepeat, firstFlat, firstUnused}
+use Rattle.meaning.specs.Tables.{nodeAt, rowAt, given, meshOf}
 use Rattle.laws.specs.Meshes.{mesh-is, place-is}
 use Rattle.plane.specs.Plane.{flatTri}
 use Rattle.tables.specs.Arrow.{arrowAt}
@@ -23,11 +23,11 @@ use Rattle.lawful.specs.TestsLaw.{named-row, not-misnamed}
 module _ (nodes : List ℤ) (l s : List ℕ) (n t : ℕ) where
   outside-is : lowest (outsideAt nodes) 0 n ≡ firstOutside (meshOf (given nodes l s n t))
   unfolding firstOutside meshOf outsideAt
-  outside-is = lowest-where outside (placeAt nodes) (outsideAt nodes) n (λ j h. refl)
+  outside-is = lowest-where nodeOutside (nodeAt nodes) (outsideAt nodes) n (λ j h. refl)
 
   misnamed-is : lowest (misnamedAt l n) 0 t ≡ firstMisnamed (meshOf (given nodes l s n t))
   unfolding firstMisnamed meshOf misnamedAt
-  misnamed-is = rw (length-items (placeAt nodes) n) (lowest-where (misnamed n) (rowAt l) (misnamedAt l n) t (λ j h. refl))
+  misnamed-is = rw (length-items (nodeAt nodes) n) (lowest-where (misnamed n) (rowAt l) (misnamedAt l n) t (λ j h. refl))
 
   -- ---- 5
 
@@ -70,7 +70,7 @@ module _ (nodes : List ℤ) (l s : List ℕ) (n t : ℕ) where
 
   unused-is : lowest (unused (items (rowAt l) 0 t)) 0 n ≡ firstUnused (meshOf (given nodes l s n t))
   unfolding firstUnused meshOf
-  unused-is = rw (length-items (placeAt nodes) n)
+  unused-is = rw (length-items (nodeAt nodes) n)
 
   -- ---- all
 

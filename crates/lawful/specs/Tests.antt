@@ -11,14 +11,14 @@ use Rattle.lists.specs.Lists.{isFound}
 use Rattle.lists.specs.Search.{lowest, items}
 use Rattle.meaning.specs.declared.Tri.{Tri}
 use Rattle.meaning.specs.declared.Fault.{Fault}
-use Rattle.meaning.specs.Lawful.{outside, misnamed, unused, fault, orLater}
-use Rattle.meaning.specs.Tables.{placeAt, rowAt}
+use Rattle.meaning.specs.Lawful.{nodeOutside, misnamed, unused, fault, orLater}
+use Rattle.meaning.specs.Tables.{nodeAt, placeAt, rowAt}
 use Rattle.plane.specs.Plane.{flatTri}
 use Rattle.tables.specs.Arrow.{arrowAt}
 
 -- 3
 unfoldable pub outsideAt : List ℤ → ℕ → Bool
-outsideAt nodes k = outside (placeAt nodes k)
+outsideAt nodes k = nodeOutside (nodeAt nodes k)
 
 -- 4
 unfoldable pub misnamedAt : List ℕ → ℕ → ℕ → Bool

@@ -13,8 +13,8 @@ use Rattle.lists.specs.SearchLaw.{lowest-nothing, lowest-below}
 use Rattle.meaning.specs.declared.Place.{Place}
 use Rattle.meaning.specs.declared.Tri.{Tri}
 use Rattle.meaning.specs.Lawful.{InRange, Named}
-use Rattle.meaning.specs.Tables.{placeAt, rowAt}
-use Rattle.laws.specs.Faults.{in-range, named-yes}
+use Rattle.meaning.specs.Tables.{nodeAt, placeAt, rowAt}
+use Rattle.laws.specs.Faults.{node-exact, named-yes}
 use Rattle.tables.specs.Arrow.{arrowAt}
 use Rattle.tables.specs.Sized.{Corners}
 use Rattle.lawful.specs.Tests.{outsideAt, misnamedAt, markStep, clashWith, clashAt}
@@ -37,18 +37,18 @@ corners-at l nc n t i b e h =
 
 place-near : (nodes : List ℤ) (n k : ℕ) → lowest (outsideAt nodes) 0 n ≡ Nothing → k < n → InRange (placeAt nodes k)
 unfolding outsideAt
-place-near nodes n k e h = in-range (placeAt nodes k) (lowest-nothing (outsideAt nodes) n k e h)
+place-near nodes n k e h = node-exact (nodeAt nodes k) .0 (lowest-nothing (outsideAt nodes) n k e h) .place-in
 
 -- ---- a corner of row i can be read, is in range, and can be marked
 
 module _ (w : Tri) (l : List ℕ) (n i : ℕ) (e : w ≡ rowAt l i) (h : misnamedAt l n i ≡ false) where
-  pub fits-p : (len : ℕ) → 2 * n ≤ len → 2 * (w .p) + 2 ≤ len
+  pub fits-p : (len : ℕ) → 4 * n ≤ len → 4 * (w .p) + 4 ≤ len
   fits-p len b = omega (arith, named-row w l n i e h)
 
-  pub fits-q : (len : ℕ) → 2 * n ≤ len → 2 * (w .q) + 2 ≤ len
+  pub fits-q : (len : ℕ) → 4 * n ≤ len → 4 * (w .q) + 4 ≤ len
   fits-q len b = omega (arith, named-row w l n i e h)
 
-  pub fits-r : (len : ℕ) → 2 * n ≤ len → 2 * (w .r) + 2 ≤ len
+  pub fits-r : (len : ℕ) → 4 * n ≤ len → 4 * (w .r) + 4 ≤ len
   fits-r len b = omega (arith, named-row w l n i e h)
 
   module _ (nodes : List ℤ) (a : Place) (f : lowest (outsideAt nodes) 0 n ≡ Nothing) where

@@ -16,17 +16,17 @@ use lists::Found;
 use meaning::Fault;
 use meaning::Tri;
 
-// ---- 3: a coordinate is outside its range
+// ---- 3: a coordinate or a correction is outside its range
 
 fn outside_at(nodes: &[i32], k: usize) -> bool
-    requires { ⌜ 2 * k + 2 ≤ length (now nodes) ⌝ }
+    requires { ⌜ 4 * k + 4 ≤ length (now nodes) ⌝ }
     ensures { λ r. ⌜ r ≡ outsideAt (now (nodes .entry)) k ⌝ }
 {
-    plane::outside(tables::place_at(nodes, k))
+    plane::node_outside(tables::node_at(nodes, k))
 }
 
 fn first_outside(nodes: &[i32], n: usize) -> Found
-    requires { ⌜ 2 * n ≤ length (now nodes) ⌝ }
+    requires { ⌜ 4 * n ≤ length (now nodes) ⌝ }
     ensures { λ r. ⌜ r ≡ lowest (outsideAt (now (nodes .entry))) 0 n ⌝ }
 {
     let mut k = 0;
@@ -119,7 +119,7 @@ fn first_repeat(rows: &[u32], scratch: &mut [u32], nc: usize, n: usize, t: usize
 
 fn flat_at(nodes: &[i32], rows: &[u32], n: usize, i: usize) -> bool
     requires { ⌜ 3 * i + 3 ≤ length (now rows) ⌝ }
-    requires { ⌜ 2 * n ≤ length (now nodes) ⌝ }
+    requires { ⌜ 4 * n ≤ length (now nodes) ⌝ }
     requires { ⌜ misnamedAt (now rows) n i ≡ false ⌝ }
     requires { ⌜ lowest (outsideAt (now nodes)) 0 n ≡ Nothing ⌝ }
     ensures { λ r. ⌜ r ≡ flatAt (now (nodes .entry)) (now (rows .entry)) i ⌝ }
@@ -134,7 +134,7 @@ fn flat_at(nodes: &[i32], rows: &[u32], n: usize, i: usize) -> bool
 
 fn first_flat(nodes: &[i32], rows: &[u32], n: usize, t: usize) -> Found
     requires { ⌜ 3 * t ≤ length (now rows) ⌝ }
-    requires { ⌜ 2 * n ≤ length (now nodes) ⌝ }
+    requires { ⌜ 4 * n ≤ length (now nodes) ⌝ }
     requires { ⌜ lowest (misnamedAt (now rows) n) 0 t ≡ Nothing ⌝ }
     requires { ⌜ lowest (outsideAt (now nodes)) 0 n ≡ Nothing ⌝ }
     ensures { λ r. ⌜ r ≡ lowest (flatAt (now (nodes .entry)) (now (rows .entry))) 0 t ⌝ }
@@ -269,7 +269,7 @@ fn later_fault(
     t: usize,
 ) -> Fault
     requires { ⌜ Sized nc (length (now rows)) (length (now scratch)) ⌝ }
-    requires { ⌜ (n ≤ nc) × (2 * n ≤ length (now nodes)) × (3 * t ≤ length (now rows)) ⌝ }
+    requires { ⌜ (n ≤ nc) × (4 * n ≤ length (now nodes)) × (3 * t ≤ length (now rows)) ⌝ }
     requires { ⌜ lowest (outsideAt (now nodes)) 0 n ≡ Nothing ⌝ }
     requires { ⌜ lowest (misnamedAt (now rows) n) 0 t ≡ Nothing ⌝ }
     requires { ⌜ now scratch ≡ replicate (length (now scratch)) 0 ⌝ }
@@ -293,11 +293,11 @@ fn later_fault(
 
 // The lowest number that applies, and where. The notes are all zero after; where no number applies, all rows are in the index.
 pub fn lowest_fault(nodes: &[i32], rows: &[u32], scratch: &mut [u32], n: usize, t: usize) -> Fault
-    requires { ⌜ Sized (length (now nodes) / 2) (length (now rows)) (length (now scratch)) ⌝ }
-    requires { ⌜ (2 * n ≤ length (now nodes)) × (3 * t ≤ length (now rows)) ⌝ }
+    requires { ⌜ Sized (length (now nodes) / 4) (length (now rows)) (length (now scratch)) ⌝ }
+    requires { ⌜ (4 * n ≤ length (now nodes)) × (3 * t ≤ length (now rows)) ⌝ }
     requires { ⌜ now scratch ≡ replicate (length (now scratch)) 0 ⌝ }
     ensures answer { λ r. ⌜ r ≡ faultOf (meshOf (given (now (nodes .entry)) (now (rows .entry)) (now (scratch .entry)) n t)) ⌝ }
-    ensures after { λ r. ⌜ Judged r (now (scratch .exit)) (length (now (nodes .entry)) / 2) (now (rows .entry)) t ⌝ }
+    ensures after { λ r. ⌜ Judged r (now (scratch .exit)) (length (now (nodes .entry)) / 4) (now (rows .entry)) t ⌝ }
 {
     let a = first_outside(nodes, n);
     if let Found::At(k) = a {
@@ -307,5 +307,5 @@ pub fn lowest_fault(nodes: &[i32], rows: &[u32], scratch: &mut [u32], n: usize, 
     if let Found::At(i) = b {
         return Fault { number: 4, at: i };
     }
-    later_fault(nodes, rows, scratch, nodes.len() / 2, n, t)
+    later_fault(nodes, rows, scratch, nodes.len() / 4, n, t)
 }

@@ -12,16 +12,20 @@ use lib.ListN.{length, getD, replicate}
 use lib.Seq.{getD-append-add}
 use Rattle.lists.specs.Lists.{cases}
 use Rattle.lists.specs.ListsLaw.{and-left, and-right}
+use Rattle.meaning.specs.declared.Correction.{Correction}
 use Rattle.meaning.specs.Mesh.{Mesh}
 use Rattle.meaning.specs.Tables.{Given, Outcome, nodeForm, rowForm, meshOf, roomOf, flatNodes, flatRows, filled, cleared}
 use Rattle.meaning.specs.Lawful.{Names, names-none, refusal}
 use Rattle.meaning.specs.Split.{Way, refined}
 use Rattle.meaning.specs.Coarsen.{coarsened, restored}
-use Rattle.meaning.specs.Calls.{marksFit, culpritOf, says, checkNo, refineNo, coarsenNo, refines, coarsens, restores, sizesFit, untouched, done, leaves, sized, checkOut, refineOut, coarsenOut, restoreOut}
+use Rattle.meaning.specs.Setting.{corrected, setFault, SetNames, names-stored}
+use Rattle.meaning.specs.Calls.{marksFit, culpritOf, saysOf, says, checkNo, refineNo, coarsenNo, refines, coarsens, restores, sets, sizesFit, untouched, done, leaves, sized, checkOut, refineOut, coarsenOut, restoreOut, setOut}
 use Rattle.laws.specs.Exact.{unfit}
 use Rattle.laws.specs.Marks.{marks-exact, ones-fit}
 use Rattle.laws.specs.Culprit.{Due, names-exact, culprit-names, culprit-none, check-due, refine-due, coarsen-due, restore-due}
-use Rattle.laws.specs.TableMesh.{nodes-count, flat-nodes-length, flat-rows-length, tablesAfter, done-mesh, done-nodes, done-rows}
+use Rattle.laws.specs.PlaceOnly.{SamePlaces}
+use Rattle.laws.specs.Setting.{corrected-count, corrected-places, set-names, set-nobody}
+use Rattle.laws.specs.TableMesh.{nodes-count, rows-count, flat-nodes-length, flat-rows-length, tablesAfter, done-mesh, done-nodes, done-rows}
 
 -- ---- sizes
 
@@ -125,10 +129,10 @@ pub record Holds (g : Given) (new : Mesh) (o : Outcome) : Type 0 where
   pub nodes-past : (i : ℕ) → nodeForm .width * o .answer .n ≤ i → getD (o .nodes) i (pos 0) ≡ pos 0
   pub rows-past : (i : ℕ) → rowForm .width * o .answer .t ≤ i → getD (o .rows) i 0 ≡ 0
 
--- a call's outcome, k being its number for the mesh, new the mesh that it makes, p its passes
-pub record CallLeaves (g : Given) (n0 k : ℕ) (new : Mesh) (p : ℕ) (o : Outcome) : Type 0 where
+-- a call's outcome, k being its number for the mesh, c the culprit that it names, new the mesh that it makes, p its passes
+pub record CallLeaves (g : Given) (n0 k c : ℕ) (new : Mesh) (p : ℕ) (o : Outcome) : Type 0 where
   pub number-said : o .answer .number ≡ cases (sizesFit g n0) k 1
-  pub culprit-said : o .answer .culprit ≡ cases (sizesFit g n0) (culpritOf (meshOf g) k) 0
+  pub culprit-said : o .answer .culprit ≡ cases (sizesFit g n0) c 0
   pub sized-and-0 : o .answer .number ≡ 0 → Sizes g n0 × (k ≡ 0)
   pub done-is : o .answer .number ≡ 0 → o ≡ done g new p
   pub refusal-leaves : o .answer .number ≢ 0 → AsGiven g o
@@ -156,41 +160,48 @@ done-holds g m k a b = record {
 untouched-as-given : (g : Given) (j c : ℕ) → AsGiven g (untouched g j c)
 untouched-as-given g j c = record { nodes-same = refl; rows-same = refl; n-same = refl; t-same = refl; no-passes = refl }
 
--- WHAT A CALL LEAVES, whatever it is given.
-pub call-leaves : (g : Given) (n0 k : ℕ) (new : Mesh) (p : ℕ) → CallLeaves g n0 k new p (sized g n0 (leaves g (says k (meshOf g) new p)))
-call-leaves g n0 k new p = go (sizesFit g n0) refl k
+-- WHAT A CALL LEAVES, whatever it is given; with 0 it names nobody.
+pub call-leaves : (g : Given) (n0 k c : ℕ) (new : Mesh) (p : ℕ) → (k ≡ 0 → c ≡ 0) → CallLeaves g n0 k c new p (sized g n0 (leaves g (saysOf k c (meshOf g) new p)))
+call-leaves g n0 k c new p none = go (sizesFit g n0) refl k none
   where
-    refused : (b : Bool) → sizesFit g n0 ≡ b → (k j : ℕ) → suc j ≡ cases b k 1 → CallLeaves g n0 k new p (untouched g (suc j) (cases b (culpritOf (meshOf g) k) 0))
+    refused : (b : Bool) → sizesFit g n0 ≡ b → (k j : ℕ) → suc j ≡ cases b k 1 → CallLeaves g n0 k c new p (untouched g (suc j) (cases b c 0))
     refused b q k j e = record {
       number-said = rw (q, e);
       culprit-said = rw q;
       sized-and-0 = λ e. absurd (omega arith);
       done-is = λ e. absurd (omega arith);
-      refusal-leaves = λ n. untouched-as-given g (suc j) (cases b (culpritOf (meshOf g) k) 0);
+      refusal-leaves = λ n. untouched-as-given g (suc j) (cases b c 0);
       scratch-zero = refl;
     }
 
-    go : (b : Bool) → sizesFit g n0 ≡ b → (k : ℕ) → CallLeaves g n0 k new p (cases b (leaves g (says k (meshOf g) new p)) (untouched g 1 0))
-    go true q zero = record { number-said = rw q; culprit-said = rw (q, culprit-none (meshOf g) 0 (inl (omega arith))); sized-and-0 = λ e. (sizes-exact g n0 .0 q, refl); done-is = λ e. refl; refusal-leaves = λ n. absurd (n refl); scratch-zero = refl }
-    go true q (suc k) = refused true q (suc k) k refl
-    go false q k = refused false q k 0 refl
+    go : (b : Bool) → sizesFit g n0 ≡ b → (k : ℕ) → (k ≡ 0 → c ≡ 0) → CallLeaves g n0 k c new p (cases b (leaves g (saysOf k c (meshOf g) new p)) (untouched g 1 0))
+    go true q zero z = record { number-said = rw q; culprit-said = rw (q, z refl); sized-and-0 = λ e. (sizes-exact g n0 .0 q, refl); done-is = λ e. refl; refusal-leaves = λ n. absurd (n refl); scratch-zero = refl }
+    go true q (suc k) z = refused true q (suc k) k refl
+    go false q k z = refused false q k 0 refl
 
--- What every call says, and what a refusal leaves; Of k: the number k is due to the mesh.
-pub record Answers (g : Given) (n0 : ℕ) (Of : ℕ → Type 0) (o : Outcome) : Type 0 where
+-- a call that names what the mesh itself draws
+mesh-leaves : (g : Given) (n0 k : ℕ) (new : Mesh) (p : ℕ) → CallLeaves g n0 k (culpritOf (meshOf g) k) new p (sized g n0 (leaves g (says k (meshOf g) new p)))
+mesh-leaves g n0 k new p = call-leaves g n0 k (culpritOf (meshOf g) k) new p (λ e. culprit-none (meshOf g) k (inl (omega arith)))
+
+-- What every call says, and what a refusal leaves; Of k: the number k is due; Blames k z: with k the culprit is z.
+pub record AnswersBy (g : Given) (n0 : ℕ) (Of : ℕ → Type 0) (Blames : ℕ → ℕ → Type 0) (o : Outcome) : Type 0 where
   -- 1 exactly if the sizes do not fit
   pub says-1-exactly : (o .answer .number ≡ 1) ↔ (¬ Sizes g n0)
   -- each number exactly when its line says, and no other
   pub says-exactly : (k : ℕ) → (o .answer .number ≡ k) ↔ Says g n0 Of k
-  -- W2: the culprit is the lowest node or row at fault with 3 to 7, and 0 with every other number
-  pub names : Names (meshOf g) (o .answer .number) (o .answer .culprit)
+  pub names : Blames (o .answer .number) (o .answer .culprit)
   -- refused: tables as they were, the counts given, 0 passes
   pub refused-as-given : o .answer .number ≢ 0 → AsGiven g o
   -- "It is all zero after every call, refused or not."
   pub scratch-all-zero : o .scratch ≡ cleared (g .scratch)
 
-pub call-answers : (g : Given) (n0 k : ℕ) (Of : ℕ → Type 0) (o : Outcome) → o .answer .number ≡ cases (sizesFit g n0) k 1 → ((j : ℕ) → (k ≡ j) ↔ Of j) → ¬ Of 1 →
-    Names (meshOf g) (o .answer .number) (o .answer .culprit) → (o .answer .number ≢ 0 → AsGiven g o) → o .scratch ≡ cleared (g .scratch) → Answers g n0 Of o
-call-answers g n0 k Of o e exact no1 named same zeroed = record {
+-- W2: the culprit is the lowest node or row at fault with 3 to 7, and 0 with every other number
+abbrev pub Answers : Given → ℕ → (ℕ → Type 0) → Outcome → Type 0
+Answers g n0 Of = AnswersBy g n0 Of (Names (meshOf g))
+
+pub call-answers : (g : Given) (n0 k : ℕ) (Of : ℕ → Type 0) (Blames : ℕ → ℕ → Type 0) (o : Outcome) → o .answer .number ≡ cases (sizesFit g n0) k 1 → ((j : ℕ) → (k ≡ j) ↔ Of j) → ¬ Of 1 →
+    Blames (o .answer .number) (o .answer .culprit) → (o .answer .number ≢ 0 → AsGiven g o) → o .scratch ≡ cleared (g .scratch) → AnswersBy g n0 Of Blames o
+call-answers g n0 k Of Blames o e exact no1 named same zeroed = record {
   says-1-exactly = rw e (says-1 g n0 k (λ z. no1 (exact 1 .0 z)));
   says-exactly = rw e (says-exact g n0 k Of exact);
   names = named;
@@ -203,14 +214,14 @@ pub culprit-exact : {g : Given} {n0 : ℕ} {Of : ℕ → Type 0} {o : Outcome} �
 culprit-exact a = names-exact (a .names)
 
 -- A call that makes no passes reports none.
-pub leaves-no-passes : {g : Given} {n0 k : ℕ} {new : Mesh} {o : Outcome} → CallLeaves g n0 k new 0 o → o .answer .passes ≡ 0
-leaves-no-passes {o = o} c = go (o .answer .number) refl
+pub leaves-no-passes : {g : Given} {n0 k c : ℕ} {new : Mesh} {o : Outcome} → CallLeaves g n0 k c new 0 o → o .answer .passes ≡ 0
+leaves-no-passes {o = o} l = go (o .answer .number) refl
   where
     go : (j : ℕ) → o .answer .number ≡ j → o .answer .passes ≡ 0
-    go zero e = ap (λ (x : Outcome). x .answer .passes) (c .done-is e)
-    go (suc j) e = c .refusal-leaves (λ z. omega arith) .no-passes
+    go zero e = ap (λ (x : Outcome). x .answer .passes) (l .done-is e)
+    go (suc j) e = l .refusal-leaves (λ z. omega arith) .no-passes
 
--- ---- the four calls
+-- ---- the calls
 
 -- "the base check writes no table but scratch"
 pub record CheckLeaves (g : Given) (o : Outcome) : Type 0 where
@@ -228,17 +239,22 @@ check-leaves g = go (sizesFit g 0) refl
     go false q = record { check-number = rw q; check-culprit = rw q; all-as-given = untouched-as-given g 1 0; scratch-zero = refl }
 
 module _ (g : Given) (n0 : ℕ) where
-  pub refine-leaves : (w : Way) (marks : List ℕ) → CallLeaves g n0 (refineNo w (roomOf g) (meshOf g) marks) (refined w (meshOf g) marks) 0 (refineOut w g n0 marks)
+  pub refine-leaves : (w : Way) (marks : List ℕ) → CallLeaves g n0 (refineNo w (roomOf g) (meshOf g) marks) (culpritOf (meshOf g) (refineNo w (roomOf g) (meshOf g) marks)) (refined w (meshOf g) marks) 0 (refineOut w g n0 marks)
   unfolding refineOut refines
-  refine-leaves w marks = call-leaves g n0 (refineNo w (roomOf g) (meshOf g) marks) (refined w (meshOf g) marks) 0
+  refine-leaves w marks = mesh-leaves g n0 (refineNo w (roomOf g) (meshOf g) marks) (refined w (meshOf g) marks) 0
 
-  pub coarsen-leaves : (marks : List ℕ) → CallLeaves g n0 (coarsenNo (meshOf g) marks) (coarsened n0 (meshOf g) marks) 0 (coarsenOut g n0 marks)
+  pub coarsen-leaves : (marks : List ℕ) → CallLeaves g n0 (coarsenNo (meshOf g) marks) (culpritOf (meshOf g) (coarsenNo (meshOf g) marks)) (coarsened n0 (meshOf g) marks) 0 (coarsenOut g n0 marks)
   unfolding coarsenOut coarsens
-  coarsen-leaves marks = call-leaves g n0 (coarsenNo (meshOf g) marks) (coarsened n0 (meshOf g) marks) 0
+  coarsen-leaves marks = mesh-leaves g n0 (coarsenNo (meshOf g) marks) (coarsened n0 (meshOf g) marks) 0
 
-  pub restore-leaves : CallLeaves g n0 (refusal (meshOf g)) (restored n0 (meshOf g) .end) (restored n0 (meshOf g) .passes) (restoreOut g n0)
+  pub set-leaves : (z : ℕ) (c : Correction) →
+      CallLeaves g n0 (setFault n0 (meshOf g) z c .number) (setFault n0 (meshOf g) z c .at) (corrected (meshOf g) z c) 0 (setOut g n0 z c)
+  unfolding setOut sets
+  set-leaves z c = call-leaves g n0 (setFault n0 (meshOf g) z c .number) (setFault n0 (meshOf g) z c .at) (corrected (meshOf g) z c) 0 (set-nobody n0 (meshOf g) z c)
+
+  pub restore-leaves : CallLeaves g n0 (refusal (meshOf g)) (culpritOf (meshOf g) (refusal (meshOf g))) (restored n0 (meshOf g) .end) (restored n0 (meshOf g) .passes) (restoreOut g n0)
   unfolding restoreOut restores
-  restore-leaves = call-leaves g n0 (refusal (meshOf g)) (restored n0 (meshOf g) .end) (restored n0 (meshOf g) .passes)
+  restore-leaves = mesh-leaves g n0 (refusal (meshOf g)) (restored n0 (meshOf g) .end) (restored n0 (meshOf g) .passes)
 
 -- W2: each names the culprit of its number.
 said-names : (g : Given) (n0 : ℕ) {k j c : ℕ} → Due (meshOf g) k → j ≡ cases (sizesFit g n0) k 1 → c ≡ cases (sizesFit g n0) (culpritOf (meshOf g) k) 0 → Names (meshOf g) j c
@@ -252,7 +268,7 @@ pub check-names : (g : Given) → Names (meshOf g) (checkOut g .answer .number) 
 check-names g = let c = check-leaves g in said-names g 0 (check-due (meshOf g)) (c .check-number) (c .check-culprit)
 
 module _ (g : Given) (n0 : ℕ) where
-  call-names : {k p : ℕ} {new : Mesh} {o : Outcome} → Due (meshOf g) k → CallLeaves g n0 k new p o → Names (meshOf g) (o .answer .number) (o .answer .culprit)
+  call-names : {k p : ℕ} {new : Mesh} {o : Outcome} → Due (meshOf g) k → CallLeaves g n0 k (culpritOf (meshOf g) k) new p o → Names (meshOf g) (o .answer .number) (o .answer .culprit)
   call-names due c = said-names g n0 due (c .number-said) (c .culprit-said)
 
   pub refine-names : (w : Way) (marks : List ℕ) → Names (meshOf g) (refineOut w g n0 marks .answer .number) (refineOut w g n0 marks .answer .culprit)
@@ -264,6 +280,14 @@ module _ (g : Given) (n0 : ℕ) where
   pub restore-names : Names (meshOf g) (restoreOut g n0 .answer .number) (restoreOut g n0 .answer .culprit)
   restore-names = call-names (restore-due (meshOf g)) (restore-leaves g n0)
 
+  -- W5: a setting names the node given where its value alone is out of range
+  pub set-call-names : (z : ℕ) (c : Correction) → SetNames (meshOf g) z c (setOut g n0 z c .answer .number) (setOut g n0 z c .answer .culprit)
+  set-call-names z c = let l = set-leaves g n0 z c in rw (l .number-said, l .culprit-said) (go (sizesFit g n0))
+    where
+      go : (b : Bool) → SetNames (meshOf g) z c (cases b (setFault n0 (meshOf g) z c .number) 1) (cases b (setFault n0 (meshOf g) z c .at) 0)
+      go true = set-names n0 (meshOf g) z c
+      go false = names-stored (names-none 1 (inl (omega arith)))
+
 -- "Only restore reports passes; after 0 the other calls give 0 there." A refusal gives 0 too.
 pub check-no-passes : (g : Given) → checkOut g .answer .passes ≡ 0
 check-no-passes g = check-leaves g .all-as-given .no-passes
@@ -273,6 +297,23 @@ refine-no-passes w g n0 marks = leaves-no-passes (refine-leaves g n0 w marks)
 
 pub coarsen-no-passes : (g : Given) (n0 : ℕ) (marks : List ℕ) → coarsenOut g n0 marks .answer .passes ≡ 0
 coarsen-no-passes g n0 marks = leaves-no-passes (coarsen-leaves g n0 marks)
+
+pub set-no-passes : (g : Given) (n0 z : ℕ) (c : Correction) → setOut g n0 z c .answer .passes ≡ 0
+set-no-passes g n0 z c = leaves-no-passes (set-leaves g n0 z c)
+
+-- A setting changes no count.
+pub set-counts : (g : Given) (n0 z : ℕ) (c : Correction) → (setOut g n0 z c .answer .n ≡ g .n) × (setOut g n0 z c .answer .t ≡ g .t)
+set-counts g n0 z c = go (setOut g n0 z c .answer .number) refl
+  where
+    l : CallLeaves g n0 (setFault n0 (meshOf g) z c .number) (setFault n0 (meshOf g) z c .at) (corrected (meshOf g) z c) 0 (setOut g n0 z c)
+    l = set-leaves g n0 z c
+
+    go : (k : ℕ) → setOut g n0 z c .answer .number ≡ k → (setOut g n0 z c .answer .n ≡ g .n) × (setOut g n0 z c .answer .t ≡ g .t)
+    go zero e = (
+      ap (λ (o : Outcome). o .answer .n) (l .done-is e) ∙ corrected-count (meshOf g) z c ∙ nodes-count g,
+      ap (λ (o : Outcome). o .answer .t) (l .done-is e) ∙ ap length (sym (corrected-places (meshOf g) z c .rows-same)) ∙ rows-count g,
+    )
+    go (suc k) e = let a = l .refusal-leaves (λ q. omega arith) in (a .n-same, a .t-same)
 
 -- A restore that is refused leaves what its first full pass leaves, which is made on the tables as given.
 pub restore-refused : (g : Given) (n0 : ℕ) → restoreOut g n0 .answer .number ≢ 0 → restoreOut g n0 ≡ coarsenOut g n0 (replicate (g .n) 1)

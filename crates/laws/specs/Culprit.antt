@@ -17,26 +17,32 @@ use Rattle.lists.specs.declared.Found.the-variants.{At, Nothing}
 use Rattle.lists.specs.Lists.{all, cases, count}
 use Rattle.meaning.specs.declared.Fault.{Fault}
 use Rattle.meaning.specs.Mesh.{Mesh, nodeOf, holdsNode, twiceArea}
-use Rattle.meaning.specs.Lawful.{NodeInRange, Named, First, Repeats, Other, Names, names-3, names-4, names-5, names-6, names-7, names-none, firstOutside, firstMisnamed, firstRepeat, firstFlat, firstUnused, rowOf, orLater, faultOf, refusal, compatible}
+use Rattle.meaning.specs.Lawful.{NodeInRange, Named, First, Repeats, Other, Names, names-3, names-4, names-5, names-6, names-7, names-none, firstOutside, firstMisnamed, firstRepeat, firstFlat, firstUnused, rowOf, fault, orLater, from4, faultOf, refusal, compatible}
 use Rattle.meaning.specs.Split.{Way, splitEdges, started, halves, refined}
 use Rattle.meaning.specs.Tables.{Room}
 use Rattle.meaning.specs.Calls.{culpritOf, unless, orElse, marksFit, fits, checkNo, refineNo, coarsenNo}
 use Rattle.laws.specs.Faults.{first-3, first-4, first-5, first-6, first-7}
 
-names-or-later : (m : Mesh) (k : ℕ) (f : Found) (rest : Fault) → ((i : ℕ) → f ≡ At i → Names m k i) → Names m (rest .number) (rest .at) → Names m (orLater k f rest .number) (orLater k f rest .at)
-names-or-later m k (At i) rest here later = here i refl
-names-or-later m k Nothing rest here later = later
+-- a chain of numbers, whatever they name
+pub names-or-later : (N : ℕ → ℕ → Type 0) (k : ℕ) (f : Found) (rest : Fault) → ((i : ℕ) → f ≡ At i → N k i) → (f ≡ Nothing → N (rest .number) (rest .at)) →
+    N (orLater k f rest .number) (orLater k f rest .at)
+names-or-later N k (At i) rest here later = here i refl
+names-or-later N k Nothing rest here later = later refl
+
+pub names-4-7 : (m : Mesh) (N : ℕ → ℕ → Type 0) → ((k z : ℕ) → Names m k z → N k z) → (rest : Fault) → N (rest .number) (rest .at) → N (from4 m rest .number) (from4 m rest .at)
+names-4-7 m N there rest later =
+    names-or-later N 4 (firstMisnamed m) _ (λ i e. there 4 i (names-4 (first-4 m i e))) λ e4.
+    names-or-later N 5 (firstRepeat m) _ (λ i e. there 5 i (names-5 (first-5 m i e))) λ e5.
+    names-or-later N 6 (firstFlat m) _ (λ i e. there 6 i (names-6 (first-6 m i e))) λ e6.
+    names-or-later N 7 (firstUnused m) _ (λ i e. there 7 i (names-7 (first-7 m i e))) λ e7.
+    later
 
 -- WHAT THE FAULT OF A MESH NAMES.
 pub fault-names : (m : Mesh) → Names m (faultOf m .number) (faultOf m .at)
 unfolding faultOf
 fault-names m =
-    names-or-later m 3 (firstOutside m) _ (λ i e. names-3 (first-3 m i e))
-    (names-or-later m 4 (firstMisnamed m) _ (λ i e. names-4 (first-4 m i e))
-    (names-or-later m 5 (firstRepeat m) _ (λ i e. names-5 (first-5 m i e))
-    (names-or-later m 6 (firstFlat m) _ (λ i e. names-6 (first-6 m i e))
-    (names-or-later m 7 (firstUnused m) _ (λ i e. names-7 (first-7 m i e))
-    (names-none 0 (inl (omega arith)))))))
+    names-or-later (Names m) 3 (firstOutside m) _ (λ i e. names-3 (first-3 m i e)) λ e3.
+    names-4-7 m (Names m) (λ k z h. h) (fault 0 0) (names-none 0 (inl (omega arith)))
 
 -- ---- number by number
 

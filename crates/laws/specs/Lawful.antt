@@ -20,34 +20,42 @@ use Rattle.lists.specs.ByNumberLaw.{where-lowest}
 use Rattle.meaning.specs.declared.Tri.{Tri}
 use Rattle.meaning.specs.declared.Fault.{Fault}
 use Rattle.meaning.specs.Mesh.{Mesh, Arrow, tri, arrows, base, origin, sameArrow, sameEdge, holdsNode, holdsEdge, twiceArea}
-use Rattle.meaning.specs.Lawful.{NodeInRange, Named, Lawful, Compatible, Applies, out-of-range, misnames, occurs-twice, not-above, in-none, LowestOf, Lowest, rowOf, clashes, firstOutside, firstMisnamed, firstRepeat, firstFlat, firstUnused, firstClash, orLater, faultOf, refusal, compatible}
+use Rattle.meaning.specs.Lawful.{NodeInRange, Named, Lawful, Compatible, Applies, out-of-range, misnames, occurs-twice, not-above, in-none, LowestOf, Lowest, rowOf, clashes, firstOutside, firstMisnamed, firstRepeat, firstFlat, firstUnused, firstClash, fault, orLater, from4, faultOf, refusal, compatible}
 use Rattle.laws.specs.Edges.{sameEdge-eq, sameEdge-refl}
 use Rattle.laws.specs.Faults.{first-3, first-4, first-5, first-6, first-7, none-3, none-4, none-5, none-6, none-7, repeat-twice}
 
--- ---- the chain
+-- ---- the chain, whatever applies
 
--- k is the lowest number from lo upward that applies, or 0
-record LowestFrom (m : Mesh) (lo k : ℕ) : Type 0 where
-  applies : 0 < k → Applies m k
-  no-lower : (j : ℕ) → lo ≤ j → Applies m j → (0 < k) × (k ≤ j)
+module _ (A : ℕ → Type 0) where
+  -- k is the lowest number from lo upward that applies, or 0
+  pub record LowestFrom (lo k : ℕ) : Type 0 where
+    pub applies : 0 < k → A k
+    pub no-lower : (j : ℕ) → lo ≤ j → A j → (0 < k) × (k ≤ j)
 
-link : (m : Mesh) (k : ℕ) (f : Found) (rest : Fault) → 0 < k → ((i : ℕ) → f ≡ At i → Applies m k) → (f ≡ Nothing → (¬ Applies m k) × LowestFrom m (suc k) (rest .number)) →
-    LowestFrom m k (orLater k f rest .number)
-link m k (At i) rest pos-k yes-f no-f = record { applies = λ h. yes-f i refl; no-lower = λ j l a. (pos-k, l) }
-link m k Nothing rest pos-k yes-f no-f = record { applies = no-f refl .1 .applies; no-lower = λ j l a. which j l a (ℕ-discrete k j) }
-  where
-    which : (j : ℕ) → k ≤ j → Applies m j → Dec (k ≡ j) → (0 < rest .number) × (rest .number ≤ j)
-    which j l a (yes q) = absurd (no-f refl .0 (subst⁻¹ (Applies m) q a))
-    which j l a (no q) = no-f refl .1 .no-lower j (omega arith) a
+  pub link : (k : ℕ) (f : Found) (rest : Fault) → 0 < k → ((i : ℕ) → f ≡ At i → A k) → (f ≡ Nothing → (¬ A k) × LowestFrom (suc k) (rest .number)) →
+      LowestFrom k (orLater k f rest .number)
+  link k (At i) rest pos-k yes-f no-f = record { applies = λ h. yes-f i refl; no-lower = λ j l a. (pos-k, l) }
+  link k Nothing rest pos-k yes-f no-f = record { applies = no-f refl .1 .applies; no-lower = λ j l a. which j l a (ℕ-discrete k j) }
+    where
+      which : (j : ℕ) → k ≤ j → A j → Dec (k ≡ j) → (0 < rest .number) × (rest .number ≤ j)
+      which j l a (yes q) = absurd (no-f refl .0 (subst⁻¹ A q a))
+      which j l a (no q) = no-f refl .1 .no-lower j (omega arith) a
 
-at-least-3 : {m : Mesh} {j : ℕ} → Applies m j → 3 ≤ j
+  -- one number is the lowest
+  pub lowest-one : (j k : ℕ) → LowestOf A j → LowestOf A k → j ≡ k
+  lowest-one zero zero a b = refl
+  lowest-one zero (suc k) a b = absurd (omega (arith, a .no-lower (suc k) (b .applies (omega arith))))
+  lowest-one (suc j) zero a b = absurd (omega (arith, b .no-lower (suc j) (a .applies (omega arith))))
+  lowest-one (suc j) (suc k) a b = omega (arith, a .no-lower (suc k) (b .applies (omega arith)), b .no-lower (suc j) (a .applies (omega arith)))
+
+pub at-least-3 : {m : Mesh} {j : ℕ} → Applies m j → 3 ≤ j
 at-least-3 (out-of-range k l f) = omega arith
 at-least-3 (misnames i l f) = omega arith
 at-least-3 (occurs-twice e h) = omega arith
 at-least-3 (not-above i l f) = omega arith
 at-least-3 (in-none z l f) = omega arith
 
-at-most-7 : {m : Mesh} {j : ℕ} → Applies m j → j ≤ 7
+pub at-most-7 : {m : Mesh} {j : ℕ} → Applies m j → j ≤ 7
 at-most-7 (out-of-range k l f) = omega arith
 at-most-7 (misnames i l f) = omega arith
 at-most-7 (occurs-twice e h) = omega arith
@@ -57,7 +65,7 @@ at-most-7 (in-none z l f) = omega arith
 -- ---- what is found applies
 
 module _ (m : Mesh) where
-  found-3 : (i : ℕ) → firstOutside m ≡ At i → Applies m 3
+  pub found-3 : (i : ℕ) → firstOutside m ≡ At i → Applies m 3
   found-3 i e = let h = first-3 m i e in out-of-range i (h .below) (h .at-fault)
 
   found-4 : (i : ℕ) → firstMisnamed m ≡ At i → Applies m 4
@@ -75,7 +83,7 @@ module _ (m : Mesh) where
 -- ---- where a fact holds, its number does not apply
 
 module _ {m : Mesh} where
-  not-3 : All NodeInRange (m .nodes) → ¬ Applies m 3
+  pub not-3 : All NodeInRange (m .nodes) → ¬ Applies m 3
   not-3 h (out-of-range k l f) = f (All-getD h k origin l)
 
   not-4 : All (Named (length (m .nodes))) (m .tris) → ¬ Applies m 4
@@ -90,8 +98,23 @@ module _ {m : Mesh} where
   not-7 : ((z : ℕ) → z < length (m .nodes) → 1 ≤ count (holdsNode z) (m .tris)) → ¬ Applies m 7
   not-7 h (in-none z l f) = omega (arith, h z l)
 
-none-from-8 : (m : Mesh) → LowestFrom m 8 0
+none-from-8 : (m : Mesh) → LowestFrom (Applies m) 8 0
 none-from-8 m = record { applies = λ h. absurd (omega arith); no-lower = λ j l a. absurd (omega (arith, at-most-7 a)) }
+
+-- 4 to 7, where what applies of them is what applies to the mesh
+pub links-4-7 : (m : Mesh) (A : ℕ → Type 0) → ((k : ℕ) → Applies m k → A k) → ((k : ℕ) → 4 ≤ k → k ≤ 7 → A k → Applies m k) → (rest : Fault) →
+    LowestFrom A 8 (rest .number) → LowestFrom A 4 (from4 m rest .number)
+links-4-7 m A there back rest later =
+    link A 4 (firstMisnamed m) _ (omega arith) (λ i e. there 4 (found-4 m i e)) λ e4. (
+      (λ a. not-4 (none-4 m e4) (back 4 (omega arith) (omega arith) a)),
+      link A 5 (firstRepeat m) _ (omega arith) (λ i e. there 5 (found-5 m i e)) λ e5. (
+        (λ a. not-5 (none-5 m (none-4 m e4) e5) (back 5 (omega arith) (omega arith) a)),
+        link A 6 (firstFlat m) _ (omega arith) (λ i e. there 6 (found-6 m i e)) λ e6. (
+          (λ a. not-6 (none-6 m e6) (back 6 (omega arith) (omega arith) a)),
+          link A 7 (firstUnused m) _ (omega arith) (λ i e. there 7 (found-7 m i e)) λ e7. ((λ a. not-7 (none-7 m e7) (back 7 (omega arith) (omega arith) a)), later),
+        ),
+      ),
+    )
 
 -- ---- the theorems
 
@@ -100,32 +123,16 @@ pub refusal-lowest : (m : Mesh) → Lowest m (refusal m)
 unfolding refusal faultOf
 refusal-lowest m = record { applies = whole .applies; no-lower = λ j a. whole .no-lower j (at-least-3 a) a }
   where
-    whole : LowestFrom m 3 (faultOf m .number)
+    whole : LowestFrom (Applies m) 3 (faultOf m .number)
     whole =
-        link m 3 (firstOutside m) _ (omega arith) (found-3 m) λ e3. (
+        link (Applies m) 3 (firstOutside m) _ (omega arith) (found-3 m) λ e3. (
           not-3 (none-3 m e3),
-          link m 4 (firstMisnamed m) _ (omega arith) (found-4 m) λ e4. (
-            not-4 (none-4 m e4),
-            link m 5 (firstRepeat m) _ (omega arith) (found-5 m) λ e5. (
-              not-5 (none-5 m (none-4 m e4) e5),
-              link m 6 (firstFlat m) _ (omega arith) (found-6 m) λ e6. (
-                not-6 (none-6 m e6),
-                link m 7 (firstUnused m) _ (omega arith) (found-7 m) λ e7. (not-7 (none-7 m e7), none-from-8 m),
-              ),
-            ),
-          ),
+          links-4-7 m (Applies m) (λ k a. a) (λ k l h a. a) (fault 0 0) (none-from-8 m),
         )
-
--- one number is the lowest
-pub lowest-one : {m : Mesh} (j k : ℕ) → Lowest m j → Lowest m k → j ≡ k
-lowest-one zero zero a b = refl
-lowest-one zero (suc k) a b = absurd (omega (arith, a .no-lower (suc k) (b .applies (omega arith))))
-lowest-one (suc j) zero a b = absurd (omega (arith, b .no-lower (suc j) (a .applies (omega arith))))
-lowest-one (suc j) (suc k) a b = omega (arith, a .no-lower (suc k) (b .applies (omega arith)), b .no-lower (suc j) (a .applies (omega arith)))
 
 -- EACH NUMBER IS GIVEN EXACTLY WHEN 01'S TABLE SAYS: 3 to 7 when it is the lowest that applies, 0 when none does.
 pub refusal-exact : (m : Mesh) (k : ℕ) → (refusal m ≡ k) ↔ Lowest m k
-refusal-exact m k = (λ e. subst (Lowest m) e (refusal-lowest m), λ l. lowest-one (refusal m) k (refusal-lowest m) l)
+refusal-exact m k = (λ e. subst (Lowest m) e (refusal-lowest m), λ l. lowest-one (Applies m) (refusal m) k (refusal-lowest m) l)
 
 pub applies-to-7 : (m : Mesh) (k : ℕ) → refusal m ≡ k → k ≤ 7
 applies-to-7 m zero e = omega arith
@@ -145,7 +152,7 @@ lawful-none {m} law = record { applies = λ h. absurd (omega arith); no-lower = 
     go (in-none z l f) = omega (arith, law .used z l)
 
 pub lawful-refusal : (m : Mesh) → Lawful m → refusal m ≡ 0
-lawful-refusal m law = lowest-one (refusal m) 0 (refusal-lowest m) (lawful-none law)
+lawful-refusal m law = lowest-one (Applies m) (refusal m) 0 (refusal-lowest m) (lawful-none law)
 
 none-yet : (k : ℕ) (f : Found) (rest : Fault) → 0 < k → orLater k f rest .number ≡ 0 → (f ≡ Nothing) × (rest .number ≡ 0)
 none-yet k (At i) rest h e = absurd (omega arith)

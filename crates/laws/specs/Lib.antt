@@ -23,7 +23,9 @@ pub mod Without
 pub mod Coarsen
 pub mod Restore
 pub mod Good
+pub mod PlaceOnly
 pub mod CoarsenCalls
+pub mod Setting
 pub mod EdgeArrow
 pub mod TableMesh
 pub mod CallLaw

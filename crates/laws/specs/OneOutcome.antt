@@ -7,7 +7,8 @@ use lib.IntN.{ℤ}
 use Rattle.meaning.specs.declared.Answer.{Answer}
 use Rattle.meaning.specs.Tables.{Given, Outcome, outcome, answer}
 use Rattle.meaning.specs.Split.{Way}
-use Rattle.meaning.specs.Calls.{checkOut, refineOut, coarsenOut, restoreOut}
+use Rattle.meaning.specs.declared.Correction.{Correction}
+use Rattle.meaning.specs.Calls.{checkOut, refineOut, coarsenOut, restoreOut, setOut}
 
 -- two runs of a call that was given the same, and that meets its contract in both
 pub one-outcome : {given-to : Outcome} {a b : Answer} {ns ns′ : List ℤ} {rs rs′ s s′ : List ℕ} →
@@ -34,6 +35,10 @@ coarsen-one g n0 marks = one-outcome
 pub restore-one : (g : Given) (n0 : ℕ) {a b : Answer} {ns ns′ : List ℤ} {rs rs′ s s′ : List ℕ} →
     outcome a ns rs s ≡ restoreOut g n0 → outcome b ns′ rs′ s′ ≡ restoreOut g n0 → (a ≡ b) × (ns ≡ ns′) × (rs ≡ rs′) × (s ≡ s′)
 restore-one g n0 = one-outcome
+
+pub set-one : (g : Given) (n0 z : ℕ) (d : Correction) {a b : Answer} {ns ns′ : List ℤ} {rs rs′ s s′ : List ℕ} →
+    outcome a ns rs s ≡ setOut g n0 z d → outcome b ns′ rs′ s′ ≡ setOut g n0 z d → (a ≡ b) × (ns ≡ ns′) × (rs ≡ rs′) × (s ≡ s′)
+set-one g n0 z d = one-outcome
 
 -- ---- the exported calls, whose answers come apart: r is the number returned; n, t, p and c are what the references hold after the call
 
@@ -71,3 +76,8 @@ pub exported-restore-one : (g : Given) (n0 : ℕ) {r r′ n n′ t t′ p p′ c
     outcome (answer r n t p c) ns rs s ≡ restoreOut g n0 → outcome (answer r′ n′ t′ p′ c′) ns′ rs′ s′ ≡ restoreOut g n0 →
     (r ≡ r′) × (n ≡ n′) × (t ≡ t′) × (p ≡ p′) × (c ≡ c′) × (ns ≡ ns′) × (rs ≡ rs′) × (s ≡ s′)
 exported-restore-one g n0 = one-seen
+
+pub exported-set-one : (g : Given) (n0 z : ℕ) (d : Correction) {r r′ c c′ : ℕ} {ns ns′ : List ℤ} {rs rs′ s s′ : List ℕ} →
+    outcome (answer r (g .n) (g .t) 0 c) ns rs s ≡ setOut g n0 z d → outcome (answer r′ (g .n) (g .t) 0 c′) ns′ rs′ s′ ≡ setOut g n0 z d →
+    (r ≡ r′) × (c ≡ c′) × (ns ≡ ns′) × (rs ≡ rs′) × (s ≡ s′)
+exported-set-one g n0 z d p q = let (r, n, t, k, c, ns, rs, s) = one-seen p q in (r, c, ns, rs, s)

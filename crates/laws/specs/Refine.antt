@@ -267,7 +267,7 @@ module _ (w : Way) (room : Room) (m : Mesh) (marks : List ℕ) where
         where
           go : {k : ℕ} → RefineSays k → k ≢ 0 → (k ≡ 8) ⊎ (k ≡ 9)
           go (ill-marked f) n = absurd (f g)
-          go (unlawful k g above l) n = absurd (n (lowest-one k 0 l (refusal-exact m 0 .0 (lawful-refusal m law))))
+          go (unlawful k g above l) n = absurd (n (lowest-one (Applies m) k 0 l (refusal-exact m 0 .0 (lawful-refusal m law))))
           go (odd-sum g law e i o) n = inl refl
           go (no-room g law h t) n = inr refl
           go (no-fault g law h f) n = absurd (n refl)

@@ -1,11 +1,13 @@
 -- W5: setting the correction of one node: the mesh after it, and when each number is given, as named facts and as what is computed.
 -- Assumes nothing.
-use mathlib.Core.Bool.{Bool}
+use mathlib.Core.Bool.{Bool, true, false}
 use mathlib.Core.List.{List}
 use Prim.Native.Nat.{ℕ, _≤_, _<_}
 use lib.Dec.{leb, ltb}
 use lib.ListN.{length, set}
-use Rattle.lists.specs.Lists.{cases, All}
+use Rattle.lists.specs.declared.Found.{Found}
+use Rattle.lists.specs.declared.Found.the-variants.{At, Nothing}
+use Rattle.lists.specs.Lists.{All}
 use Rattle.meaning.specs.declared.Fault.{Fault}
 use Rattle.meaning.specs.Mesh.{Correction, Mesh, node, at, mesh}
 use Rattle.meaning.specs.Lawful.{InBounds, NodeInRange, Applies, LowestOf, Names, beyond, firstOutside, fault, orLater, from4}
@@ -38,13 +40,21 @@ pub data SetNames (m : Mesh) (z : ℕ) (c : Correction) : ℕ → ℕ → Type 0
 
 -- ---- as the number and the node or row named
 
+-- i, if a test says yes
+abbrev pub foundIf : Bool → ℕ → Found
+foundIf true i = At i
+foundIf false i = Nothing
+
+abbrev pub orFound : Found → Found → Found
+orFound (At i) g = At i
+orFound Nothing g = g
+
 -- "a value out of range, stored or to be set, is refused as 3 (.. the lowest node at fault in the table, else the node given)";
 -- "a base node is refused as 13, a number not below n as 15, after 1 and 3 to 7"
 unfoldable pub setFault : ℕ → Mesh → ℕ → Correction → Fault
 setFault n0 m z c =
-    orLater 3 (firstOutside m)
-    (cases (beyond c) (fault 3 z)
+    orLater 3 (orFound (firstOutside m) (foundIf (beyond c) z))
     (from4 m
-    (cases (ltb z n0) (fault 13 0)
-    (cases (leb (length (m .nodes)) z) (fault 15 0)
-    (fault 0 0)))))
+    (orLater 13 (foundIf (ltb z n0) 0)
+    (orLater 15 (foundIf (leb (length (m .nodes)) z) 0)
+    (fault 0 0))))

@@ -1,4 +1,4 @@
--- Midpoints by the tables: which split edge has none, and a table in which they get their places. Assumes nothing.
+-- Midpoints by the tables: which split edge has none, and a table in which they become nodes. Assumes nothing.
 use mathlib.Core.Bool.{Bool, not, _&&_, _||_}
 use mathlib.Core.List.{List}
 use Prim.Native.Nat.{ℕ, _+_, _*_, _≤_}
@@ -6,24 +6,25 @@ use lib.Dec.{eqb}
 use lib.IntN.{ℤ, natAbs, _+ℤ_}
 use lib.ListN.{length}
 use Rattle.lists.specs.Lists.{cases}
+use Rattle.meaning.specs.declared.Node.{Node}
 use Rattle.meaning.specs.declared.Place.{Place}
 use Rattle.meaning.specs.declared.Tri.{Tri}
-use Rattle.meaning.specs.Mesh.{place}
-use Rattle.meaning.specs.Lawful.{InRange}
-use Rattle.meaning.specs.Split.{even, half}
-use Rattle.meaning.specs.Tables.{placeAt, rowAt}
-use Rattle.tables.specs.Put.{setPlace}
+use Rattle.meaning.specs.Mesh.{place, node}
+use Rattle.meaning.specs.Lawful.{NodeInRange}
+use Rattle.meaning.specs.Split.{even, half, mean}
+use Rattle.meaning.specs.Tables.{nodeAt, placeAt, rowAt}
+use Rattle.tables.specs.Put.{setNode}
 use Rattle.notes.specs.declared.Note.{Note}
 use Rattle.notes.specs.Notes.{noteAt, ownM, ownU, ownV}
 
--- a coordinate in its range
-pub record Near (x : ℤ) : Type 0 where
-  pub near : natAbs x ≤ 1_048_576
+-- x is from −m to m
+pub record Near (m : ℕ) (x : ℤ) : Type 0 where
+  pub near : natAbs x ≤ m
 
 -- node k is in the table, and in range
 pub record Stands (nodes : List ℤ) (k : ℕ) : Type 0 where
-  pub inside : 2 * k + 2 ≤ length nodes
-  pub range : InRange (placeAt nodes k)
+  pub inside : 4 * k + 4 ≤ length nodes
+  pub range : NodeInRange (nodeAt nodes k)
 
 -- so are the corners of a row
 pub record Standing (nodes : List ℤ) (w : Tri) : Type 0 where
@@ -38,6 +39,10 @@ evenBetween a b = even (a .x +ℤ b .x) && even (a .y +ℤ b .y)
 unfoldable pub middleOf : Place → Place → Place
 middleOf a b = place (half (a .x +ℤ b .x)) (half (a .y +ℤ b .y))
 
+-- the node of an edge between two nodes
+unfoldable pub between : Node → Node → Node
+between a b = node (middleOf (a .place) (b .place)) (mean (a .correction) (b .correction))
+
 -- ---- 8
 
 -- an edge x–y that is split, where on is not 0, and has no exact midpoint
@@ -51,11 +56,11 @@ oddRow nodes w c = oddSplit nodes (c .m) (w .q) (w .r) || oddSplit nodes (c .u) 
 unfoldable pub oddAt : List ℤ → List ℕ → List ℕ → ℕ → Bool
 oddAt nodes l s i = oddRow nodes (rowAt l i) (noteAt s i)
 
--- ---- the places
+-- ---- the new nodes
 
--- the midpoint of x–y becomes node k, where the edge is first met
+-- the node of x–y becomes node k, where the edge is first met
 unfoldable pub placeEdge : ℕ → ℕ → ℕ → ℕ → List ℤ → List ℤ
-placeEdge fst k x y nodes = cases (eqb fst 1) (setPlace nodes k (middleOf (placeAt nodes x) (placeAt nodes y))) nodes
+placeEdge fst k x y nodes = cases (eqb fst 1) (setNode nodes k (between (nodeAt nodes x) (nodeAt nodes y))) nodes
 
 unfoldable pub placeThree : ℕ → Tri → Note → List ℤ → List ℤ
 placeThree n w c nodes =

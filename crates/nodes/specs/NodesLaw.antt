@@ -2,26 +2,34 @@
 use mathlib.Core.Path.{_≡_, refl, sym, ap, _∙_, subst}
 use mathlib.Core.Bool.{Bool, true, false, not, _&&_, _||_}
 use mathlib.Core.List.{List}
-use Prim.Native.Nat.{ℕ, suc, _*_, _≤_, _/_}
+use Prim.Native.Nat.{ℕ, suc, _+_, _*_, _≤_, _/_}
 use native.Mathlib.Omega.{arith}
 use native.Mathlib.Decide.{ℕ-discrete}
 use borrow.Author.Tests.{eq-eqb, ne-eqb}
 use lib.Dec.{eqb}
-use lib.IntN.{ℤ, pos, negsuc, natAbs, _+ℤ_}
-use Rattle.whole.specs.Bound.{abs-add, abs-neg}
+use lib.ListN.{length}
+use lib.IntN.{ℤ, pos, negsuc, natAbs, _+ℤ_, _-ℤ_}
+use lib.Signed.{ltZ, quotZ, _≤ℤ_}
+use Rattle.whole.specs.Bound.{abs-add, abs-neg, absℤ}
+use Rattle.whole.specs.Diff.{onℤ}
+use Rattle.whole.specs.Half.{half-below}
+use Rattle.whole.specs.Tests.{tests}
 use Rattle.lists.specs.Lists.{cases}
+use Rattle.meaning.specs.declared.Correction.{Correction}
+use Rattle.meaning.specs.declared.Node.{Node}
 use Rattle.meaning.specs.declared.Place.{Place}
 use Rattle.meaning.specs.declared.Tri.{Tri}
-use Rattle.meaning.specs.Mesh.{place}
-use Rattle.meaning.specs.Lawful.{InRange}
-use Rattle.meaning.specs.Split.{even, half}
-use Rattle.meaning.specs.Tables.{placeAt, rowAt}
-use Rattle.tables.specs.Put.{setPlace}
+use Rattle.meaning.specs.Mesh.{place, correction, node}
+use Rattle.meaning.specs.Lawful.{InRange, InBounds, NodeInRange}
+use Rattle.meaning.specs.Split.{even, half, halfDown, mean}
+use Rattle.meaning.specs.Tables.{nodeAt, placeAt, rowAt}
+use Rattle.laws.specs.Mean.{mean-bounds}
+use Rattle.tables.specs.Put.{setNode}
 use Rattle.tables.specs.PutLaw.{nodes-table}
 use Rattle.notes.specs.declared.Note.{Note}
 use Rattle.notes.specs.Notes.{noteAt, ownM, ownU, ownV}
 use Rattle.notes.specs.Met.{after}
-use Rattle.nodes.specs.Nodes.{Stands, Standing, evenBetween, middleOf, oddSplit, oddRow, oddAt, placeEdge, placeThree, placeRow}
+use Rattle.nodes.specs.Nodes.{Near, Stands, Standing, evenBetween, middleOf, between, oddSplit, oddRow, oddAt, placeEdge, placeThree, placeRow}
 
 -- ---- midpoints
 
@@ -45,29 +53,79 @@ middle-range a b p q = record {
   y-near = half-near (a .y +ℤ b .y) (abs-add (a .y) (b .y) (p .y-near) (q .y-near));
 }
 
+-- ---- means
+
+-- the code's two ways to a half
+pub half-down-below : (z : ℤ) → ltZ z (pos 0) ≡ true → quotZ (z -ℤ pos 1) (pos 2) ≡ halfDown z
+half-down-below (pos n) e = absurd (omega (arith, onℤ, tests))
+half-down-below (negsuc n) e = half-below n
+
+pub half-down-from : (z : ℤ) → ltZ z (pos 0) ≡ false → quotZ z (pos 2) ≡ halfDown z
+half-down-from (pos n) e = refl
+half-down-from (negsuc n) e = absurd (omega (arith, onℤ, tests))
+
+-- the parts of a correction in its range
+bounded-near : (z : ℤ) → negsuc 32_767 ≤ℤ z → z ≤ℤ pos 32_767 → Near 32_768 z
+bounded-near z a b = record { near = omega (arith, onℤ, absℤ z) }
+
+pub dx-near : (c : Correction) → InBounds c → Near 32_768 (c .dx)
+dx-near c b = bounded-near (c .dx) (b .dx-from) (b .dx-to)
+
+pub dy-near : (c : Correction) → InBounds c → Near 32_768 (c .dy)
+dy-near c b = bounded-near (c .dy) (b .dy-from) (b .dy-to)
+
+pub sum-near : (x y : ℤ) → Near 32_768 x → Near 32_768 y → Near 65_536 (x +ℤ y)
+sum-near x y a b = record { near = abs-add x y (a .near) (b .near) }
+
+pub mean-made : (c d : Correction) (x y : ℤ) → x ≡ halfDown (c .dx +ℤ d .dx) → y ≡ halfDown (c .dy +ℤ d .dy) → correction x y ≡ mean c d
+mean-made c d x y p q = rw (p, q)
+
+pub between-made : (a b : Node) (p : Place) (c : Correction) → p ≡ middleOf (a .place) (b .place) → c ≡ mean (a .correction) (b .correction) → node p c ≡ between a b
+unfolding between
+between-made a b p c e d = rw (e, d)
+
+-- the node between two nodes in range is in range
+between-range : (a b : Node) → NodeInRange a → NodeInRange b → NodeInRange (between a b)
+unfolding between
+between-range a b p q = record {
+  place-in = middle-range (a .place) (b .place) (p .place-in) (q .place-in);
+  correction-in = mean-bounds (a .correction) (b .correction) (p .correction-in) (q .correction-in);
+}
+
 -- ---- corners
 
 pub range-of : (nodes : List ℤ) (x : ℕ) (a : Place) → a ≡ placeAt nodes x → Stands nodes x → InRange a
-range-of nodes x a e c = subst InRange (sym e) (c .range)
+range-of nodes x a e c = subst InRange (sym e) (c .range .place-in)
+
+pub node-range-of : (nodes : List ℤ) (x : ℕ) (a : Node) → a ≡ nodeAt nodes x → Stands nodes x → NodeInRange a
+node-range-of nodes x a e c = subst NodeInRange (sym e) (c .range)
 
 pub standing-of : (nodes : List ℤ) (l : List ℕ) (i : ℕ) (w : Tri) → w ≡ rowAt l i → Standing nodes (rowAt l i) → Standing nodes w
 standing-of nodes l i w e c = subst (Standing nodes) (sym e) c
 
--- a place in range that is put keeps every corner
-stands-put : (nodes : List ℤ) (k j : ℕ) (a : Place) → InRange a → Stands nodes j → Stands (setPlace nodes k a) j
+-- a node in range that is put keeps every corner
+stands-put : (nodes : List ℤ) (k j : ℕ) (a : Node) → NodeInRange a → Stands nodes j → Stands (setNode nodes k a) j
 stands-put nodes k j a r c = record { inside = rw (nodes-table .long nodes k a) (c .inside); range = go (ℕ-discrete j k) }
   where
-    go : Dec (j ≡ k) → InRange (placeAt (setPlace nodes k a) j)
-    go (yes e) = subst InRange (sym (ap (placeAt (setPlace nodes k a)) e ∙ nodes-table .same nodes k a (let d = c .inside in omega arith))) r
-    go (no o) = subst InRange (sym (nodes-table .other nodes k j a o)) (c .range)
+    go : Dec (j ≡ k) → NodeInRange (nodeAt (setNode nodes k a) j)
+    go (yes e) = subst NodeInRange (sym (ap (nodeAt (setNode nodes k a)) e ∙ nodes-table .same nodes k a (let d = c .inside in omega arith))) r
+    go (no o) = subst NodeInRange (sym (nodes-table .other nodes k j a o)) (c .range)
 
 edge-stands : (nodes : List ℤ) (fst k x y j : ℕ) → Stands nodes x → Stands nodes y → Stands nodes j → Stands (placeEdge fst k x y nodes) j
 unfolding placeEdge
 edge-stands nodes fst k x y j p q c = go (eqb fst 1)
   where
-    go : (b : Bool) → Stands (cases b (setPlace nodes k (middleOf (placeAt nodes x) (placeAt nodes y))) nodes) j
-    go true = stands-put nodes k j (middleOf (placeAt nodes x) (placeAt nodes y)) (middle-range (placeAt nodes x) (placeAt nodes y) (p .range) (q .range)) c
+    go : (b : Bool) → Stands (cases b (setNode nodes k (between (nodeAt nodes x) (nodeAt nodes y))) nodes) j
+    go true = stands-put nodes k j (between (nodeAt nodes x) (nodeAt nodes y)) (between-range (nodeAt nodes x) (nodeAt nodes y) (p .range) (q .range)) c
     go false = c
+
+pub edge-long : (nodes nodes′ : List ℤ) (fst k x y : ℕ) → nodes′ ≡ placeEdge fst k x y nodes → length nodes′ ≡ length nodes
+unfolding placeEdge
+edge-long nodes nodes′ fst k x y e = ap length e ∙ go (eqb fst 1)
+  where
+    go : (b : Bool) → length (cases b (setNode nodes k (between (nodeAt nodes x) (nodeAt nodes y))) nodes) ≡ length nodes
+    go true = nodes-table .long nodes k (between (nodeAt nodes x) (nodeAt nodes y))
+    go false = refl
 
 pub edge-standing : (nodes nodes′ : List ℤ) (fst k x y : ℕ) (w : Tri) → nodes′ ≡ placeEdge fst k x y nodes → Stands nodes x → Stands nodes y → Standing nodes w → Standing nodes′ w
 edge-standing nodes nodes′ fst k x y w e p q c =
@@ -97,9 +155,9 @@ pub odd-row-is : (nodes : List ℤ) (l s : List ℕ) (i : ℕ) (w : Tri) (c : No
 unfolding oddAt oddRow
 odd-row-is nodes l s i w c a b d p q x y z = rw (← p, ← q, x, y, z)
 
--- ---- the places
+-- ---- the new nodes
 
-pub place-yes : (nodes nodes′ : List ℤ) (fst k x y : ℕ) (a b m : Place) → fst ≡ 1 → a ≡ placeAt nodes x → b ≡ placeAt nodes y → m ≡ middleOf a b → nodes′ ≡ setPlace nodes k m →
+pub place-yes : (nodes nodes′ : List ℤ) (fst k x y : ℕ) (a b m : Node) → fst ≡ 1 → a ≡ nodeAt nodes x → b ≡ nodeAt nodes y → m ≡ between a b → nodes′ ≡ setNode nodes k m →
     nodes′ ≡ placeEdge fst k x y nodes
 unfolding placeEdge
 place-yes nodes nodes′ fst k x y a b m e p q r f = rw (eq-eqb fst 1 e, ← p, ← q, ← r) f
@@ -123,5 +181,9 @@ pub row-is : (n : ℕ) (l s : List ℕ) (i : ℕ) (nodes m : List ℤ) (w : Tri)
 unfolding placeRow
 row-is n l s i nodes m w c p q e = rw (← p, ← q) e
 
-pub room-of : (n : ℕ) (s : List ℕ) (i len : ℕ) (c : Note) → c ≡ noteAt s i → 2 * after n (noteAt s i) ≤ len → 2 * after n c ≤ len
+-- room for all new nodes of a row is room for its last
+pub room-v : (n a len len′ : ℕ) (c : Note) → a ≡ ownV n c → len′ ≡ len → 4 * after n c ≤ len → 4 * (a + c .fv) ≤ len′
+room-v n a len len′ c e d h = omega arith
+
+pub room-of : (n : ℕ) (s : List ℕ) (i len : ℕ) (c : Note) → c ≡ noteAt s i → 4 * after n (noteAt s i) ≤ len → 4 * after n c ≤ len
 room-of n s i len c e h = rw e h

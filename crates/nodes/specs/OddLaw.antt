@@ -15,10 +15,10 @@ use Rattle.lists.specs.SearchLaw.{or-three, lowest-any}
 use Rattle.lists.specs.AnyLaw.{any-only, any-not, any-once, any-joined}
 use Rattle.lists.specs.Tally.{bit}
 use Rattle.meaning.specs.declared.Tri.{Tri}
-use Rattle.meaning.specs.Mesh.{Mesh, Edge, at, edge, edges, base, sameEdge}
-use Rattle.meaning.specs.Lawful.{InRange}
+use Rattle.meaning.specs.Mesh.{Mesh, Edge, nodeOf, edge, edges, base, sameEdge}
+use Rattle.meaning.specs.Lawful.{NodeInRange}
 use Rattle.meaning.specs.Split.{halves}
-use Rattle.meaning.specs.Tables.{placeAt, rowAt}
+use Rattle.meaning.specs.Tables.{nodeAt, rowAt}
 use Rattle.tables.specs.Sized.{Corners}
 use Rattle.notes.specs.declared.Note.{Note}
 use Rattle.notes.specs.Notes.{noteAt}
@@ -27,7 +27,7 @@ use Rattle.nodes.specs.Nodes.{Stands, Standing, oddSplit, oddRow, oddAt}
 use Rattle.nodes.specs.PlacedLaw.{halves-is}
 
 -- the corners of a row that names nodes below n, all in range
-pub standing-at : (nodes : List ℤ) (n : ℕ) (w : Tri) → 2 * n ≤ length nodes → ((k : ℕ) → k < n → InRange (placeAt nodes k)) → Corners n w → Standing nodes w
+pub standing-at : (nodes : List ℤ) (n : ℕ) (w : Tri) → 4 * n ≤ length nodes → ((k : ℕ) → k < n → NodeInRange (nodeAt nodes k)) → Corners n w → Standing nodes w
 standing-at nodes n w b r c =
     let on : (k : ℕ) → k < n → Stands nodes k = λ k h. record { inside = omega arith; range = r k h } in
     record { at-p = on (w .p) (c .p-in); at-q = on (w .q) (c .q-in); at-r = on (w .r) (c .r-in) }
@@ -36,8 +36,8 @@ bit-on : (b : Bool) → not (eqb (bit b) 0) ≡ b
 bit-on true = refl
 bit-on false = refl
 
--- m: a mesh whose first n places are the table's; f: which edges are split
-module _ (nodes : List ℤ) (n : ℕ) (m : Mesh) (same : (k : ℕ) → k < n → at m k ≡ placeAt nodes k) (f : Edge → Bool) where
+-- m: a mesh whose first n nodes are the table's; f: which edges are split
+module _ (nodes : List ℤ) (n : ℕ) (m : Mesh) (same : (k : ℕ) → k < n → nodeOf m k ≡ nodeAt nodes k) (f : Edge → Bool) where
   abbrev bad : Edge → Bool
   bad e = f e && not (halves m e)
 

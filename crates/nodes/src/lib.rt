@@ -1,16 +1,18 @@
-// The new nodes: whether a split edge has an exact midpoint, and the places of the midpoints in their table.
+// The new nodes: whether a split edge has an exact midpoint, and the nodes of the split edges in their table.
 ghost use mathlib.Core.Path.{_≡_};
 ghost use Prim.Native.Nat.{ℕ, _+_, _*_, _≤_, _<_};
 ghost use lib.ListN.{length};
 ghost use lib.IntN.{_+ℤ_};
 ghost use Rattle.lists.specs.Search.{lowest, iter};
-ghost use Rattle.meaning.specs.Lawful.{InRange};
-ghost use Rattle.meaning.specs.Split.{even, half};
+ghost use Rattle.meaning.specs.Lawful.{InRange, InBounds, NodeInRange};
+ghost use Rattle.meaning.specs.Split.{even, half, halfDown, mean};
 ghost use Rattle.meaning.specs.Tables.{rowAt};
 ghost use Rattle.notes.specs.Notes.{Short, noteAt};
 ghost use Rattle.notes.specs.Met.{after};
-ghost use Rattle.nodes.specs.Nodes.{Near, Stands, Standing, evenBetween, middleOf, oddSplit, oddAt, placeEdge, placeThree, placeRow};
+ghost use Rattle.nodes.specs.Nodes.{Near, Stands, Standing, evenBetween, middleOf, between, oddSplit, oddAt, placeEdge, placeThree, placeRow};
 use lists::Found;
+use meaning::Correction;
+use meaning::Node;
 use meaning::Place;
 use meaning::Tri;
 use notes::Note;
@@ -19,7 +21,7 @@ use notes::Note;
 
 // The sum is even. The remainder of an odd sum is 1 or -1.
 fn even_sum(a: i32, b: i32) -> bool
-    requires { ⌜ Near a × Near b ⌝ }
+    requires { ⌜ Near 1_048_576 a × Near 1_048_576 b ⌝ }
     ensures { λ r. ⌜ r ≡ even (a +ℤ b) ⌝ }
 {
     if (a + b) % 2 == 0 {
@@ -29,7 +31,7 @@ fn even_sum(a: i32, b: i32) -> bool
 }
 
 fn half_sum(a: i32, b: i32) -> i32
-    requires { ⌜ Near a × Near b ⌝ }
+    requires { ⌜ Near 1_048_576 a × Near 1_048_576 b ⌝ }
     ensures { λ r. ⌜ r ≡ half (a +ℤ b) ⌝ }
 {
     (a + b) / 2
@@ -51,6 +53,46 @@ fn middle(a: Place, b: Place) -> Place
     let x = half_sum(a.x, b.x);
     let y = half_sum(a.y, b.y);
     Place { x: x, y: y }
+}
+
+// ---- means
+
+// Half, rounded down: a quotient is rounded toward 0.
+fn half_down(s: i32) -> i32
+    requires { ⌜ Near 65_536 s ⌝ }
+    ensures { λ r. ⌜ r ≡ halfDown s ⌝ }
+{
+    if s < 0 {
+        return (s - 1) / 2;
+    }
+    s / 2
+}
+
+fn mean_of(a: i32, b: i32) -> i32
+    requires { ⌜ Near 32_768 a × Near 32_768 b ⌝ }
+    ensures { λ r. ⌜ r ≡ halfDown (a +ℤ b) ⌝ }
+{
+    half_down(a + b)
+}
+
+// W5: the mean of two corrections, rounded down.
+fn mean(c: Correction, d: Correction) -> Correction
+    requires { ⌜ InBounds c × InBounds d ⌝ }
+    ensures { λ r. ⌜ r ≡ mean c d ⌝ }
+{
+    let dx = mean_of(c.dx, d.dx);
+    let dy = mean_of(c.dy, d.dy);
+    Correction { dx: dx, dy: dy }
+}
+
+// The node of a split edge: in the middle of its ends, with the mean of their corrections.
+fn between(a: Node, b: Node) -> Node
+    requires { ⌜ NodeInRange a × NodeInRange b ⌝ }
+    ensures { λ r. ⌜ r ≡ between a b ⌝ }
+{
+    let place = middle(a.place, b.place);
+    let correction = mean(a.correction, b.correction);
+    Node { place, correction }
 }
 
 // ---- 8: an edge to be split has an odd sum of x or of y
@@ -95,27 +137,27 @@ pub fn find_odd(nodes: &[i32], rows: &[u32], scratch: &[u32], t: usize) -> Found
     Found::Nothing
 }
 
-// ---- the places
+// ---- the new nodes
 
-// If the edge x-y is first met here, its midpoint becomes node `at`.
+// If the edge x-y is first met here, its node becomes node `at`.
 fn place_edge(nodes: &mut [i32], first: u32, at: u32, x: u32, y: u32)
     requires { ⌜ Stands (now nodes) x × Stands (now nodes) y ⌝ }
-    requires { ⌜ 2 * (at + first) ≤ length (now nodes) ⌝ }
+    requires { ⌜ 4 * (at + first) ≤ length (now nodes) ⌝ }
     ensures { λ _. ⌜ now (nodes .exit) ≡ placeEdge first at x y (now (nodes .entry)) ⌝ }
 {
     if first != 1 {
         return;
     }
-    let a = tables::corner(nodes, x);
-    let b = tables::corner(nodes, y);
-    tables::put_place(nodes, at as usize, middle(a, b));
+    let a = tables::node_at(nodes, x as usize);
+    let b = tables::node_at(nodes, y as usize);
+    tables::put_node(nodes, at as usize, between(a, b));
 }
 
 fn place_three(nodes: &mut [i32], w: Tri, c: Note, n: u32)
     requires { ⌜ n ≤ 65_536 ⌝ }
     requires { ⌜ Short c ⌝ }
     requires { ⌜ Standing (now nodes) w ⌝ }
-    requires { ⌜ 2 * after n c ≤ length (now nodes) ⌝ }
+    requires { ⌜ 4 * after n c ≤ length (now nodes) ⌝ }
     ensures { λ _. ⌜ now (nodes .exit) ≡ placeThree n w c (now (nodes .entry)) ⌝ }
 {
     place_edge(nodes, c.fm, notes::own_m(n, c), w.q, w.r);
@@ -128,7 +170,7 @@ fn place_row(nodes: &mut [i32], rows: &[u32], scratch: &[u32], n: u32, i: usize)
     requires { ⌜ 3 * i + 3 ≤ length (now rows) ⌝ }
     requires { ⌜ i < length (now scratch) ⌝ }
     requires { ⌜ Standing (now nodes) (rowAt (now rows) i) ⌝ }
-    requires { ⌜ 2 * after n (noteAt (now scratch) i) ≤ length (now nodes) ⌝ }
+    requires { ⌜ 4 * after n (noteAt (now scratch) i) ≤ length (now nodes) ⌝ }
     ensures { λ _. ⌜ now (nodes .exit) ≡ placeRow n (now (rows .entry)) (now (scratch .entry)) i (now (nodes .entry)) ⌝ }
 {
     let w = tables::row_at(rows, i);
@@ -136,13 +178,13 @@ fn place_row(nodes: &mut [i32], rows: &[u32], scratch: &[u32], n: u32, i: usize)
     place_three(nodes, w, c, n);
 }
 
-// Every new node gets its place.
+// Every new node gets its place and its correction.
 pub fn place_nodes(nodes: &mut [i32], rows: &[u32], scratch: &[u32], n: u32, t: usize)
     requires { ⌜ n ≤ 65_536 ⌝ }
     requires { ⌜ 3 * t ≤ length (now rows) ⌝ }
     requires { ⌜ t ≤ length (now scratch) ⌝ }
     requires { ⌜ ((i : ℕ) → i < t → Standing (now nodes) (rowAt (now rows) i)) ⌝ }
-    requires { ⌜ ((i : ℕ) → i < t → 2 * after n (noteAt (now scratch) i) ≤ length (now nodes)) ⌝ }
+    requires { ⌜ ((i : ℕ) → i < t → 4 * after n (noteAt (now scratch) i) ≤ length (now nodes)) ⌝ }
     ensures { λ _. ⌜ now (nodes .exit) ≡ iter (placeRow n (now (rows .entry)) (now (scratch .entry))) 0 t (now (nodes .entry)) ⌝ }
 {
     let mut i = 0;

@@ -1,10 +1,12 @@
-// Coordinates: the range of a place, twice-areas.
+// Nodes in the plane: the ranges of a place and of a correction, twice-areas.
 ghost use mathlib.Core.Path.{_≡_};
 ghost use lib.IntN.{_+ℤ_, _-ℤ_, _*ℤ_};
 ghost use Rattle.meaning.specs.Mesh.{turn};
-ghost use Rattle.meaning.specs.Lawful.{InRange, far, outside};
+ghost use Rattle.meaning.specs.Lawful.{InRange, far, outside, tooLong, beyond, nodeOutside};
 ghost use Rattle.meaning.specs.Good.{sameZ, isMiddle};
 ghost use Rattle.plane.specs.Plane.{Short, Spans, flatTri};
+use meaning::Correction;
+use meaning::Node;
 use meaning::Place;
 
 // From one place to another.
@@ -62,6 +64,34 @@ pub fn outside(a: Place) -> bool
     ensures { λ r. ⌜ r ≡ outside a ⌝ }
 {
     far(a.x) | far(a.y)
+}
+
+fn too_long(x: i32) -> bool
+    ensures { λ r. ⌜ r ≡ tooLong x ⌝ }
+{
+    if x < -32768 {
+        return true;
+    }
+    if x > 32767 {
+        return true;
+    }
+    false
+}
+
+// 3: a part of a correction is outside its range.
+pub fn beyond(c: Correction) -> bool
+    ensures { λ r. ⌜ r ≡ beyond c ⌝ }
+{
+    too_long(c.dx) | too_long(c.dy)
+}
+
+// 3: a node is at fault by its place or by its correction.
+pub fn node_outside(a: Node) -> bool
+    ensures { λ r. ⌜ r ≡ nodeOutside a ⌝ }
+{
+    let place = a.place;
+    let correction = a.correction;
+    outside(place) | beyond(correction)
 }
 
 // z is half of b + c, exactly.

@@ -1,10 +1,10 @@
 -- Halving in ℤ, as the machine does it: `quotZ z 2` rounds toward zero, `remZ z 2` has z's sign; z is even where |z| is.
 use mathlib.Core.Path.{_≡_, refl, ap}
-use Prim.Native.Nat.{ℕ, zero, suc, _*_, _-_, _^_, _<_, _≤_, _/_, _%_}
+use Prim.Native.Nat.{ℕ, zero, suc, _+_, _*_, _-_, _^_, _<_, _≤_, _/_, _%_}
 use native.Mathlib.Nat.{div-le-self}
 use native.Mathlib.Omega.{arith}
 use lib.Dec.{lit≤}
-use lib.IntN.{ℤ, pos, negsuc, negℤ, natAbs, _*ℤ_}
+use lib.IntN.{ℤ, pos, negsuc, negℤ, natAbs, _-ℤ_, _*ℤ_}
 use lib.Signed.{quotZ, remZ}
 use mir.Syntax.{Width, w8, w16, w32, w64, w128}
 use mir.Val.{bits, ofZ}
@@ -25,6 +25,13 @@ neg-two n (suc j) e = rw e
 pub half-even : (z : ℤ) → natAbs z % 2 ≡ 0 → pos 2 *ℤ quotZ z (pos 2) ≡ z
 half-even (pos n) e = ap pos (omega arith)
 half-even (negsuc n) e = neg-two n (suc n / 2) (omega arith)
+
+-- a number below 0, less 1, has for its half what its own half is, rounded down
+neg-suc : (k j : ℕ) → k ≡ suc j → negℤ (pos k) ≡ negsuc j
+neg-suc k j e = rw e
+
+pub half-below : (n : ℕ) → quotZ (negsuc n -ℤ pos 1) (pos 2) ≡ negsuc (n / 2)
+half-below n = neg-suc (suc (suc (n + 0)) / 2) (n / 2) (omega arith)
 
 -- the machine's test, at any width
 two-bits : (w : Width) → 2 ≤ 2 ^ bits w

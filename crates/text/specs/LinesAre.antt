@@ -5,12 +5,12 @@ use mathlib.Core.List.{List, [], _∷_, _++_, map}
 use Prim.Native.Nat.{ℕ, suc, _+_, _-_, _*_, _/_, _%_, _≤_, _<_}
 use native.Mathlib.Nat.{mul-suc}
 use native.Mathlib.Omega.{arith}
-use borrow.Author.Tests.{ltb-true, ltb-false, lt-ltb, le-ltb}
-use lib.Dec.{ltb, leb→le}
+use borrow.Author.Tests.{leb-true, leb-false, ltb-true, ltb-false, lt-ltb, le-ltb}
+use lib.Dec.{leb, ltb, leb→le, le→leb}
 use Prim.Native.String.{String}
 use lib.IntN.{ℤ, pos, negsuc, natAbs}
 use lib.Signed.{_≤ℤ_}
-use lib.ListN.{length, take, drop, length-append}
+use lib.ListN.{length, getD, take, drop, length-append}
 use Rattle.lists.specs.Lists.{joined, cases}
 use Rattle.lists.specs.Search.{items}
 use Rattle.lists.specs.IterLaw.{length-items}
@@ -21,7 +21,7 @@ use Rattle.meaning.specs.declared.Tri.{Tri}
 use Rattle.meaning.specs.Mesh.{place, correction, node, tri}
 use Rattle.meaning.specs.Lawful.{InBounds, NodeInRange}
 use Rattle.meaning.specs.Tables.{answer, nodeAt, rowAt}
-use Rattle.text.specs.DigitsLaw.{worth-digit, worth-letter}
+use Rattle.text.specs.DigitsLaw.{worth-low, worth-digit, worth-between, worth-letter, worth-high}
 use Rattle.text.specs.Digits.{bytes, field, hex, hexDigit, signed, unsigned, number, worth}
 use Rattle.text.specs.Lines.{correctionIn, nodeIn, rowIn, answerLine, nodeLine, rowLine, allLines}
 
@@ -79,6 +79,43 @@ node-length a = refl
 pub row-length : (w : Tri) → length (rowLine w) ≡ 15
 unfolding rowLine hex
 row-length w = refl
+
+-- four digits, whatever they are, are a correction in range
+worth-small : (b : ℕ) → worth b < 16
+worth-small b = go (leb b 57) (leb b 102) refl refl
+  where
+    low : (x : Bool) → ltb b 48 ≡ x → leb b 57 ≡ true → worth b < 16
+    low true e f = omega (arith, worth-low b (ltb-true b 48 e))
+    low false e f = let h = leb-true b 57 f in omega (arith, worth-digit b (ltb-false b 48 e) h)
+
+    high : (x : Bool) → ltb b 97 ≡ x → leb b 57 ≡ false → leb b 102 ≡ true → worth b < 16
+    high true e f g = omega (arith, worth-between b (leb-false b 57 f) (ltb-true b 97 e))
+    high false e f g = let h = leb-true b 102 g in omega (arith, worth-letter b (ltb-false b 97 e) h)
+
+    go : (x y : Bool) → leb b 57 ≡ x → leb b 102 ≡ y → worth b < 16
+    go true y e f = low (ltb b 48) refl e
+    go false true e f = high (ltb b 97) refl e f
+    go false false e f = omega (arith, worth-high b (leb-false b 102 f))
+
+number-small : (text : List ℕ) (k : ℕ) → number 4 text k < 65536
+unfolding number
+number-small text k =
+    omega (arith, worth-small (getD text (k + 0) 0), worth-small (getD text (k + 1) 0), worth-small (getD text (k + 2) 0), worth-small (getD text (k + 3) 0))
+
+part-bounds : (v : ℕ) → v < 65536 → (negsuc 32_767 ≤ℤ signed 4 v) × (signed 4 v ≤ℤ pos 32_767)
+unfolding signed
+part-bounds v h = go (ltb v 32768) refl
+  where
+    go : (x : Bool) → ltb v 32768 ≡ x → (negsuc 32_767 ≤ℤ cases x (pos v) (negsuc (65535 - v))) × (cases x (pos v) (negsuc (65535 - v)) ≤ℤ pos 32_767)
+    go true e = let l = ltb-true v 32768 e in (record { le = tt }, record { le = le→leb v 32767 (omega arith) })
+    go false e = let l = ltb-false v 32768 e in (record { le = le→leb (65535 - v) 32767 (omega arith) }, record { le = tt })
+
+pub correction-bounds : (fields : List ℕ) (i : ℕ) → InBounds (correctionIn fields i)
+unfolding correctionIn
+correction-bounds fields i =
+    let x = part-bounds (field 4 fields i) (number-small fields (4 * i)) in
+    let y = part-bounds (field 4 fields (i + 1)) (number-small fields (4 * (i + 1))) in
+    record { dx-from = x .0; dx-to = x .1; dy-from = y .0; dy-to = y .1 }
 
 -- a coordinate; a part of a correction, of which the last 4 digits are written
 coordinate-back : (z : ℤ) → natAbs z ≤ 1_048_576 → signed 8 (unsigned z % 4294967296) ≡ z

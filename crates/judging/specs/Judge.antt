@@ -14,7 +14,7 @@ use Rattle.lists.specs.Search.{items}
 use Rattle.meaning.specs.declared.Fault.{Fault}
 use Rattle.meaning.specs.Mesh.{Mesh, mesh}
 use Rattle.meaning.specs.Lawful.{Lawful, fault, faultOf, refusal}
-use Rattle.meaning.specs.Tables.{Given, given, meshOf, rowAt, placeAt}
+use Rattle.meaning.specs.Tables.{Given, given, meshOf, rowAt, nodeAt}
 use Rattle.meaning.specs.Calls.{marksFit, sizesFit}
 use Rattle.laws.specs.Lawful.{refusal-lawful}
 use Rattle.laws.specs.CallLaw.{Sizes, sizes-exact}
@@ -25,7 +25,7 @@ use Rattle.judging.specs.Sizes.{fitting, fitting-is}
 
 -- the mesh in the tables
 abbrev pub meshIn : List ℤ → List ℕ → ℕ → ℕ → Mesh
-meshIn nodes rows n t = mesh (items (placeAt nodes) 0 n) (items (rowAt rows) 0 t)
+meshIn nodes rows n t = mesh (items (nodeAt nodes) 0 n) (items (rowAt rows) 0 t)
 
 -- ---- 1 to 7, where k marks are wanted
 
@@ -35,13 +35,13 @@ early g n0 k marks = cases (sizesFit g n0) (cases (marksFit k marks) (faultOf (m
 -- after 0: the mesh is lawful, tables and marks fit, scratch holds notes of 0 and the index of all rows
 pub record Admitted (nodes : List ℤ) (rows scratch marks : List ℕ) (k n t : ℕ) : Type 0 where
   pub law : Lawful (meshIn nodes rows n t)
-  pub sizes : Sized (length nodes / 2) (length rows) (length scratch)
-  pub nodes-fit : 2 * n ≤ length nodes
+  pub sizes : Sized (length nodes / 4) (length rows) (length scratch)
+  pub nodes-fit : 4 * n ≤ length nodes
   pub rows-fit : 3 * t ≤ length rows
-  pub few : length nodes / 2 ≤ 1024
+  pub few : length nodes / 4 ≤ 1024
   pub marks-fit : length marks ≡ k
-  pub notes : take (indexAt (length nodes / 2) (length rows)) scratch ≡ replicate (indexAt (length nodes / 2) (length rows)) 0
-  pub ready : Ready scratch (length nodes / 2) rows t
+  pub notes : take (indexAt (length nodes / 4) (length rows)) scratch ≡ replicate (indexAt (length nodes / 4) (length rows)) 0
+  pub ready : Ready scratch (length nodes / 4) rows t
 
 -- each test in the form in which the code has it
 module _ (nodes : List ℤ) (rows s marks : List ℕ) (k n0 n t : ℕ) (b : Bool) (e : b ≡ fitting (length nodes) (length rows) (length s) n0 n t) where
@@ -56,10 +56,10 @@ module _ (nodes : List ℤ) (rows s marks : List ℕ) (k n0 n t : ℕ) (b : Bool
     all-fit : Sizes (given nodes rows s n t) n0
     all-fit = sizes-exact (given nodes rows s n t) n0 .0 (fits-are ∙ not-false b h)
 
-    pub fits-sizes : Sized (length nodes / 2) (length rows) (length s)
+    pub fits-sizes : Sized (length nodes / 4) (length rows) (length s)
     fits-sizes = let f = all-fit in record { few-nodes = omega (arith, f .few-nodes); few-rows = omega (arith, f .few-rows); scratch = f .scratch-fits }
 
-    pub fits-nodes : 2 * n ≤ length nodes
+    pub fits-nodes : 4 * n ≤ length nodes
     fits-nodes = omega (arith, all-fit .n-fits)
 
     pub fits-rows : 3 * t ≤ length rows
@@ -81,7 +81,7 @@ module _ (nodes : List ℤ) (rows s marks : List ℕ) (k n0 n t : ℕ) (b : Bool
         pub early-fault : f ≡ early (given nodes rows s n t) n0 k marks
         early-fault = sym (early-on ∙ rw (not-false c y) (sym d))
 
-        pub admitted : (s′ : List ℕ) → length s′ ≡ length s → Judged f s′ (length nodes / 2) rows t → f .number ≡ 0 → Admitted nodes rows s′ marks k n t
+        pub admitted : (s′ : List ℕ) → length s′ ≡ length s → Judged f s′ (length nodes / 4) rows t → f .number ≡ 0 → Admitted nodes rows s′ marks k n t
         unfolding meshOf
         admitted s′ len j z = record {
           law = refusal-lawful (meshOf (given nodes rows s n t)) (refusal-is ∙ z);

@@ -13,14 +13,14 @@ mod marks; // marks.rt: 2
 fn sizes_fit(nl: usize, tl: usize, sl: usize, n0: usize, n: usize, t: usize) -> bool
     ensures { λ r. ⌜ r ≡ fitting nl tl sl n0 n t ⌝ }
 {
-    (nl % 2 == 0)
+    (nl % 4 == 0)
         & (tl % 3 == 0)
-        & (nl / 2 <= 1024)
+        & (nl / 4 <= 1024)
         & (tl / 3 <= 2048)
-        & (n <= nl / 2)
+        & (n <= nl / 4)
         & (t <= tl / 3)
         & (n0 <= n)
-        & (nl / 2 + tl / 3 <= sl / 4)
+        & (nl / 4 + tl / 3 <= sl / 4)
 }
 
 // The lowest of 1 to 7 that applies, and where; or 0 at 0. k marks are wanted. Scratch is all zero before.

@@ -17,7 +17,7 @@ use Rattle.lists.specs.Search.{lowest, items}
 use Rattle.lists.specs.SearchLaw.{lowest-below, lowest-true, lowest-nothing}
 use Rattle.lists.specs.ByNumberLaw.{items-in}
 use Rattle.meaning.specs.declared.Tri.{Tri}
-use Rattle.meaning.specs.declared.Place.{Place}
+use Rattle.meaning.specs.declared.Node.{Node}
 use Rattle.meaning.specs.Mesh.{Edge, Arrow, edge, edges, base, arrow, arrows, sameArrow, holdsArrow, mesh}
 use Rattle.meaning.specs.Lawful.{Lawful, Named}
 use Rattle.meaning.specs.Tables.{rowAt}
@@ -131,7 +131,7 @@ module _ (l : List ℕ) (t : ℕ) (once : OnceAt l t) where
 
 -- ---- a lawful mesh, by number
 
-module _ (ns : List Place) (l : List ℕ) (t : ℕ) (law : Lawful (mesh ns (items (rowAt l) 0 t))) where
+module _ (ns : List Node) (l : List ℕ) (t : ℕ) (law : Lawful (mesh ns (items (rowAt l) 0 t))) where
   pub lawful-once : OnceAt l t
   unfolding arrowAt
   lawful-once i j x y = holder-item (arrow x y) (rowAt l) t (arrows-once (mesh ns (items (rowAt l) 0 t)) law) i j

@@ -12,13 +12,13 @@ use Rattle.lists.specs.Search.{items, itemsFrom}
 use Rattle.lists.specs.ByNumberLaw.{items-in}
 use Rattle.lists.specs.Loops.{noted, remaining, remainingFrom}
 use Rattle.lists.specs.LoopsLaw.{noted-length, noted-at, noted-below, noted-above}
-use Rattle.meaning.specs.declared.Place.{Place}
+use Rattle.meaning.specs.declared.Node.{Node}
 use Rattle.meaning.specs.declared.Tri.{Tri}
 use Rattle.meaning.specs.Mesh.{Mesh}
 use Rattle.meaning.specs.Lawful.{Lawful, Named}
 use Rattle.meaning.specs.Good.{good}
 use Rattle.meaning.specs.Coarsen.{marked, taken, fate, renumber, renamed, staying, without, coarsened}
-use Rattle.meaning.specs.Tables.{rowAt, placeAt, flatNodes, flatRows, filled}
+use Rattle.meaning.specs.Tables.{rowAt, nodeAt, flatNodes, flatRows, filled}
 use Rattle.laws.specs.CoarsenRows.{brood}
 use Rattle.laws.specs.Meshes.{meshAt, count-nodes, row-named}
 use Rattle.good.specs.Sign.{signFrom}
@@ -50,7 +50,7 @@ module _ {A B : Type 0} (g : A → List B) (a : ℕ → A) (gone : ℕ → Bool)
   unfolding items remaining
   joined-remaining t h = from-joined 0 (t - 0) (λ j l u. h j (omega arith))
 
-module _ (zs : List ℕ) (a : ℕ → Place) (gone : ℕ → Bool) where
+module _ (zs : List ℕ) (a : ℕ → Node) (gone : ℕ → Bool) where
   from-staying : (i k : ℕ) → ((j : ℕ) → i ≤ j → j < i + k → gone j ≡ any (eqb j) zs) → staying zs i (itemsFrom a i k) ≡ remainingFrom gone a i k
   unfolding itemsFrom remainingFrom
   from-staying i zero h = refl
@@ -154,9 +154,9 @@ module _ (nodes : List ℤ) (l s : List ℕ) (n0 n t nc : ℕ) (marks : List ℕ
   unfolding goneNode
   node-goes z h = rw (d .pairs z h) (stays-is n0 (meshAt nodes l n t) marks z (below z h))
 
-  nodes-left : remaining (goneNode s nc) (placeAt nodes) 0 n ≡ coarsened n0 (meshAt nodes l n t) marks .nodes
+  nodes-left : remaining (goneNode s nc) (nodeAt nodes) 0 n ≡ coarsened n0 (meshAt nodes l n t) marks .nodes
   unfolding coarsened without meshAt
-  nodes-left = sym (staying-remaining (taken n0 (meshAt nodes l n t) marks) (placeAt nodes) (goneNode s nc) n node-goes)
+  nodes-left = sym (staying-remaining (taken n0 (meshAt nodes l n t) marks) (nodeAt nodes) (goneNode s nc) n node-goes)
 
   row-listed : (i : ℕ) → i < t → List·Memᴰ (rowAt l i) (meshAt nodes l n t .tris)
   unfolding meshAt
@@ -196,9 +196,9 @@ module _ (nodes : List ℤ) (l s : List ℕ) (n0 n t nc : ℕ) (marks : List ℕ
       sym (map-joined (renamed (taken n0 m marks)) (fate (brood m (taken n0 m marks))) (items (rowAt l) 0 t)
       ∙ joined-remaining (λ w. map (renamed (taken n0 m marks)) (fate (brood m (taken n0 m marks)) w)) (rowAt l) (goneRow s nc) (newRow s nc l) t row-left)
 
-  pub all-left : (rows places : ℕ) (l′ : List ℕ) (nodes′ : List ℤ) →
+  pub all-left : (rows kept : ℕ) (l′ : List ℕ) (nodes′ : List ℤ) →
       rows ≡ length (remaining (goneRow s nc) (newRow s nc l) 0 t) → l′ ≡ filled 0 (length l) (flatRows (remaining (goneRow s nc) (newRow s nc l) 0 t)) →
-      places ≡ length (remaining (goneNode s nc) (placeAt nodes) 0 n) → nodes′ ≡ filled (pos 0) (length nodes) (flatNodes (remaining (goneNode s nc) (placeAt nodes) 0 n)) →
-      tabled (counts places rows) nodes′ l′ ≡ tabledOf (length nodes) (length l) (coarsened n0 (meshAt nodes l n t) marks)
+      kept ≡ length (remaining (goneNode s nc) (nodeAt nodes) 0 n) → nodes′ ≡ filled (pos 0) (length nodes) (flatNodes (remaining (goneNode s nc) (nodeAt nodes) 0 n)) →
+      tabled (counts kept rows) nodes′ l′ ≡ tabledOf (length nodes) (length l) (coarsened n0 (meshAt nodes l n t) marks)
   unfolding tabledOf
-  all-left rows places l′ nodes′ a b c e = rw (a, b, c, e, rows-left, nodes-left)
+  all-left rows kept l′ nodes′ a b c e = rw (a, b, c, e, rows-left, nodes-left)

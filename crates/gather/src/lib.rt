@@ -12,14 +12,14 @@ ghost use Rattle.lists.specs.Search.{items};
 ghost use Rattle.lists.specs.Loops.{noted, remaining};
 ghost use Rattle.meaning.specs.Lawful.{Lawful};
 ghost use Rattle.meaning.specs.Coarsen.{marked, coarsened};
-ghost use Rattle.meaning.specs.Tables.{rowAt, placeAt, flatRows, flatNodes, filled};
+ghost use Rattle.meaning.specs.Tables.{rowAt, nodeAt, flatRows, flatNodes, filled};
 ghost use Rattle.tables.specs.Sized.{Sized, indexAt};
-ghost use Rattle.tables.specs.Put.{setRow, setPlace};
+ghost use Rattle.tables.specs.Put.{setRow, setNode};
 ghost use Rattle.tables.specs.Ready.{Ready};
 ghost use Rattle.laws.specs.Meshes.{meshAt, Fair};
 ghost use Rattle.gather.specs.Whole.{Going, Settled, tabled, tabledOf};
 ghost use Rattle.gather.specs.Goes.{Small, takeAt, fateNo, fateAt, goneNode, nextNumber, numberBelow, goneRow, fatherBy, renamedBy, newRow};
-use meaning::Place;
+use meaning::Node;
 use meaning::Tri;
 
 // ---- which nodes go
@@ -248,20 +248,20 @@ fn close_rows(rows: &mut [u32], scratch: &[u32], nc: usize, t: usize) -> usize
 
 // ---- nodes close up
 
-fn move_place(nodes: &mut [i32], i: usize, k: usize)
-    requires { ⌜ 2 * i + 2 ≤ length (now nodes) ⌝ }
-    requires { ⌜ 2 * k + 2 ≤ length (now nodes) ⌝ }
-    ensures { λ _. ⌜ now (nodes .exit) ≡ setPlace (now (nodes .entry)) k (placeAt (now (nodes .entry)) i) ⌝ }
+fn move_node(nodes: &mut [i32], i: usize, k: usize)
+    requires { ⌜ 4 * i + 4 ≤ length (now nodes) ⌝ }
+    requires { ⌜ 4 * k + 4 ≤ length (now nodes) ⌝ }
+    ensures { λ _. ⌜ now (nodes .exit) ≡ setNode (now (nodes .entry)) k (nodeAt (now (nodes .entry)) i) ⌝ }
 {
-    let a = tables::place_at(nodes, i);
-    tables::put_place(nodes, k, a);
+    let a = tables::node_at(nodes, i);
+    tables::put_node(nodes, k, a);
 }
 
 fn keep_nodes(nodes: &mut [i32], scratch: &[u32], nc: usize, n: usize) -> usize
-    requires { ⌜ 2 * n ≤ length (now nodes) ⌝ }
+    requires { ⌜ 4 * n ≤ length (now nodes) ⌝ }
     requires { ⌜ nc + n ≤ length (now scratch) ⌝ }
     ensures few { λ r. ⌜ r ≤ n ⌝ }
-    ensures nodes { λ r. ⌜ items (placeAt (now (nodes .exit))) 0 r ≡ remaining (goneNode (now (scratch .entry)) nc) (placeAt (now (nodes .entry))) 0 n ⌝ }
+    ensures nodes { λ r. ⌜ items (nodeAt (now (nodes .exit))) 0 r ≡ remaining (goneNode (now (scratch .entry)) nc) (nodeAt (now (nodes .entry))) 0 n ⌝ }
 {
     let mut z = 0;
     let mut k = 0;
@@ -269,7 +269,7 @@ fn keep_nodes(nodes: &mut [i32], scratch: &[u32], nc: usize, n: usize) -> usize
         if gone_node(scratch, nc, z) {
             z += 1;
         } else {
-            move_place(nodes, z, k);
+            move_node(nodes, z, k);
             k += 1;
             z += 1;
         }
@@ -279,13 +279,13 @@ fn keep_nodes(nodes: &mut [i32], scratch: &[u32], nc: usize, n: usize) -> usize
 
 // The table after, and the number of its nodes.
 fn close_nodes(nodes: &mut [i32], scratch: &[u32], nc: usize, n: usize) -> usize
-    requires { ⌜ 2 * n ≤ length (now nodes) ⌝ }
+    requires { ⌜ 4 * n ≤ length (now nodes) ⌝ }
     requires { ⌜ nc + n ≤ length (now scratch) ⌝ }
-    ensures count { λ r. ⌜ r ≡ length (remaining (goneNode (now (scratch .entry)) nc) (placeAt (now (nodes .entry))) 0 n) ⌝ }
-    ensures nodes { λ _. ⌜ now (nodes .exit) ≡ filled (pos 0) (length (now (nodes .entry))) (flatNodes (remaining (goneNode (now (scratch .entry)) nc) (placeAt (now (nodes .entry))) 0 n)) ⌝ }
+    ensures count { λ r. ⌜ r ≡ length (remaining (goneNode (now (scratch .entry)) nc) (nodeAt (now (nodes .entry))) 0 n) ⌝ }
+    ensures nodes { λ _. ⌜ now (nodes .exit) ≡ filled (pos 0) (length (now (nodes .entry))) (flatNodes (remaining (goneNode (now (scratch .entry)) nc) (nodeAt (now (nodes .entry))) 0 n)) ⌝ }
 {
     let k = keep_nodes(nodes, scratch, nc, n);
-    tables::clear_places_from(nodes, k);
+    tables::clear_nodes_from(nodes, k);
     k
 }
 
@@ -309,7 +309,7 @@ fn note_nodes(
 )
     requires { ⌜ Lawful (meshAt (now nodes) (now rows) n t) ⌝ }
     requires { ⌜ Sized nc (length (now rows)) (length (now scratch)) ⌝ }
-    requires { ⌜ (2 * n ≤ length (now nodes)) × (3 * t ≤ length (now rows)) ⌝ }
+    requires { ⌜ (4 * n ≤ length (now nodes)) × (3 * t ≤ length (now rows)) ⌝ }
     requires { ⌜ (n ≤ nc) × (nc ≤ 32_768) ⌝ }
     requires { ⌜ n ≤ length (now marks) ⌝ }
     requires { ⌜ take (indexAt nc (length (now rows))) (now scratch) ≡ replicate (indexAt nc (length (now rows))) 0 ⌝ }
@@ -333,7 +333,7 @@ fn note(
 )
     requires { ⌜ Lawful (meshAt (now nodes) (now rows) n t) ⌝ }
     requires { ⌜ Sized nc (length (now rows)) (length (now scratch)) ⌝ }
-    requires { ⌜ (2 * n ≤ length (now nodes)) × (3 * t ≤ length (now rows)) ⌝ }
+    requires { ⌜ (4 * n ≤ length (now nodes)) × (3 * t ≤ length (now rows)) ⌝ }
     requires { ⌜ (n ≤ nc) × (nc ≤ 32_768) ⌝ }
     requires { ⌜ n ≤ length (now marks) ⌝ }
     requires { ⌜ take (indexAt nc (length (now rows))) (now scratch) ≡ replicate (indexAt nc (length (now rows))) 0 ⌝ }
@@ -358,7 +358,7 @@ pub fn take_out(
 ) -> Counts
     requires { ⌜ Lawful (meshAt (now nodes) (now rows) n t) ⌝ }
     requires { ⌜ Sized nc (length (now rows)) (length (now scratch)) ⌝ }
-    requires { ⌜ (2 * n ≤ length (now nodes)) × (3 * t ≤ length (now rows)) ⌝ }
+    requires { ⌜ (4 * n ≤ length (now nodes)) × (3 * t ≤ length (now rows)) ⌝ }
     requires { ⌜ (n ≤ nc) × (nc ≤ 32_768) ⌝ }
     requires { ⌜ n ≤ length (now marks) ⌝ }
     requires { ⌜ take (indexAt nc (length (now rows))) (now scratch) ≡ replicate (indexAt nc (length (now rows))) 0 ⌝ }

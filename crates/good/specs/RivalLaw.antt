@@ -23,7 +23,7 @@ use Rattle.lists.specs.LoopsLaw.{noted-at}
 use Rattle.meaning.specs.Mesh.{Mesh, Edge, holdsNode}
 use Rattle.meaning.specs.Lawful.{Lawful}
 use Rattle.meaning.specs.Good.{Brothers, pairs, spanOf, span, G1-4, G5, good}
-use Rattle.meaning.specs.Tables.{placeAt, rowAt}
+use Rattle.meaning.specs.Tables.{nodeAt, rowAt}
 use Rattle.laws.specs.Star.{Pair, test-star, G5-alone, alone-G5, good-meets, good-added, good-alone, good-yes}
 use Rattle.laws.specs.Meshes.{meshAt, count-nodes}
 use Rattle.good.specs.Sign.{pairNo, signOf, signFrom, fresh}
@@ -146,7 +146,7 @@ module _ (nodes : List ℤ) (rows : List ℕ) (n0 n t : ℕ) (law : Lawful (mesh
   unfolding meshAt
   some-row h =
       let m = meshAt nodes rows n t in
-      let a = law .used 0 (rw (length-items (placeAt nodes) n) h) in
+      let a = law .used 0 (rw (length-items (nodeAt nodes) n) h) in
       let b = count-le-length (holdsNode 0) (items (rowAt rows) 0 t) in
       let c = length-items (rowAt rows) t in
       omega arith

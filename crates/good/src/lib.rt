@@ -26,7 +26,7 @@ pub fn judge(
 )
     requires { ⌜ Lawful (meshAt (now nodes) (now rows) n t) ⌝ }
     requires { ⌜ Sized nc (length (now rows)) (length (now scratch)) ⌝ }
-    requires { ⌜ (2 * n ≤ length (now nodes)) × (3 * t ≤ length (now rows)) ⌝ }
+    requires { ⌜ (4 * n ≤ length (now nodes)) × (3 * t ≤ length (now rows)) ⌝ }
     requires { ⌜ (n ≤ nc) × (nc ≤ 32_768) ⌝ }
     requires { ⌜ take (indexAt nc (length (now rows))) (now scratch) ≡ replicate (indexAt nc (length (now rows))) 0 ⌝ }
     requires { ⌜ Ready (now scratch) nc (now rows) t ⌝ }

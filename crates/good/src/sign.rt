@@ -12,7 +12,7 @@ ghost use Rattle.good.specs.Sign.{pairNo, signOn, signOf, signFrom, fres
 use round::Ends;
 
 fn g3(nodes: &[i32], rows: &[u32], n: usize, t: usize, z: u32, e: Ends) -> bool
-    requires { ⌜ 2 * n ≤ length (now nodes) ⌝ }
+    requires { ⌜ 4 * n ≤ length (now nodes) ⌝ }
     requires { ⌜ z < n ⌝ }
     requires { ⌜ e .lo < n ⌝ }
     requires { ⌜ e .hi < n ⌝ }
@@ -57,7 +57,7 @@ fn sign_on(
     e: Ends,
 ) -> u32
     requires { ⌜ Ready (now scratch) nc (now rows) t ⌝ }
-    requires { ⌜ 2 * n ≤ length (now nodes) ⌝ }
+    requires { ⌜ 4 * n ≤ length (now nodes) ⌝ }
     requires { ⌜ n ≤ 32_768 ⌝ }
     requires { ⌜ (z < n) × (e .lo < n) × (e .hi < n) ⌝ }
     requires { ⌜ edgeOf e ≡ span (rowsAlone (now rows) t) z ⌝ }
@@ -75,7 +75,7 @@ fn sign(nodes: &[i32], rows: &[u32], scratch: &[u32], nc: usize, n: usize, t: us
     requires { ⌜ Fair (now rows) n t ⌝ }
     requires { ⌜ Around (now scratch) nc (now rows) t z ⌝ }
     requires { ⌜ Ready (now scratch) nc (now rows) t ⌝ }
-    requires { ⌜ 2 * n ≤ length (now nodes) ⌝ }
+    requires { ⌜ 4 * n ≤ length (now nodes) ⌝ }
     requires { ⌜ n ≤ 32_768 ⌝ }
     requires { ⌜ z < n ⌝ }
     ensures number { λ r. ⌜ r ≡ signOf (meshAt (now (nodes .entry)) (now (rows .entry)) n t) z ⌝ }
@@ -105,7 +105,7 @@ fn sign_from(
     requires { ⌜ Fair (now rows) n t ⌝ }
     requires { ⌜ Around (now scratch) nc (now rows) t z ⌝ }
     requires { ⌜ Ready (now scratch) nc (now rows) t ⌝ }
-    requires { ⌜ 2 * n ≤ length (now nodes) ⌝ }
+    requires { ⌜ 4 * n ≤ length (now nodes) ⌝ }
     requires { ⌜ n ≤ 32_768 ⌝ }
     requires { ⌜ z < n ⌝ }
     ensures number { λ r. ⌜ r ≡ signFrom n0 (meshAt (now (nodes .entry)) (now (rows .entry)) n t) z ⌝ }
@@ -130,7 +130,7 @@ pub fn signs(
     requires { ⌜ Fair (now rows) n t ⌝ }
     requires { ⌜ ((z : ℕ) → z < n → Around (now scratch) nc (now rows) t z) ⌝ }
     requires { ⌜ Ready (now scratch) nc (now rows) t ⌝ }
-    requires { ⌜ 2 * n ≤ length (now nodes) ⌝ }
+    requires { ⌜ 4 * n ≤ length (now nodes) ⌝ }
     requires { ⌜ n ≤ 32_768 ⌝ }
     requires { ⌜ (n ≤ nc) × (nc + n ≤ length (now scratch)) ⌝ }
     ensures { λ _. ⌜ now (scratch .exit) ≡ noted nc (fresh n0 (meshAt (now (nodes .entry)) (now (rows .entry)) n t)) n (now (scratch .entry)) ⌝ }

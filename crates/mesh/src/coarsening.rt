@@ -22,6 +22,6 @@ pub fn work(
     if f.number != 0 {
         return judging::said(f, n, t);
     }
-    let c = gather::take_out(nodes, rows, scratch, marks, nodes.len() / 2, n0, n, t);
+    let c = gather::take_out(nodes, rows, scratch, marks, nodes.len() / 4, n0, n, t);
     judging::done(c.n, c.t)
 }

@@ -20,7 +20,7 @@ fn check_fault(nodes: &[i32], rows: &[u32], scratch: &mut [u32], n: usize, t: us
     if f.number != 0 {
         return f;
     }
-    if tables::is_found(lawful::first_clash(rows, scratch, nodes.len() / 2, t)) {
+    if tables::is_found(lawful::first_clash(rows, scratch, nodes.len() / 4, t)) {
         return Fault { number: 10, at: 0 };
     }
     Fault { number: 0, at: 0 }

@@ -12,7 +12,7 @@ use Rattle.lists.specs.Search.{items, iter}
 use Rattle.lists.specs.ByNumberLaw.{items-in}
 use Rattle.lists.specs.PartsLaw.{not-so}
 use Rattle.meaning.specs.declared.Manner.{Manner}
-use Rattle.meaning.specs.declared.Place.{Place}
+use Rattle.meaning.specs.declared.Node.{Node}
 use Rattle.meaning.specs.Mesh.{Edge, edge, edges, base, mesh}
 use Rattle.meaning.specs.Lawful.{Lawful, Named}
 use Rattle.meaning.specs.Split.{memEdge, splitEdges}
@@ -47,7 +47,7 @@ pub record SplitNotes (n : ℕ) (rows : List ℕ) (t : ℕ) (es : List Edge) (me
       (memEdge (edge (rowAt rows i .p) (rowAt rows i .q)) es ≡ false) × (memEdge (edge (rowAt rows i .r) (rowAt rows i .p)) es ≡ false)
 
 -- the first t notes of s are 0
-module _ (k : Manner) (ns : List Place) (l : List ℕ) (t : ℕ) (law : Lawful (mesh ns (items (rowAt l) 0 t))) (marks s : List ℕ) (long : t ≤ length s)
+module _ (k : Manner) (ns : List Node) (l : List ℕ) (t : ℕ) (law : Lawful (mesh ns (items (rowAt l) 0 t))) (marks s : List ℕ) (long : t ≤ length s)
     (clear : (x : ℕ) → x < t → getD s x 0 ≡ 0) (small : 3 * t ≤ 16_777_216) where
   -- the split edges
   abbrev splitSet : List Edge

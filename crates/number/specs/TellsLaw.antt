@@ -11,7 +11,7 @@ use borrow.Author.Tests.{eq-eqb, ne-eqb}
 use lib.ListN.{length, getD}
 use Rattle.lists.specs.Tally.{bit}
 use Rattle.lists.specs.Search.{items}
-use Rattle.meaning.specs.declared.Place.{Place}
+use Rattle.meaning.specs.declared.Node.{Node}
 use Rattle.meaning.specs.declared.Tri.{Tri}
 use Rattle.meaning.specs.declared.Manner.{Manner}
 use Rattle.meaning.specs.declared.Manner.the-variants.{Newest, AllThree}
@@ -29,7 +29,7 @@ use Rattle.number.specs.ScanLaw.{sidePick, on-side}
 use Rattle.number.specs.NumberLaw.{saidAt, Tells}
 
 -- the first t notes of s are 0
-module _ (k : Manner) (ns : List Place) (l : List ℕ) (t : ℕ) (law : Lawful (mesh ns (items (rowAt l) 0 t))) (marks s : List ℕ) (long : t ≤ length s)
+module _ (k : Manner) (ns : List Node) (l : List ℕ) (t : ℕ) (law : Lawful (mesh ns (items (rowAt l) 0 t))) (marks s : List ℕ) (long : t ≤ length s)
     (clear : (x : ℕ) → x < t → getD s x 0 ≡ 0) where
   once-each : OnceAt l t
   once-each = lawful-once ns l t law

@@ -12,7 +12,7 @@ use Rattle.lists.specs.ItemsLaw.{sumTo}
 use Rattle.meaning.specs.declared.Manner.{Manner}
 use Rattle.meaning.specs.Mesh.{Mesh, Edge}
 use Rattle.meaning.specs.Split.{splitEdges, started, wayOf, refined, halves}
-use Rattle.meaning.specs.Tables.{rowAt, placeAt, flatNodes, flatRows, filled}
+use Rattle.meaning.specs.Tables.{rowAt, nodeAt, flatNodes, flatRows, filled}
 use Rattle.meaning.specs.Calls.{unless, fits}
 use Rattle.tables.specs.Ready.{Ready}
 use Rattle.notes.specs.Notes.{noteAt}
@@ -32,7 +32,7 @@ afterIn how nodes rows marks n t = refined (wayOf how) (meshIn nodes rows n t) m
 
 -- and there is room for it
 abbrev pub fitsIn : Manner → List ℤ → List ℕ → List ℕ → ℕ → ℕ → Bool
-fitsIn how nodes rows marks n t = fits (record { nodes = length nodes / 2; rows = length rows / 3 }) (afterIn how nodes rows marks n t)
+fitsIn how nodes rows marks n t = fits (record { nodes = length nodes / 4; rows = length rows / 3 }) (afterIn how nodes rows marks n t)
 
 -- ---- what is judged
 
@@ -43,7 +43,7 @@ planOf k n t = record { number = k; n = n; t = t }
 unfoldable pub weighed : List ℤ → List ℕ → List ℕ → ℕ → ℕ → ℕ → Plan
 weighed nodes rows s n t k =
     cases (isFound (lowest (oddAt nodes rows s) 0 t)) (planOf 8 n t)
-    (cases (ltb (length nodes / 2) (n + k) || ltb (length rows / 3) (t + sumTo (splits s) t)) (planOf 9 n t)
+    (cases (ltb (length nodes / 4) (n + k) || ltb (length rows / 3) (t + sumTo (splits s) t)) (planOf 9 n t)
     (planOf 0 (n + k) (t + sumTo (splits s) t)))
 
 pub record Weighty (nodes : List ℤ) (rows s : List ℕ) (n t k : ℕ) : Type 0 where
@@ -68,11 +68,11 @@ pub record Carry (nodes : List ℤ) (rows s : List ℕ) (n t n1 t1 : ℕ) : Type
   pub rows-fit : 3 * t ≤ length rows
   pub notes-fit : t ≤ length s
   pub standing : (i : ℕ) → i < t → Standing nodes (rowAt rows i)
-  pub room : (i : ℕ) → i < t → 2 * after n (noteAt s i) ≤ length nodes
-  pub ready : Ready s (length nodes / 2) rows t
+  pub room : (i : ℕ) → i < t → 4 * after n (noteAt s i) ≤ length nodes
+  pub ready : Ready s (length nodes / 4) rows t
   pub count : t1 ≡ t + sumTo (addedAt n rows s) t
   pub rows-room : 3 * t1 ≤ length rows
-  pub nodes-room : 2 * n1 ≤ length nodes
+  pub nodes-room : 4 * n1 ≤ length nodes
 
 pub record Pair : Type 0 where
   pub nodes : List ℤ
@@ -85,13 +85,13 @@ bothTables a b = record { nodes = a; rows = b }
 unfoldable pub carried : List ℤ → List ℕ → List ℕ → ℕ → ℕ → ℕ → Pair
 carried nodes rows s n t n1 =
     bothTables
-    (filled (pos 0) (length nodes) (flatNodes (items (placeAt (iter (placeRow n rows s) 0 t nodes)) 0 n1)))
+    (filled (pos 0) (length nodes) (flatNodes (items (nodeAt (iter (placeRow n rows s) 0 t nodes)) 0 n1)))
     (filled 0 (length rows) (flatRows (cutAll (items (cutAt n rows s) 0 t))))
 
 -- carried out, it is document 01's refined mesh
 pub record Planned (how : Manner) (nodes : List ℤ) (rows s marks : List ℕ) (n t n1 t1 : ℕ) : Type 0 where
   pub carry : Carry nodes rows s n t n1 t1
-  pub nodes-are : items (placeAt (iter (placeRow n rows s) 0 t nodes)) 0 n1 ≡ afterIn how nodes rows marks n t .nodes
+  pub nodes-are : items (nodeAt (iter (placeRow n rows s) 0 t nodes)) 0 n1 ≡ afterIn how nodes rows marks n t .nodes
   pub rows-are : cutAll (items (cutAt n rows s) 0 t) ≡ afterIn how nodes rows marks n t .tris
   pub nodes-after : n1 ≡ length (afterIn how nodes rows marks n t .nodes)
   pub rows-after : t1 ≡ length (afterIn how nodes rows marks n t .tris)

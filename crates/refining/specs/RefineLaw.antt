@@ -1,4 +1,4 @@
--- The steps of refine, in any manner, in the form of their needs. All is read off the notes: whether 8 or 9 applies, the counts after, the places and
+-- The steps of refine, in any manner, in the form of their needs. All is read off the notes: whether 8 or 9 applies, the counts after, the nodes and
 -- the rows. The notes tell the split edges of document 01 (`SplitNotes`), so what is carried out is its refined mesh. Assumes nothing.
 use mathlib.Core.Path.{_≡_, refl, sym, ap, _∙_, subst}
 use mathlib.Core.Bool.{Bool, true, false, not, _&&_, _||_}
@@ -17,13 +17,13 @@ use Rattle.lists.specs.Search.{lowest, items, iter}
 use Rattle.lists.specs.IterLaw.{length-items, getD-items}
 use Rattle.lists.specs.ItemsLaw.{sumTo}
 use Rattle.meaning.specs.declared.Manner.{Manner}
-use Rattle.meaning.specs.declared.Place.{Place}
+use Rattle.meaning.specs.declared.Node.{Node}
 use Rattle.meaning.specs.declared.Answer.{Answer}
 use Rattle.meaning.specs.declared.Fault.{Fault}
-use Rattle.meaning.specs.Mesh.{Mesh, Edge, at, origin}
-use Rattle.meaning.specs.Lawful.{InRange, Named}
+use Rattle.meaning.specs.Mesh.{Mesh, Edge, nodeOf, origin}
+use Rattle.meaning.specs.Lawful.{NodeInRange, Named}
 use Rattle.meaning.specs.Split.{bisected, splitEdges, splitAt, split, Way, wayOf, refined, halves}
-use Rattle.meaning.specs.Tables.{given, outcome, answer, roomOf, meshOf, rowAt, placeAt, flatNodes, flatRows, filled}
+use Rattle.meaning.specs.Tables.{given, outcome, answer, roomOf, meshOf, rowAt, nodeAt, flatNodes, flatRows, filled}
 use Rattle.meaning.specs.Calls.{unless, refineNo, refines, refineOut}
 use Rattle.tables.specs.Sized.{Corners, indexAt}
 use Rattle.tables.specs.Ready.{Ready}
@@ -54,11 +54,11 @@ module _ (nodes : List ℤ) (rows s : List ℕ) (n t k : ℕ) (f : Found) (y : B
   weigh-odd h = rw (← e, ← g, h)
 
   module _ (t1 : ℕ) (h : y ≡ false) (c : t1 ≡ t + sumTo (splits s) t) where
-    pub weigh-short : ltb (length nodes / 2) (n + k) || ltb (length rows / 3) t1 ≡ true → planOf 9 n t ≡ weighed nodes rows s n t k
+    pub weigh-short : ltb (length nodes / 4) (n + k) || ltb (length rows / 3) t1 ≡ true → planOf 9 n t ≡ weighed nodes rows s n t k
     unfolding weighed
     weigh-short b = rw (← e, ← g, h, ← c, b)
 
-    pub weigh-done : ltb (length nodes / 2) (n + k) || ltb (length rows / 3) t1 ≡ false → planOf 0 (n + k) t1 ≡ weighed nodes rows s n t k
+    pub weigh-done : ltb (length nodes / 4) (n + k) || ltb (length rows / 3) t1 ≡ false → planOf 0 (n + k) t1 ≡ weighed nodes rows s n t k
     unfolding weighed
     weigh-done b = rw (← e, ← g, h, ← c, b)
 
@@ -73,20 +73,20 @@ short-fits a b c d = go (leb a c) refl (leb b d) refl
     go false e y f = rw (lt-ltb c a (leb-false a c e))
 
 module _ (how : Manner) (nodes : List ℤ) (rows s₀ marks : List ℕ) (n t : ℕ) (R : Admitted nodes rows s₀ marks t n t) where
-  abbrev ns : List Place
-  ns = items (placeAt nodes) 0 n
+  abbrev ns : List Node
+  ns = items (nodeAt nodes) 0 n
 
   abbrev m : Mesh
   m = meshIn nodes rows n t
 
   clear : (x : ℕ) → x < t → getD s₀ x 0 ≡ 0
   clear x h =
-      let b : x < indexAt (length nodes / 2) (length rows) = (let r = R .rows-fit in omega arith) in
-      sym (getD-take (indexAt (length nodes / 2) (length rows)) s₀ x 0 b) ∙ ap (λ (v : List ℕ). getD v x 0) (R .notes)
-      ∙ getD-replicate (indexAt (length nodes / 2) (length rows)) x 0 0 b
+      let b : x < indexAt (length nodes / 4) (length rows) = (let r = R .rows-fit in omega arith) in
+      sym (getD-take (indexAt (length nodes / 4) (length rows)) s₀ x 0 b) ∙ ap (λ (v : List ℕ). getD v x 0) (R .notes)
+      ∙ getD-replicate (indexAt (length nodes / 4) (length rows)) x 0 0 b
 
   nodes-in-table : length ns ≡ n
-  nodes-in-table = length-items (placeAt nodes) n
+  nodes-in-table = length-items (nodeAt nodes) n
 
   pub notes-fit : t ≤ length s₀
   notes-fit = let a = R .sizes in let b = R .rows-fit in omega arith
@@ -103,11 +103,11 @@ module _ (how : Manner) (nodes : List ℤ) (rows s₀ marks : List ℕ) (n t : �
   some-node : (i : ℕ) → i < t → 0 < n
   some-node i h = let a = corners i h in omega arith
 
-  place-same : (k : ℕ) → k < n → at m k ≡ placeAt nodes k
-  place-same k h = getD-items (placeAt nodes) n k origin h
+  node-same : (k : ℕ) → k < n → nodeOf m k ≡ nodeAt nodes k
+  node-same k h = getD-items (nodeAt nodes) n k origin h
 
-  nodes-near : (k : ℕ) → k < n → InRange (placeAt nodes k)
-  nodes-near k h = subst InRange (place-same k h) (All-getD (R .law .range) k origin (rw nodes-in-table h))
+  nodes-near : (k : ℕ) → k < n → NodeInRange (nodeAt nodes k)
+  nodes-near k h = subst NodeInRange (node-same k h) (All-getD (R .law .range) k origin (rw nodes-in-table h))
 
   pub rows-standing : (i : ℕ) → i < t → Standing nodes (rowAt rows i)
   rows-standing i h = standing-at nodes n (rowAt rows i) (R .nodes-fit) nodes-near (corners i h)
@@ -126,7 +126,7 @@ module _ (how : Manner) (nodes : List ℤ) (rows s₀ marks : List ℕ) (n t : �
     -- 8
     odd-as-said : isFound (lowest (oddAt nodes rows s₂) 0 t) ≡ not (all (halves m) es)
     unfolding splitEdges
-    odd-as-said = odd-found nodes n m place-same (isSplit how rows t marks) rows s₂ t corners (N .member-said)
+    odd-as-said = odd-found nodes n m node-same (isSplit how rows t marks) rows s₂ t corners (N .member-said)
 
     -- the counts after
     after-nodes : length (afterIn how nodes rows marks n t .nodes) ≡ n + k
@@ -138,9 +138,9 @@ module _ (how : Manner) (nodes : List ℤ) (rows s₀ marks : List ℕ) (n t : �
     after-rows = sym (count-mesh m es n rows s₂ t nodes-in-table refl some-node (N .mids) (N .split-said) (N .pulled))
 
     -- 9
-    short-is : ltb (length nodes / 2) (n + k) || ltb (length rows / 3) (t + sumTo (splits s₂) t) ≡
+    short-is : ltb (length nodes / 4) (n + k) || ltb (length rows / 3) (t + sumTo (splits s₂) t) ≡
         not (fitsIn how nodes rows marks n t)
-    short-is = short-fits (n + k) (t + sumTo (splits s₂) t) (length nodes / 2) (length rows / 3) ∙ rw (after-nodes, after-rows)
+    short-is = short-fits (n + k) (t + sumTo (splits s₂) t) (length nodes / 4) (length rows / 3) ∙ rw (after-nodes, after-rows)
 
     chain : (a b : Bool) (x y : ℕ) → cases (not a) (planOf 8 n t) (cases (not b) (planOf 9 n t) (planOf 0 x y)) .number ≡ unless a 8 (unless b 9 0)
     chain true true x y = refl
@@ -152,15 +152,15 @@ module _ (how : Manner) (nodes : List ℤ) (rows s₀ marks : List ℕ) (n t : �
     late-number r e = ap (λ (p : Plan). p .number) e ∙ rw (odd-as-said, short-is) (chain (all (halves m) es) (fitsIn how nodes rows marks n t) (n + k) (t + sumTo (splits s₂) t))
 
     -- with room for all, the plan can be carried out
-    room-both : fitsIn how nodes rows marks n t ≡ true → (n + k ≤ length nodes / 2) × (t + sumTo (splits s₂) t ≤ length rows / 3)
+    room-both : fitsIn how nodes rows marks n t ≡ true → (n + k ≤ length nodes / 4) × (t + sumTo (splits s₂) t ≤ length rows / 3)
     room-both e =
-        let a = leb (length (afterIn how nodes rows marks n t .nodes)) (length nodes / 2) in
+        let a = leb (length (afterIn how nodes rows marks n t .nodes)) (length nodes / 4) in
         let b = leb (length (afterIn how nodes rows marks n t .tris)) (length rows / 3) in
-        let f : length (afterIn how nodes rows marks n t .nodes) ≤ length nodes / 2 = leb-true (length (afterIn how nodes rows marks n t .nodes)) (length nodes / 2) (and-left a b e) in
+        let f : length (afterIn how nodes rows marks n t .nodes) ≤ length nodes / 4 = leb-true (length (afterIn how nodes rows marks n t .nodes)) (length nodes / 4) (and-left a b e) in
         let g : length (afterIn how nodes rows marks n t .tris) ≤ length rows / 3 = leb-true (length (afterIn how nodes rows marks n t .tris)) (length rows / 3) (and-right a b e) in
         (rw after-nodes at f, rw after-rows at g)
 
-    room-plan : Ready s₂ (length nodes / 2) rows t → fitsIn how nodes rows marks n t ≡ true →
+    room-plan : Ready s₂ (length nodes / 4) rows t → fitsIn how nodes rows marks n t ≡ true →
         Planned how nodes rows s₂ marks n t (n + k) (t + sumTo (splits s₂) t)
     unfolding refined split
     room-plan ready e =
@@ -171,28 +171,28 @@ module _ (how : Manner) (nodes : List ℤ) (rows s₀ marks : List ℕ) (n t : �
         let rf = R .rows-fit in
         let sl = same-length in
         let tf = notes-fit in
-        let room : 2 * (n + length es) ≤ length nodes = omega arith in
+        let room : 4 * (n + length es) ≤ length nodes = omega arith in
         record {
           carry = record {
             few-nodes = omega arith;
             rows-fit = R .rows-fit;
             notes-fit = omega arith;
             standing = rows-standing;
-            room = rooms nodes n m place-same rows s₂ t corners (N .before) (rw (N .met) room);
+            room = rooms nodes n m node-same rows s₂ t corners (N .before) (rw (N .met) room);
             ready = ready;
             count = count-rows m es n rows s₂ t nodes-in-table refl some-node (N .mids) (N .split-said) (N .pulled);
             rows-room = omega arith;
             nodes-room = omega arith;
           };
-          nodes-are = subst (λ (x : ℕ). items (placeAt (iter (placeRow n rows s₂) 0 t nodes)) 0 (n + x) ≡ splitAt bisected m es .nodes) (sym nc)
+          nodes-are = subst (λ (x : ℕ). items (nodeAt (iter (placeRow n rows s₂) 0 t nodes)) 0 (n + x) ≡ splitAt bisected m es .nodes) (sym nc)
               (placed-mesh nodes n m es bisected rows s₂ t refl corners (N .before) (N .met) room);
           rows-are = cut-mesh m es n rows s₂ t nodes-in-table refl some-node (N .mids);
           nodes-after = sym after-nodes;
           rows-after = sym after-rows;
         }
 
-    ready-after : Ready s₂ (length nodes / 2) rows t
-    ready-after = ready-numbered rows s₁ s₂ (length nodes / 2) t k (R .rows-fit) (ready-closed rows s₀ s₁ (length nodes / 2) t (R .rows-fit) (R .ready) how marks e₁) e₂
+    ready-after : Ready s₂ (length nodes / 4) rows t
+    ready-after = ready-numbered rows s₁ s₂ (length nodes / 4) t k (R .rows-fit) (ready-closed rows s₀ s₁ (length nodes / 4) t (R .rows-fit) (R .ready) how marks e₁) e₂
 
     pub late-plan : (r : Plan) → r ≡ weighed nodes rows s₂ n t k → r .number ≡ 0 → Planned how nodes rows s₂ marks n t (r .n) (r .t)
     unfolding weighed
@@ -216,8 +216,8 @@ module _ (how : Manner) (nodes : List ℤ) (rows s₀ marks : List ℕ) (n t : �
         let f = N .few in
         record { rows-fit = R .rows-fit; notes-fit = omega arith; few-rows = omega arith; few-nodes = omega arith; standing = rows-standing }
 
-  pub closed-ready : (s₁ : List ℕ) → s₁ ≡ closedNotes how rows t marks s₀ → Ready s₁ (length nodes / 2) rows t
-  closed-ready s₁ e = ready-closed rows s₀ s₁ (length nodes / 2) t (R .rows-fit) (R .ready) how marks e
+  pub closed-ready : (s₁ : List ℕ) → s₁ ≡ closedNotes how rows t marks s₀ → Ready s₁ (length nodes / 4) rows t
+  closed-ready s₁ e = ready-closed rows s₀ s₁ (length nodes / 4) t (R .rows-fit) (R .ready) how marks e
 
   pub closed-fit : (s₁ : List ℕ) → s₁ ≡ closedNotes how rows t marks s₀ → t ≤ length s₁
   closed-fit s₁ e = let a = notes-fit in let b = ap length e ∙ closed-kept rows t t (omega arith) how marks s₀ .0 in omega arith
@@ -231,14 +231,14 @@ module _ (nodes a : List ℤ) (rows s : List ℕ) (n t n1 t1 : ℕ) (C : Carry n
   pub carry-standing : (i : ℕ) → i < t → Standing nodes (rowAt rows i)
   carry-standing = C .standing
 
-  pub carry-room : (i : ℕ) → i < t → 2 * after n (noteAt s i) ≤ length nodes
+  pub carry-room : (i : ℕ) → i < t → 4 * after n (noteAt s i) ≤ length nodes
   carry-room = C .room
 
-  pub carry-ready : length a ≡ length nodes → Ready s (length a / 2) rows t
+  pub carry-ready : length a ≡ length nodes → Ready s (length a / 4) rows t
   carry-ready e = rw e (C .ready)
 
 pub carry-done : (nodes a c : List ℤ) (rows b d s : List ℕ) (n t n1 t1 : ℕ) → a ≡ iter (placeRow n rows s) 0 t nodes → length a ≡ length nodes →
-    items (rowAt b) 0 t1 ≡ cutAll (items (cutAt n rows s) 0 t) → length b ≡ length rows → c ≡ filled (pos 0) (length a) (flatNodes (items (placeAt a) 0 n1)) →
+    items (rowAt b) 0 t1 ≡ cutAll (items (cutAt n rows s) 0 t) → length b ≡ length rows → c ≡ filled (pos 0) (length a) (flatNodes (items (nodeAt a) 0 n1)) →
     d ≡ filled 0 (length b) (flatRows (items (rowAt b) 0 t1)) → bothTables c d ≡ carried nodes rows s n t n1
 unfolding carried
 carry-done nodes a c rows b d s n t n1 t1 p la q lb fc fd = rw (fc, fd, q, la, lb, p)

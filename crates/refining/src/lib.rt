@@ -27,7 +27,7 @@ fn weigh(nodes: &[i32], rows: &[u32], scratch: &[u32], n: usize, t: usize, k: us
         return Plan { number: 8, n, t };
     }
     let t1 = cut::rows_after(scratch, t);
-    if (nodes.len() / 2 < n + k) | (rows.len() / 3 < t1) {
+    if (nodes.len() / 4 < n + k) | (rows.len() / 3 < t1) {
         return Plan { number: 9, n, t };
     }
     Plan {
@@ -51,14 +51,14 @@ fn lay_out(
     ensures number { λ r. ⌜ r .number ≡ lateNumber manner (now (nodes .entry)) (now (rows .entry)) (now (marks .entry)) n t ⌝ }
     ensures plan { λ r. ⌜ (r .number ≡ 0 → Planned manner (now (nodes .entry)) (now (rows .entry)) (now (scratch .exit)) (now (marks .entry)) n t (r .n) (r .t)) ⌝ }
 {
-    close::close(rows, scratch, nodes.len() / 2, t, marks, manner);
-    let k = number::number(rows, scratch, nodes.len() / 2, t);
+    close::close(rows, scratch, nodes.len() / 4, t, marks, manner);
+    let k = number::number(rows, scratch, nodes.len() / 4, t);
     weigh(nodes, rows, scratch, n, t, k as usize)
 }
 
 // ---- the work
 
-// The new nodes get their places, the rows are cut, and what lies past both counts is zero.
+// The new nodes get their places and corrections, the rows are cut, and what lies past both counts is zero.
 fn carry_out(
     nodes: &mut [i32],
     rows: &mut [u32],
@@ -72,8 +72,8 @@ fn carry_out(
     ensures { λ _. ⌜ bothTables (now (nodes .exit)) (now (rows .exit)) ≡ carried (now (nodes .entry)) (now (rows .entry)) (now (scratch .entry)) n t n1 ⌝ }
 {
     nodes::place_nodes(nodes, rows, scratch, n as u32, t);
-    cut::cut_rows(rows, scratch, nodes.len() / 2, n as u32, t, t1);
-    tables::clear_places_from(nodes, n1);
+    cut::cut_rows(rows, scratch, nodes.len() / 4, n as u32, t, t1);
+    tables::clear_nodes_from(nodes, n1);
     tables::clear_rows_from(rows, t1);
 }
 

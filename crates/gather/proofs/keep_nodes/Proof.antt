@@ -2,7 +2,7 @@ use Rattle.gather.specs.Closing.{Closing, closing-start, closing-skip, c
 use Rattle.lists.specs.LoopsLaw.{remaining-done}
 use Rattle.tables.specs.PutLaw.{nodes-table}
 use Rattle.gather.specs.Goes.{goneNode}
-use Rattle.meaning.specs.Tables.{placeAt}
+use Rattle.meaning.specs.Tables.{nodeAt}
 use lib.ListN.{length}
 use Prim.Native.Nat.{_≤_, _-_}
 use mathlib.Core.Path.{_≡_}
@@ -11,7 +11,7 @@ use Rattle.gather.proofs.keep_nodes.Statement.{statement}
 use Rattle.gather.proofs.keep_nodes.Tie as tie
 
 abbrev Inv-loop : tie.InvT-loop
-Inv-loop nodes₀ scratch nc n z₀ k₀ nodes z k = (z ≤ n) × (k ≤ z) × (length nodes ≡ length nodes₀) × Closing placeAt (goneNode scratch nc) placeAt nodes₀ nodes z k n
+Inv-loop nodes₀ scratch nc n z₀ k₀ nodes z k = (z ≤ n) × (k ≤ z) × (length nodes ≡ length nodes₀) × Closing nodeAt (goneNode scratch nc) nodeAt nodes₀ nodes z k n
 
 abbrev μ-loop : tie.MeasureT-loop
 μ-loop nodes₀ scratch nc n z₀ k₀ nodes z k = n - z
@@ -23,7 +23,7 @@ loop-again : tie.Need-loop-again Inv-loop μ-loop
 loop-again c = (search needs, search needs, search needs, search (needs, closing-skip))
 
 loop-again-2 : tie.Need-loop-again-2 Inv-loop μ-loop
-loop-again-2 c = (search needs, search needs, search needs, search (needs, closing-put nodes-table placeAt (λ l l′ i q. q)))
+loop-again-2 c = (search needs, search needs, search needs, search (needs, closing-put nodes-table nodeAt (λ l l′ i q. q)))
 
 returns : tie.Need-returns Inv-loop μ-loop
 returns c = (search needs, search (needs, remaining-done))

@@ -121,7 +121,16 @@ fn set_given(
 {
     let node = read::four(fields, 0) as usize;
     let c = read::correction_in(fields, 1);
-    mesh::set_correction(nodes, rows, scratch, session.n0, session.n, session.t, node, c)
+    mesh::set_correction(
+        nodes,
+        rows,
+        scratch,
+        session.n0,
+        session.n,
+        session.t,
+        node,
+        c,
+    )
 }
 
 // 03 to 06, 08 and 09, admitted.

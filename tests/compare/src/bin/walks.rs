@@ -22,7 +22,7 @@ struct Told {
 /// The numbers that refuse a setting on a lawful mesh.
 const REFUSE_A_SETTING: [u32; 3] = [3, 13, 15];
 
-/// A call on the mesh, made with the base's node count or, once in five, with anything. A quarter splits more for a mark, so it gets fewer.
+/// A call on the mesh, made with the base's node count or, once in four, with anything. A quarter splits more for a mark, so it gets fewer.
 fn random_call(d: &mut Dice, g: &Tables, n0: usize) -> Call {
     let way: (fn(usize, Vec<u8>) -> Call, usize) = if d.once_in(2) { (Call::Quarter, 80) } else { (Call::Refine, 20) };
     let (refine, every) = way;

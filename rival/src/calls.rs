@@ -331,7 +331,7 @@ fn lawful(g: &mut Tables, n0: usize, marks_fit: bool) -> Result<Mesh, Answer> {
     }
 }
 
-/// All nodes or rows that the answer could have named, the tables being those that the call was given.
+/// All nodes or rows of the tables that the call was given which offend against its number; none where a value to be set does.
 pub fn offenders(given: &Tables, a: Answer) -> Vec<usize> {
     if a.number < 3 { vec![] } else { given.mesh().offenders(a.number) }
 }

@@ -121,6 +121,7 @@ fn bad() -> Vec<Case> {
         ("a grid shuffled", shuffled(d, &grid(31, 31, 8))),
     ];
     let mut cases: Vec<_> = checked.iter().map(|(what, mesh)| case(&format!("check, {what}"), Call::Check, largest(mesh))).collect();
+    cases.push(case("set_correction, a full table", Call::Set(1023, 1023, [-3, 5]), largest(&full())));
     cases.extend(there_and_back("a fan, its hub numbered highest", Call::Refine, &fan(511, 511)));
     cases.extend(there_and_back("a fan, its hub numbered highest", Call::Quarter, &fan(341, 341)));
     cases.extend(there_and_back("a double fan", Call::Refine, &double_fan(511)));

@@ -1,54 +1,82 @@
-/* A square in two halves: where a fine rule is printed, its first row is cut in four and then refined once more; then it is restored. A
- * square with a row too many is refused, in words. */
+/* A square in two halves, with corrections at its corners: where a fine rule is printed, its first row is cut in four, the correction of an added
+ * node is set, and the row is refined once more; then the square is restored, corrections and all. Settings of a base node and out of range, and
+ * a square with a row too many, are refused, in words. */
 #include "spoutbeetle.h"
 
 #include <stdio.h>
+#include <stdlib.h>
 #include <string.h>
 
-enum { NC = 16, TC = 32 };
+enum { NC = 16, TC = 32, NODES = 4 * NC, ROWS = 3 * TC, SCRATCH = 4 * (NC + TC), N0 = 4 };
 
-/* Prints a refusal in words; 0 if there is none. */
-static int refused(const char *call, uint32_t number, size_t culprit) {
-    char text[128];
-    if (number == 0)
-        return 0;
+/* The tables lent to every call, and the counts. */
+static int32_t nodes[NODES] = {0, 0, -3, 7, 8, 0, 4, 0, 8, 8, 0, -2, 0, 8, 1, 1};
+static uint32_t rows[ROWS] = {1, 2, 0, 3, 0, 2};
+static uint32_t scratch[SCRATCH];
+static size_t n = N0, t = 2, culprit;
+
+static void must(int holds, const char *what) {
+    if (!holds) {
+        printf("not so: %s\n", what);
+        exit(1);
+    }
+}
+
+/* A call that is done leaves these counts. */
+static void done(const char *call, uint32_t number) {
+    must(number == 0, call);
+    printf("%s: %zu nodes, %zu triangles\n", call, n, t);
+}
+
+/* Prints why a call is refused. */
+static void refused(const char *call, uint32_t number) {
+    char text[160];
+    must(number != 0, call);
     spoutbeetle_words(number, culprit, text, sizeof text);
     printf("%s: %s\n", call, text);
-    return 1;
+}
+
+/* Prints where a node stands and what it carries. */
+static void show(size_t k) {
+    const int32_t *node = nodes + 4 * k;
+    printf("node %zu: place (%d, %d), correction (%d, %d)\n", k, (int)node[0], (int)node[1], (int)node[2], (int)node[3]);
+}
+
+static uint32_t check(size_t triangles) { return spoutbeetle_check(nodes, NODES, rows, ROWS, scratch, SCRATCH, n, triangles, &culprit); }
+
+static uint32_t set_correction(size_t node, int32_t dx, int32_t dy) {
+    return spoutbeetle_set_correction(nodes, NODES, rows, ROWS, scratch, SCRATCH, N0, n, t, node, dx, dy, &culprit);
+}
+
+/* A job: what it refines and sets. */
+static void print_fine_rule(void) {
+    const uint8_t marks[TC] = {1};
+    done("quarter", spoutbeetle_quarter(nodes, NODES, rows, ROWS, scratch, SCRATCH, marks, t, N0, &n, &t, &culprit));
+    show(4); /* the mean of nodes 0 and 2: -3 and 0 give -2 */
+    done("set node 4", set_correction(4, 9, -9));
+    show(4);
+    refused("set node 3", set_correction(3, 9, -9));
+    refused("set node 7", set_correction(7, 9, -9));
+    refused("set node 4 to 32,768", set_correction(4, 32768, -9));
+    done("refine", spoutbeetle_refine(nodes, NODES, rows, ROWS, scratch, SCRATCH, marks, t, N0, &n, &t, &culprit));
+    show(7); /* the mean of node 1 and node 4 as set */
 }
 
 int main(void) {
-    int32_t nodes[2 * NC] = {0, 0, 8, 0, 8, 8, 0, 8};
-    uint32_t rows[3 * TC] = {1, 2, 0, 3, 0, 2};
-    uint32_t scratch[4 * (NC + TC)];
-    uint8_t marks[TC] = {1};
-    int32_t base_nodes[2 * NC];
-    uint32_t base_rows[3 * TC];
-    size_t n = 4, t = 2, n0 = 4, passes, culprit;
+    int32_t base_nodes[NODES];
+    uint32_t base_rows[ROWS];
+    size_t passes;
     memcpy(base_nodes, nodes, sizeof nodes);
     memcpy(base_rows, rows, sizeof rows);
-
-    uint32_t said = spoutbeetle_check(nodes, 2 * NC, rows, 3 * TC, scratch, 4 * (NC + TC), n, t, &culprit);
-    if (refused("check", said, culprit))
-        return 1;
-    printf("check: %zu nodes, %zu triangles\n", n, t);
-    said = spoutbeetle_quarter(nodes, 2 * NC, rows, 3 * TC, scratch, 4 * (NC + TC), marks, t, n0, &n, &t, &culprit);
-    if (refused("quarter", said, culprit))
-        return 1;
-    printf("quarter: %zu nodes, %zu triangles\n", n, t);
-    said = spoutbeetle_refine(nodes, 2 * NC, rows, 3 * TC, scratch, 4 * (NC + TC), marks, t, n0, &n, &t, &culprit);
-    if (refused("refine", said, culprit))
-        return 1;
-    printf("refine: %zu nodes, %zu triangles\n", n, t);
-    said = spoutbeetle_restore(nodes, 2 * NC, rows, 3 * TC, scratch, 4 * (NC + TC), n0, &n, &t, &passes, &culprit);
-    if (refused("restore", said, culprit))
-        return 1;
-    printf("restore: %zu nodes, %zu triangles, %zu passes\n", n, t, passes);
-    if (memcmp(base_nodes, nodes, sizeof nodes) != 0 || memcmp(base_rows, rows, sizeof rows) != 0)
-        return 1;
-    printf("the base is back\n");
+    done("check", check(t));
+    print_fine_rule();
+    done("restore", spoutbeetle_restore(nodes, NODES, rows, ROWS, scratch, SCRATCH, N0, &n, &t, &passes, &culprit));
+    must(memcmp(base_nodes, nodes, sizeof nodes) == 0 && memcmp(base_rows, rows, sizeof rows) == 0, "the base is back");
+    printf("%zu passes, and the base is back, with its corrections:\n", passes);
+    for (size_t k = 0; k < n; k++)
+        show(k);
 
     memcpy(rows + 3 * t, rows, 3 * sizeof *rows);
-    said = spoutbeetle_check(nodes, 2 * NC, rows, 3 * TC, scratch, 4 * (NC + TC), n, t + 1, &culprit);
-    return refused("check, row 0 once more", said, culprit) ? 0 : 1;
+    refused("check, row 0 once more", check(t + 1));
+    return 0;
 }

@@ -6,8 +6,8 @@
 #include <stdlib.h>
 #include <string.h>
 
-static const char TEXT[] = "010000000000000000\n010000000800000000\n010000000800000008\n010000000000000008\n02000100020000\n02000300000002\n"
-                           "03\n040000\n06\n";
+static const char TEXT[] = "01000000000000000000000000\n01000000080000000000000000\n01000000080000000800000000\n01000000000000000800000000\n"
+                           "02000100020000\n02000300000002\n03\n040000\n06\n";
 enum { LENGTH = sizeof TEXT - 1 };
 
 /* A reader, and all that it answered. */
@@ -98,7 +98,7 @@ int main(void) {
     printf("the text in one piece:\n%.*s", (int)whole.length, whole.said);
     cut(&whole, "byte by byte", 1, 1);
     cut(&whole, "7 and 13 bytes by turns", 7, 13);
-    cut(&whole, "cut once, inside a digit pair", 28, LENGTH);
+    cut(&whole, "cut once, inside a digit pair", 48, LENGTH);
     cut(&whole, "512 bytes at a time", SPOUTBEETLE_PIECE, SPOUTBEETLE_PIECE);
     return 0;
 }

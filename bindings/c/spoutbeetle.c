@@ -12,7 +12,7 @@ static const struct {
     {NULL, "done"},
     {NULL, "a table length is not a multiple of its row, a room, buffer or count is out of bounds, or scratch is short"},
     {NULL, "the marks are not one byte for each triangle or node, or one is above 1"},
-    {"node", "has a coordinate outside -1,048,576 to 1,048,576"},
+    {"node", "has a coordinate outside -1,048,576 to 1,048,576, or a correction, stored or to be set, outside -32,768 to 32,767"},
     {"triangle", "names a node that is not there, or one node twice"},
     {"triangle", "has a directed edge that a lower row already has"},
     {"triangle", "has a twice-area that is not above 0"},
@@ -20,6 +20,8 @@ static const struct {
     {NULL, "an edge to be split has an odd sum of x or of y"},
     {NULL, "there is no room for the new nodes or triangles"},
     {NULL, "the labelling is not compatible"},
+    [13] = {NULL, "the node to be set belongs to the base"},
+    [15] = {NULL, "the node to be set is not there"},
     [17] = {NULL, "the piece is over 512 bytes, or comes after the end"},
 };
 

@@ -1,4 +1,4 @@
-/* Spoutbeetle: a triangle mesh that can be refined, coarsened and restored, proved.
+/* Spoutbeetle: a triangle mesh whose nodes carry corrections, and that can be refined, coarsened and restored, proved.
  *
  * First the calls on a mesh; then the reader, which takes the line program's text in pieces and makes these calls for it.
  *
@@ -7,21 +7,22 @@
  * the length is 0); the tables do not overlap; n, t, passes and culprit, where they are pointers, are valid, aligned, distinct from each
  * other and outside the tables; and nothing else reads or writes any of these during the call. Marks are only read.
  *
- *   nodes    two numbers a node, x and y; room NC = nodes_len / 2, at most 1,024
+ *   nodes    four numbers a node: x and y, its place, and dx and dy, the correction that it carries; room NC = nodes_len / 4, at most 1,024
  *   rows     three numbers a triangle, p q r: p is the newest vertex, q-r the refinement edge; room TC = rows_len / 3, at most 2,048
  *   scratch  at least 4 * (NC + TC) numbers; what it holds does not matter; all zero after every call
  *   marks    one byte for each triangle (refine, quarter) or node (coarsen), 0 or 1; never written
  *   n, t     how many nodes and triangles there are
  *   n0       how many of the nodes belong to the factory mesh
- *   culprit  the last parameter of every call on a mesh, written by each: with 3 to 7 the lowest node or triangle at fault, counted from 0;
- *            0 with every other number. What it held before does not matter
+ *   culprit  the last parameter of every call on a mesh, written by each: with 3 to 7 the lowest node or triangle at fault, counted from 0
+ *            (with 3 for a correction to be set: the node given); 0 with every other number. What it held before does not matter
  *
  * Numbers (the lowest that applies is returned), and the culprit:
  *    0  done: the tables hold the new mesh, zeros past the new counts
  *    1  a table length is not a multiple of its row, a room or count is out of bounds, n0 is above n, or scratch is short; of the reader:
  *       something is lent in another size, or the state is none that a call left
  *    2  the mark table has another length, or a byte above 1
- *    3  a coordinate of a node is outside -1,048,576 .. 1,048,576: the lowest such node
+ *    3  a coordinate of a node is outside -1,048,576 .. 1,048,576, or its dx or dy outside -32,768 .. 32,767: the lowest such node; if there is
+ *       none, the dx or dy to be set is outside: the node given
  *    4  a triangle names a node that is not below n, or one node twice: the lowest such triangle
  *    5  a directed edge (p to q, q to r, r to p) occurs twice: the lowest triangle with one that a lower row already has
  *    6  a triangle's twice-area is not above 0: the lowest such triangle
@@ -29,6 +30,8 @@
  *    8  an edge to be split has an odd sum of x or of y
  *    9  the new counts are above NC or TC
  *   10  the labelling is not compatible (check only)
+ *   13  the node to be set is a base node, below n0 (set_correction only)
+ *   15  the node to be set is not below n (set_correction only)
  *   17  a piece over 512 bytes, or any after the end was announced (reader only)
  *
  * A refusal (any number but 0) changes no node, no triangle, no mark and no count, and makes no pass; scratch is all zero, also where
@@ -49,7 +52,8 @@ extern "C" {
 uint32_t spoutbeetle_check(int32_t *nodes, size_t nodes_len, uint32_t *rows, size_t rows_len, uint32_t *scratch, size_t scratch_len,
                            size_t n, size_t t, size_t *culprit);
 
-/* Splits the marked triangles, and what must be split with them. After 0, *n and *t are the new counts. */
+/* Splits the marked triangles, and what must be split with them. A new node stands on the exact middle of its edge and carries the mean of the
+ * two ends' corrections, each part rounded down: -3 and 0 give -2. After 0, *n and *t are the new counts. */
 uint32_t spoutbeetle_refine(int32_t *nodes, size_t nodes_len, uint32_t *rows, size_t rows_len, uint32_t *scratch, size_t scratch_len,
                             const uint8_t *marks, size_t marks_len, size_t n0, size_t *n, size_t *t, size_t *culprit);
 
@@ -57,18 +61,24 @@ uint32_t spoutbeetle_refine(int32_t *nodes, size_t nodes_len, uint32_t *rows, si
 uint32_t spoutbeetle_quarter(int32_t *nodes, size_t nodes_len, uint32_t *rows, size_t rows_len, uint32_t *scratch, size_t scratch_len,
                              const uint8_t *marks, size_t marks_len, size_t n0, size_t *n, size_t *t, size_t *culprit);
 
-/* Takes the marked nodes that are good: added nodes that can go without leaving a gap. After 0, *n and *t are the new counts. */
+/* Takes the marked nodes that are good: added nodes that can go without leaving a gap. Corrections do not matter to that; the nodes that stay
+ * keep theirs. After 0, *n and *t are the new counts. */
 uint32_t spoutbeetle_coarsen(int32_t *nodes, size_t nodes_len, uint32_t *rows, size_t rows_len, uint32_t *scratch, size_t scratch_len,
                              const uint8_t *marks, size_t marks_len, size_t n0, size_t *n, size_t *t, size_t *culprit);
+
+/* Sets the correction of an added node. Node number, dx and dy are anything: the numbers above say what is refused. After 0 the node carries
+ * (dx, dy), entries past the counts are zero, and nothing else differs. */
+uint32_t spoutbeetle_set_correction(int32_t *nodes, size_t nodes_len, uint32_t *rows, size_t rows_len, uint32_t *scratch, size_t scratch_len,
+                                    size_t n0, size_t n, size_t t, size_t node, int32_t dx, int32_t dy, size_t *culprit);
 
 /* Coarsens while a good node exists. After 0, *n and *t are the new counts and *passes how many passes were made, 0 passes included;
  * after a refusal *passes is 0. What *passes held before does not matter.
  *
- * It gives back a base row for row (node table, triangle table and counts; zeros past them), after no more passes than there were added
- * nodes, if
+ * It gives back a base row for row (node table with its corrections, triangle table and counts; zeros past them), after no more passes than
+ * there were added nodes, if
  *   - spoutbeetle_check returned 0 for the base, on these tables;
- *   - every refine, quarter, coarsen or restore since that returned 0 had the base's node count as n0, and was made on the tables and the counts
- *     that the accepted call before it left (the first: on those of the check);
+ *   - every refine, quarter, coarsen, set_correction or restore since that returned 0 had the base's node count as n0, and was made on the tables
+ *     and the counts that the accepted call before it left (the first: on those of the check);
  *   - this call too has the base's node count as n0, the tables and the counts that the last accepted call left, and scratch enough;
  *   - nothing but these calls wrote to the node table or the triangle table, and their lengths stayed.
  * Refused calls of any kind may stand in between, with whatever counts, n0, marks and scratch; each call may lend another scratch.
@@ -90,7 +100,7 @@ uint32_t spoutbeetle_restore(int32_t *nodes, size_t nodes_len, uint32_t *rows, s
  *   piece    the next bytes of the text, 512 at most; only read
  *   line     255 bytes: the first 255 of the unfinished line, then zeros
  *   nodes, rows, scratch
- *            1,024, 3,072 and 6,144 numbers: the tables of the line program, 512 nodes and 1,024 triangles
+ *            2,048, 3,072 and 6,144 numbers: the tables of the line program, 512 nodes and 1,024 triangles
  *   out      32,768 bytes at least; what it holds does not matter, and what is not written stays
  *   used     how many bytes of the line buffer the unfinished line has
  *   ended    whether the end was announced
@@ -129,7 +139,7 @@ enum { SPOUTBEETLE_PIECE = 512, SPOUTBEETLE_OUT = 32768 };
  * Two that were all zero before they began can be compared by memcmp. */
 typedef struct spoutbeetle_reader {
     size_t used, n, t, n0;
-    int32_t nodes[1024];
+    int32_t nodes[2048];
     uint32_t rows[3072], scratch[6144];
     uint8_t line[255];
     bool ended, accepted;

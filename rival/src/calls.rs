@@ -1,7 +1,8 @@
-//! Check, refine, quarter, coarsen and restore on lent tables.
+//! Check, refine, quarter, coarsen, restore and the setting of a correction, on lent tables.
 use std::collections::{HashMap, HashSet};
+use std::ops::RangeInclusive;
 
-/// What a call says: its number, the counts after it, the passes it made, and the lowest node or row at fault.
+/// What a call says: its number, the counts after it, the passes it made, and the node or row at fault.
 #[derive(Clone, Copy, Debug, PartialEq, Eq)]
 pub struct Answer {
     pub number: u32,
@@ -29,20 +30,31 @@ enum Starts {
 }
 
 type Row = [usize; 3];
-type Place = (i64, i64);
+
+/// A place, and the correction that is carried there.
+#[derive(Clone, Copy)]
+struct Node {
+    x: i64,
+    y: i64,
+    dx: i64,
+    dy: i64,
+}
 
 #[derive(Clone)]
 struct Mesh {
-    nodes: Vec<Place>,
+    nodes: Vec<Node>,
     rows: Vec<Row>,
 }
 
 const FAR: i64 = 1_048_576;
 
+/// "dx and dy from −32,768 to 32,767"
+const CORRECTIONS: RangeInclusive<i64> = -32_768..=32_767;
+
 impl Tables {
     fn sizes_fit(&self, n0: usize) -> bool {
-        let (nc, tc) = (self.nodes.len() / 2, self.rows.len() / 3);
-        self.nodes.len() % 2 == 0
+        let (nc, tc) = (self.nodes.len() / 4, self.rows.len() / 3);
+        self.nodes.len() % 4 == 0
             && self.rows.len() % 3 == 0
             && nc <= 1024
             && tc <= 2048
@@ -53,17 +65,21 @@ impl Tables {
     }
 
     fn mesh(&self) -> Mesh {
-        let place = |k: usize| (self.nodes[2 * k] as i64, self.nodes[2 * k + 1] as i64);
+        let node = |k: usize| {
+            let [x, y, dx, dy] = [0, 1, 2, 3].map(|s| self.nodes[4 * k + s] as i64);
+            Node { x, y, dx, dy }
+        };
         let row = |i: usize| [0, 1, 2].map(|s| self.rows[3 * i + s] as usize);
-        Mesh { nodes: (0..self.n).map(place).collect(), rows: (0..self.t).map(row).collect() }
+        Mesh { nodes: (0..self.n).map(node).collect(), rows: (0..self.t).map(row).collect() }
     }
 
     fn store(&mut self, m: &Mesh) {
         self.nodes.fill(0);
         self.rows.fill(0);
-        for (k, p) in m.nodes.iter().enumerate() {
-            self.nodes[2 * k] = p.0 as i32;
-            self.nodes[2 * k + 1] = p.1 as i32;
+        for (k, a) in m.nodes.iter().enumerate() {
+            for (s, v) in [a.x, a.y, a.dx, a.dy].into_iter().enumerate() {
+                self.nodes[4 * k + s] = v as i32;
+            }
         }
         for (i, r) in m.rows.iter().enumerate() {
             for s in 0..3 {
@@ -106,6 +122,17 @@ fn pair(a: usize, b: usize) -> (usize, usize) {
     (a.min(b), a.max(b))
 }
 
+/// A new node: "the exact midpoint", and "the mean of the two ends, rounded down"; nothing if a sum of x or of y is odd.
+fn between(a: Node, b: Node) -> Option<Node> {
+    let (x, y) = (a.x + b.x, a.y + b.y);
+    let even = x % 2 == 0 && y % 2 == 0;
+    even.then(|| Node { x: x / 2, y: y / 2, dx: (a.dx + b.dx).div_euclid(2), dy: (a.dy + b.dy).div_euclid(2) })
+}
+
+fn in_range(a: &Node) -> bool {
+    a.x.abs() <= FAR && a.y.abs() <= FAR && CORRECTIONS.contains(&a.dx) && CORRECTIONS.contains(&a.dy)
+}
+
 fn misnames(r: Row, n: usize) -> bool {
     r.iter().any(|&k| k >= n) || r[0] == r[1] || r[1] == r[2] || r[2] == r[0]
 }
@@ -113,14 +140,14 @@ fn misnames(r: Row, n: usize) -> bool {
 impl Mesh {
     fn twice_area(&self, r: Row) -> i64 {
         let [p, q, s] = r.map(|k| self.nodes[k]);
-        (q.0 - p.0) * (s.1 - p.1) - (s.0 - p.0) * (q.1 - p.1)
+        (q.x - p.x) * (s.y - p.y) - (s.x - p.x) * (q.y - p.y)
     }
 
     /// The nodes (3 and 7) or rows (4, 5 and 6) that offend against this number, from the lowest up; no lower number applies.
     fn offenders(&self, number: u32) -> Vec<usize> {
         let (n, t) = (self.nodes.len(), self.rows.len());
         match number {
-            3 => (0..n).filter(|&k| self.nodes[k].0.abs() > FAR || self.nodes[k].1.abs() > FAR).collect(),
+            3 => (0..n).filter(|&k| !in_range(&self.nodes[k])).collect(),
             4 => (0..t).filter(|&i| misnames(self.rows[i], n)).collect(),
             5 => {
                 // a row's own three differ, as it names no node twice
@@ -177,12 +204,9 @@ impl Mesh {
         for &r in &self.rows {
             for e in edges(r) {
                 if set.contains(&e) && !number.contains_key(&e) {
-                    let (a, b) = (self.nodes[e.0], self.nodes[e.1]);
-                    if (a.0 + b.0) % 2 != 0 || (a.1 + b.1) % 2 != 0 {
-                        return Err(8);
-                    }
+                    let new = between(self.nodes[e.0], self.nodes[e.1]).ok_or(8u32)?;
                     number.insert(e, nodes.len());
-                    nodes.push(((a.0 + b.0) / 2, (a.1 + b.1) / 2));
+                    nodes.push(new);
                 }
             }
         }
@@ -231,7 +255,7 @@ impl Mesh {
             found.push((third, fourth));
         }
         let (pz, pb, pc) = (self.nodes[z], self.nodes[b], self.nodes[c]);
-        if 2 * pz.0 != pb.0 + pc.0 || 2 * pz.1 != pb.1 + pc.1 {
+        if 2 * pz.x != pb.x + pc.x || 2 * pz.y != pb.y + pc.y {
             return None;
         }
         if arrow.contains_key(&(b, c)) || arrow.contains_key(&(c, b)) {
@@ -307,7 +331,7 @@ fn lawful(g: &mut Tables, n0: usize, marks_fit: bool) -> Result<Mesh, Answer> {
     }
 }
 
-/// All nodes or rows that the answer could have named, the tables being those that the call was given.
+/// All nodes or rows of the tables that the call was given which offend against its number; none where a value to be set does.
 pub fn offenders(given: &Tables, a: Answer) -> Vec<usize> {
     if a.number < 3 { vec![] } else { given.mesh().offenders(a.number) }
 }
@@ -333,7 +357,7 @@ pub fn quarter(g: &mut Tables, n0: usize, marks: &[u8]) -> Answer {
 fn refine_from(starts: Starts, g: &mut Tables, n0: usize, marks: &[u8]) -> Answer {
     let fit = marks_fit(marks, g.t);
     match lawful(g, n0, fit).map(|m| m.refined(starts, marks)) {
-        Ok(Ok(new)) if new.nodes.len() > g.nodes.len() / 2 || new.rows.len() > g.rows.len() / 3 => g.refused(9, 0),
+        Ok(Ok(new)) if new.nodes.len() > g.nodes.len() / 4 || new.rows.len() > g.rows.len() / 3 => g.refused(9, 0),
         Ok(Ok(new)) => {
             g.store(&new);
             g.done(0)
@@ -367,5 +391,23 @@ pub fn restore(g: &mut Tables, n0: usize) -> Answer {
             g.done(passes)
         }
         Err(refused) => refused,
+    }
+}
+
+/// Request W5: the correction of an added node is set; its node number and the value are anything.
+pub fn set_correction(g: &mut Tables, n0: usize, node: usize, dx: i32, dy: i32) -> Answer {
+    let (dx, dy) = (dx as i64, dy as i64);
+    match lawful(g, n0, true) {
+        // "a value out of range, stored or to be set, is refused as 3 (W2's number: the lowest node at fault in the table, else the node given)"
+        Err(refused) if refused.number <= 3 => refused,
+        _ if !CORRECTIONS.contains(&dx) || !CORRECTIONS.contains(&dy) => g.refused(3, node),
+        Err(refused) => refused,
+        Ok(_) if node < n0 => g.refused(13, 0),
+        Ok(_) if node >= g.n => g.refused(15, 0),
+        Ok(mut m) => {
+            m.nodes[node] = Node { dx, dy, ..m.nodes[node] };
+            g.store(&m);
+            g.done(0)
+        }
     }
 }

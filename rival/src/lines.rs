@@ -1,4 +1,4 @@
-//! The line program of document 01, with `09` of request W1 and the culprits of W2, by an ordinary method.
+//! The line program of document 01, with `09` of request W1, the culprits of W2, and the corrections and `08` of W5, by an ordinary method.
 use crate::calls::{self, Answer, Tables};
 use crate::pieces::{Reader, PIECE};
 
@@ -13,7 +13,7 @@ pub struct Desk {
 
 impl Default for Desk {
     fn default() -> Desk {
-        Desk { g: Tables { nodes: vec![0; 2 * NODES], rows: vec![0; 3 * ROWS], scratch: vec![0; 4 * (NODES + ROWS)], n: 0, t: 0 }, base: None }
+        Desk { g: Tables { nodes: vec![0; 4 * NODES], rows: vec![0; 3 * ROWS], scratch: vec![0; 4 * (NODES + ROWS)], n: 0, t: 0 }, base: None }
     }
 }
 
@@ -36,9 +36,27 @@ fn digit(b: u8) -> Option<u64> {
     }
 }
 
-/// The digits cut into numbers of `width` digits.
-fn fields(digits: &[u64], width: usize) -> Option<Vec<u64>> {
-    (digits.len() % width == 0).then(|| digits.chunks(width).map(|c| c.iter().fold(0, |v, d| 16 * v + d)).collect())
+fn number(digits: &[u64]) -> u64 {
+    digits.iter().fold(0, |v, d| 16 * v + d)
+}
+
+/// A number of 4 digits, two's complement.
+fn signed(number: u64) -> i32 {
+    number as u16 as i16 as i32
+}
+
+/// The digits cut into numbers of 4 digits.
+fn fields(digits: &[u64]) -> Option<Vec<u64>> {
+    (digits.len() % 4 == 0).then(|| digits.chunks(4).map(number).collect())
+}
+
+/// x and y of 8 digits, dx and dy of 4.
+fn node(digits: &[u64]) -> Option<[i32; 4]> {
+    (digits.len() == 24).then(|| {
+        let [x, y] = [&digits[..8], &digits[8..16]].map(|d| number(d) as u32 as i32);
+        let [dx, dy] = [&digits[16..20], &digits[20..]].map(|d| signed(number(d)));
+        [x, y, dx, dy]
+    })
 }
 
 impl Desk {
@@ -58,14 +76,12 @@ impl Desk {
         let rest = &digits[2..];
         match (kind, self.base) {
             (1, None) => {
-                let f = fields(rest, 8).filter(|f| f.len() == 2 && self.g.n < NODES)?;
-                for s in 0..2 {
-                    self.g.nodes[2 * self.g.n + s] = f[s] as u32 as i32;
-                }
+                let a = node(rest).filter(|_| self.g.n < NODES)?;
+                self.g.nodes[4 * self.g.n..4 * self.g.n + 4].copy_from_slice(&a);
                 self.g.n += 1;
             }
             (2, None) => {
-                let f = fields(rest, 4).filter(|f| f.len() == 3 && self.g.t < ROWS)?;
+                let f = fields(rest).filter(|f| f.len() == 3 && self.g.t < ROWS)?;
                 for s in 0..3 {
                     self.g.rows[3 * self.g.t + s] = f[s] as u32;
                 }
@@ -93,12 +109,16 @@ impl Desk {
             (6, Some(n0)) if rest.is_empty() => answer(out, 6, calls::restore(&mut self.g, n0)),
             (7, _) if rest.is_empty() => {
                 for k in 0..self.g.n {
-                    out.extend(format!("01{:08x}{:08x}\n", self.g.nodes[2 * k], self.g.nodes[2 * k + 1]).bytes());
+                    out.extend(node_frame(&self.g.nodes[4 * k..4 * k + 4]).bytes());
                 }
                 for i in 0..self.g.t {
                     let r = &self.g.rows[3 * i..3 * i + 3];
                     out.extend(format!("02{:04x}{:04x}{:04x}\n", r[0], r[1], r[2]).bytes());
                 }
+            }
+            (8, Some(n0)) => {
+                let f = fields(rest).filter(|f| f.len() == 3)?;
+                answer(out, 8, calls::set_correction(&mut self.g, n0, f[0] as usize, signed(f[1]), signed(f[2])));
             }
             _ => return None,
         }
@@ -106,9 +126,14 @@ impl Desk {
     }
 }
 
+/// A node as an `01` frame. A correction that 4 digits cannot hold is cut to its last 4.
+pub fn node_frame(a: &[i32]) -> String {
+    format!("01{:08x}{:08x}{:04x}{:04x}\n", a[0], a[1], a[2] as u16, a[3] as u16)
+}
+
 /// One byte for each of `count`, 1 where its number is listed.
 fn marks(digits: &[u64], count: usize) -> Option<Vec<u8>> {
-    let listed = fields(digits, 4)?;
+    let listed = fields(digits)?;
     let mut marks = vec![0; count];
     for k in listed {
         *marks.get_mut(k as usize)? = 1;

@@ -31,18 +31,41 @@ impl Dice {
     }
 }
 
-/// Tables that hold the mesh, with room to spare, garbage past the counts and scratch that is not clear.
+/// A correction: small, or any, or at the ends of its range.
+pub fn correction(d: &mut Dice) -> [i32; 2] {
+    [0, 1].map(|_| match d.below(4) {
+        0 => [-32_768, 32_767][d.below(2)],
+        1 => d.below(65_536) as i32 - 32_768,
+        _ => d.below(9) as i32 - 4,
+    })
+}
+
+/// A correction or, once in eight times, one out of its range, mostly by one.
+pub fn any_correction(d: &mut Dice) -> [i32; 2] {
+    let mut value = correction(d);
+    if d.once_in(8) {
+        value[d.below(2)] = beyond(d);
+    }
+    value
+}
+
+fn beyond(d: &mut Dice) -> i32 {
+    [32_768, -32_769, 32_768, -32_769, i32::MIN, i32::MAX][d.below(6)]
+}
+
+/// Tables that hold the mesh, its nodes carrying corrections, with room to spare, garbage past the counts and scratch that is not clear.
 pub fn lend(d: &mut Dice, nodes: &[(i32, i32)], rows: &[[u32; 3]]) -> Tables {
     let nc = (nodes.len() + d.below(3) * d.below(40)).min(1024).max(nodes.len());
     let tc = (rows.len() + d.below(3) * d.below(80)).min(2048).max(rows.len());
     let mut g = Tables { nodes: vec![], rows: vec![], scratch: vec![], n: nodes.len(), t: rows.len() };
     for p in nodes {
-        g.nodes.extend([p.0, p.1]);
+        let [dx, dy] = correction(d);
+        g.nodes.extend([p.0, p.1, dx, dy]);
     }
     for r in rows {
         g.rows.extend(r);
     }
-    g.nodes.resize_with(2 * nc, || d.below(1000) as i32 - 500);
+    g.nodes.resize_with(4 * nc, || d.below(1000) as i32 - 500);
     g.rows.resize_with(3 * tc, || d.below(50) as u32);
     g.scratch.resize_with(4 * (nc + tc) + d.below(5), || d.below(9) as u32);
     g
@@ -103,7 +126,7 @@ pub fn absurd(d: &mut Dice) -> (Vec<(i32, i32)>, Vec<[u32; 3]>) {
     (kept, rows)
 }
 
-/// A mesh: a grid or an absurd one, grown by some refinements of the rival's own, of either way.
+/// A mesh: a grid or an absurd one, grown by some refinements of the rival's own, of either way, corrections set on it.
 pub fn mesh(d: &mut Dice) -> (Tables, usize) {
     let (nodes, rows) = if d.once_in(3) {
         let (w, h) = (1 + d.below(3), 1 + d.below(3));
@@ -121,8 +144,11 @@ pub fn mesh(d: &mut Dice) -> (Tables, usize) {
             let marks: Vec<u8> = (0..g.n).map(|_| d.once_in(2) as u8).collect();
             calls::coarsen(&mut g, n0, &marks);
         }
+        let [dx, dy] = correction(d);
+        let node = d.below(g.n);
+        calls::set_correction(&mut g, n0, node, dx, dy);
     }
-    for k in 2 * g.n..g.nodes.len() {
+    for k in 4 * g.n..g.nodes.len() {
         g.nodes[k] = d.below(1000) as i32 - 500;
     }
     for k in 3 * g.t..g.rows.len() {
@@ -137,13 +163,13 @@ pub fn mesh(d: &mut Dice) -> (Tables, usize) {
 /// Damage of one kind or another, now and then none.
 pub fn damage(d: &mut Dice, g: &mut Tables) {
     match d.below(16) {
-        0 => g.n = d.below(g.nodes.len() / 2 + 2),
+        0 => g.n = d.below(g.nodes.len() / 4 + 2),
         1 => g.t = d.below(g.rows.len() / 3 + 2),
         2 => {
             let k = d.below(g.scratch.len() + 1);
             g.scratch.truncate(k);
         }
-        3 => g.nodes.push(0),
+        3 => g.nodes.extend(&[0; 3][d.below(3)..]),
         4 => g.rows.push(0),
         5 if d.once_in(8) => g.n = usize::MAX,
         6 if d.once_in(8) => g.t = usize::MAX / 2,
@@ -154,7 +180,7 @@ pub fn damage(d: &mut Dice, g: &mut Tables) {
 
 /// Damage of one kind to up to three nodes or rows.
 pub fn strike(d: &mut Dice, g: &mut Tables) {
-    let kind = d.below(6);
+    let kind = d.below(7);
     for _ in 0..=d.below(3) {
         strike_one(d, g, kind);
     }
@@ -166,9 +192,10 @@ fn strike_one(d: &mut Dice, g: &mut Tables, kind: usize) {
         0 if g.t > 0 => g.rows[3 * row + d.below(3)] = d.below(g.n + 2) as u32,
         1 if g.t > 0 => g.rows.copy_within(3 * row..3 * row + 3, 3 * d.below(g.t)),
         2 if g.t > 0 => g.rows.swap(3 * row + 1, 3 * row + 2),
-        3 if g.n > 0 => g.nodes[2 * node + d.below(2)] = [1_048_576, -1_048_576, 1_048_577, -1_048_577, i32::MIN, i32::MAX][d.below(6)],
-        4 if g.n > 0 => g.nodes[2 * node + d.below(2)] += d.below(5) as i32 - 2,
-        5 if g.n > 0 => g.nodes.copy_within(2 * node..2 * node + 2, 2 * d.below(g.n)),
+        3 if g.n > 0 => g.nodes[4 * node + d.below(2)] = [1_048_576, -1_048_576, 1_048_577, -1_048_577, i32::MIN, i32::MAX][d.below(6)],
+        4 if g.n > 0 => g.nodes[4 * node + d.below(2)] += d.below(5) as i32 - 2,
+        5 if g.n > 0 => g.nodes.copy_within(4 * node..4 * node + 4, 4 * d.below(g.n)),
+        6 if g.n > 0 => g.nodes[4 * node + 2 + d.below(2)] = beyond(d),
         _ => {}
     }
 }

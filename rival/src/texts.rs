@@ -1,8 +1,9 @@
 //! Random texts for the line program, good and bad, from a seed.
-use crate::random::{grid, lend, strike, Dice};
+use crate::lines::node_frame;
+use crate::random::{correction, grid, lend, strike, Dice};
 
-/// A base, spoilt if it is to be: some of its nodes or rows, or rows left out.
-fn base(d: &mut Dice, spoilt: bool, text: &mut Vec<u8>) {
+/// A base, spoilt if it is to be: some of its nodes or rows, or rows left out. Says how many nodes it has.
+fn base(d: &mut Dice, spoilt: bool, text: &mut Vec<u8>) -> usize {
     let (w, h) = (1 + d.below(3), 1 + d.below(3));
     let (nodes, rows) = grid(w, h, 1 << d.below(7));
     let mut g = lend(d, &nodes, &rows);
@@ -11,22 +12,34 @@ fn base(d: &mut Dice, spoilt: bool, text: &mut Vec<u8>) {
     } else if spoilt {
         strike(d, &mut g);
     }
-    for p in g.nodes[..2 * g.n].chunks(2) {
-        text.extend(format!("01{:08x}{:08x}\n", p[0], p[1]).bytes());
+    for a in g.nodes[..4 * g.n].chunks(4) {
+        text.extend(node_frame(a).bytes());
     }
     for r in g.rows[..3 * g.t].chunks(3) {
         text.extend(format!("02{:04x}{:04x}{:04x}\n", r[0], r[1], r[2]).bytes());
     }
     text.extend(b"03\n");
+    g.n
 }
 
 fn listed(d: &mut Dice, kind: &str, most: usize, text: &mut Vec<u8>) {
     text.extend(kind.bytes());
-    let most_listed = 1 + d.below(66);
+    let most_listed = if d.once_in(2) { 3 } else { 1 + d.below(66) };
     for _ in 0..d.below(most_listed) {
         text.extend(format!("{:04x}", d.below(most)).bytes());
     }
     text.push(b'\n');
+}
+
+/// A setting of a node that is among the base's `n0`, or one of the next few, or any.
+fn setting(d: &mut Dice, n0: usize, text: &mut Vec<u8>) {
+    let node = match d.below(8) {
+        0 => d.below(n0),
+        1 => d.below(65_536),
+        _ => n0 + d.below(3),
+    };
+    let [dx, dy] = correction(d).map(|part| part as u16);
+    text.extend(format!("08{node:04x}{dx:04x}{dy:04x}\n").bytes());
 }
 
 fn garbage(d: &mut Dice, text: &mut Vec<u8>) {
@@ -47,10 +60,10 @@ pub fn random_text(d: &mut Dice) -> Vec<u8> {
     while d.once_in(2) {
         base(d, true, &mut text);
     }
-    base(d, false, &mut text);
+    let n0 = base(d, false, &mut text);
     for _ in 0..d.below(40) {
-        match d.below(12) {
-            0 => base(d, false, &mut text),
+        match d.below(14) {
+            0 => drop(base(d, false, &mut text)),
             1 => garbage(d, &mut text),
             2 => text.extend(b"06\n"),
             3 => text.extend(b"07\n"),
@@ -59,6 +72,7 @@ pub fn random_text(d: &mut Dice) -> Vec<u8> {
                 let kind = ["08", "00", "ff", "0", "04a", "06ff", "09a", "0a"][d.below(8)];
                 listed(d, kind, most, &mut text);
             }
+            7 | 8 => setting(d, n0, &mut text),
             _ => {
                 let kind = ["04", "09"][d.below(2)];
                 listed(d, kind, most, &mut text);

@@ -7,14 +7,14 @@
 
 enum { NC = 16, TC = 32, SCRATCH = 4 * (NC + TC) };
 
-static int32_t nodes[2 * NC];
+static int32_t nodes[4 * NC];
 static uint32_t rows[3 * TC], scratch[SCRATCH];
 static const uint8_t marks[TC] = {1};
 static size_t n, t, passes, culprit;
 
 /* Puts a square in two halves into the tables. */
 static void square(void) {
-    static const int32_t corners[] = {0, 0, 8, 0, 8, 8, 0, 8};
+    static const int32_t corners[] = {0, 0, 1, -1, 8, 0, 2, -2, 8, 8, 3, -3, 0, 8, 4, -4};
     static const uint32_t halves[] = {1, 2, 0, 3, 0, 2};
     memcpy(nodes, corners, sizeof corners);
     memcpy(rows, halves, sizeof halves);
@@ -23,18 +23,22 @@ static void square(void) {
     culprit = 7777;
 }
 
-static uint32_t check(size_t scratch_len) { return spoutbeetle_check(nodes, 2 * NC, rows, 3 * TC, scratch, scratch_len, n, t, &culprit); }
+static uint32_t check(size_t scratch_len) { return spoutbeetle_check(nodes, 4 * NC, rows, 3 * TC, scratch, scratch_len, n, t, &culprit); }
 
-static uint32_t refine(size_t marks_len) { return spoutbeetle_refine(nodes, 2 * NC, rows, 3 * TC, scratch, SCRATCH, marks, marks_len, 4, &n, &t, &culprit); }
+static uint32_t refine(size_t marks_len) { return spoutbeetle_refine(nodes, 4 * NC, rows, 3 * TC, scratch, SCRATCH, marks, marks_len, 4, &n, &t, &culprit); }
 
-static uint32_t quarter(size_t room) { return spoutbeetle_quarter(nodes, 2 * room, rows, 3 * TC, scratch, SCRATCH, marks, t, 4, &n, &t, &culprit); }
+static uint32_t quarter(size_t room) { return spoutbeetle_quarter(nodes, 4 * room, rows, 3 * TC, scratch, SCRATCH, marks, t, 4, &n, &t, &culprit); }
 
-static uint32_t coarsen(void) { return spoutbeetle_coarsen(nodes, 2 * NC, rows, 3 * TC, scratch, SCRATCH, marks, n, 4, &n, &t, &culprit); }
+static uint32_t coarsen(void) { return spoutbeetle_coarsen(nodes, 4 * NC, rows, 3 * TC, scratch, SCRATCH, marks, n, 4, &n, &t, &culprit); }
 
-static uint32_t restore(void) { return spoutbeetle_restore(nodes, 2 * NC, rows, 3 * TC, scratch, SCRATCH, 4, &n, &t, &passes, &culprit); }
+static uint32_t restore(void) { return spoutbeetle_restore(nodes, 4 * NC, rows, 3 * TC, scratch, SCRATCH, 4, &n, &t, &passes, &culprit); }
+
+static uint32_t set_correction(size_t node, int32_t dx, int32_t dy) {
+    return spoutbeetle_set_correction(nodes, 4 * NC, rows, 3 * TC, scratch, SCRATCH, 4, n, t, node, dx, dy, &culprit);
+}
 
 static void say(const char *call, uint32_t number) {
-    char text[128];
+    char text[160];
     spoutbeetle_words(number, culprit, text, sizeof text);
     printf("%s: %s\n", call, text);
     square();
@@ -46,22 +50,30 @@ static void say_calls(void) {
     say("check, the square", check(SCRATCH));
     say("check, scratch a number short", check(SCRATCH - 1));
     say("refine, a mark for one row of two", refine(1));
-    nodes[2 * 2] = nodes[2 * 3 + 1] = 1048577;
+    nodes[4 * 2] = nodes[4 * 3 + 1] = 1048577;
     say("check, nodes 2 and 3 too far out", check(SCRATCH));
+    nodes[4 * 1 + 3] = -32769, nodes[4 * 2] = 1048577;
+    say("restore, node 1 with too large a correction, 2 too far out", restore());
+    say("set_correction, node 3 to 32,768", set_correction(3, 0, 32768));
+    say("set_correction, node 9 to -32,769", set_correction(9, -32769, 0));
     rows[3 * 1 + 2] = 4;
     say("refine, row 1 names node 4 of four", refine(t));
     t = 3;
     memcpy(rows + 3 * 2, rows, 3 * sizeof *rows);
     say("quarter, row 0 once more as row 2", quarter(NC));
-    nodes[2 * 3] = nodes[2 * 3 + 1] = 4;
+    nodes[4 * 3] = nodes[4 * 3 + 1] = 4;
     say("coarsen, row 1 without area", coarsen());
     n = 6;
     say("restore, nodes 4 and 5 more", restore());
-    nodes[2 * 2 + 1] = 7;
+    nodes[4 * 2 + 1] = 7;
     say("refine, an edge of odd height", refine(t));
     say("quarter, room for four nodes", quarter(4));
     rows[3 * 1] = 0, rows[3 * 1 + 1] = 2, rows[3 * 1 + 2] = 3;
     say("check, row 1 turned", check(SCRATCH));
+    say("set_correction, a base node", set_correction(3, 5, -6));
+    say("set_correction, node 4 of four", set_correction(4, 5, -6));
+    (void)refine(t);
+    say("set_correction, an added node", set_correction(4, 32767, -32768));
 }
 
 /* The reader's refusals. */
@@ -79,7 +91,7 @@ static void say_reader(void) {
 
 /* Whether the words, cut to any size, are those of the whole text, with an ending 0 and nothing written behind. */
 static int cut_well(uint32_t number, size_t who) {
-    char whole[128], text[128], before[128];
+    char whole[160], text[160], before[160];
     size_t length = spoutbeetle_words(number, who, whole, sizeof whole);
     int well = length == strlen(whole) && spoutbeetle_words(number, who, NULL, 0) == length;
     memset(before, '#', sizeof before);
@@ -97,7 +109,7 @@ static int say_number(uint32_t number) {
     static const size_t culprits[] = {0, 17, 4294967295};
     int well = 1;
     for (size_t k = 0; k < sizeof culprits / sizeof *culprits; k++) {
-        char text[128];
+        char text[160];
         spoutbeetle_words(number, culprits[k], text, sizeof text);
         printf("%u, %zu: %s\n", number, culprits[k], text);
         well = well && cut_well(number, culprits[k]);

@@ -4,7 +4,10 @@ use spoutbeetle::reader::{Reader, State, OUT, PIECE};
 use spoutbeetle::Refusal;
 use std::io::{self, Write};
 
-const TEXT: &str = "010000000000000000\n010000000800000000\n010000000800000008\n010000000000000008\n02000100020000\n02000300000002\n03\n040000\n06\n";
+const TEXT: &str = concat!(
+    "01000000000000000000000000\n01000000080000000000000000\n01000000080000000800000000\n01000000000000000800000000\n",
+    "02000100020000\n02000300000002\n03\n040000\n06\n",
+);
 
 /// A text that was taken: the answers, and what is carried at the end.
 #[derive(PartialEq)]
@@ -49,7 +52,7 @@ fn main() -> io::Result<()> {
     for (how, first, second) in [
         ("byte by byte", 1, 1),
         ("7 and 13 bytes by turns", 7, 13),
-        ("cut once, inside a digit pair", 28, TEXT.len()),
+        ("cut once, inside a digit pair", 48, TEXT.len()),
         ("512 bytes at a time", PIECE, PIECE),
     ] {
         let (talk, pieces) = cut(first, second)?;

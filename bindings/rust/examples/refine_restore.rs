@@ -1,13 +1,14 @@
-//! A square in two halves: where a fine rule is printed, its first row is cut in four and then refined once more; then it is restored. A
-//! square with a row too many is refused, in words.
-use spoutbeetle::{check, quarter, refine, restore, Answer, Refusal, Tables};
+//! A square in two halves, with corrections at its corners: where a fine rule is printed, its first row is cut in four, the correction of an added
+//! node is set, and the row is refined once more; then the square is restored, corrections and all. Settings of a base node and out of range, and
+//! a square with a row too many, are refused, in words.
+use spoutbeetle::{check, quarter, refine, restore, set_correction, Answer, Node, Refusal, Tables};
 
 const NC: usize = 16;
 const TC: usize = 32;
 
 /// A mesh with its tables.
 struct Sheet {
-    nodes: [i32; 2 * NC],
+    nodes: [Node; NC],
     rows: [u32; 3 * TC],
     scratch: [u32; 4 * (NC + TC)],
     n: usize,
@@ -16,38 +17,64 @@ struct Sheet {
 
 impl Sheet {
     fn square() -> Sheet {
-        let mut sheet = Sheet { nodes: [0; 2 * NC], rows: [0; 3 * TC], scratch: [0; 4 * (NC + TC)], n: 4, t: 2 };
-        sheet.nodes[..8].copy_from_slice(&[0, 0, 8, 0, 8, 8, 0, 8]);
+        let mut sheet = Sheet { nodes: [Node::default(); NC], rows: [0; 3 * TC], scratch: [0; 4 * (NC + TC)], n: 4, t: 2 };
+        let corners = [Node::at(0, 0).carrying(-3, 7), Node::at(8, 0).carrying(4, 0), Node::at(8, 8).carrying(0, -2), Node::at(0, 8).carrying(1, 1)];
+        sheet.nodes[..4].copy_from_slice(&corners);
         sheet.rows[..6].copy_from_slice(&[1, 2, 0, 3, 0, 2]);
         sheet
     }
 
     /// Makes a call on the tables, and keeps the counts that it leaves.
     fn call(&mut self, made: impl FnOnce(Tables) -> Result<Answer, Refusal>) -> Result<Answer, Refusal> {
-        let a = made(Tables { nodes: &mut self.nodes, rows: &mut self.rows, scratch: &mut self.scratch, n: self.n, t: self.t })?;
+        let nodes = Node::table(&mut self.nodes);
+        let a = made(Tables { nodes, rows: &mut self.rows, scratch: &mut self.scratch, n: self.n, t: self.t })?;
         (self.n, self.t) = (a.n, a.t);
         Ok(a)
     }
+
+    fn show(&self, k: usize) {
+        let Node { x, y, dx, dy } = self.nodes[k];
+        println!("node {k}: place ({x}, {y}), correction ({dx}, {dy})");
+    }
+}
+
+/// A call that is done leaves these counts.
+fn done(call: &str, a: Answer) {
+    println!("{call}: {} nodes, {} triangles", a.n, a.t);
+}
+
+/// Prints why a call is refused.
+fn refused(call: &str, said: Result<Answer, Refusal>) {
+    println!("{call}: {}", said.expect_err("a refusal"));
+}
+
+/// A job: what it refines and sets.
+fn print_fine_rule(sheet: &mut Sheet) -> Result<(), Refusal> {
+    done("quarter", sheet.call(|g| quarter(g, 4, &[1, 0]))?);
+    sheet.show(4); // the mean of nodes 0 and 2: -3 and 0 give -2
+    done("set node 4", sheet.call(|g| set_correction(g, 4, 4, 9, -9))?);
+    sheet.show(4);
+    refused("set node 3", sheet.call(|g| set_correction(g, 4, 3, 9, -9)));
+    refused("set node 7", sheet.call(|g| set_correction(g, 4, 7, 9, -9)));
+    refused("set node 4 to 32,768", sheet.call(|g| set_correction(g, 4, 4, 32_768, -9)));
+    done("refine", sheet.call(|g| refine(g, 4, &[1, 0, 0, 0, 0, 0]))?);
+    sheet.show(7); // the mean of node 1 and node 4 as set
+    Ok(())
 }
 
 fn main() -> Result<(), Refusal> {
     let mut sheet = Sheet::square();
-    let a = sheet.call(check)?;
-    println!("check: {} nodes, {} triangles", a.n, a.t);
-    let a = sheet.call(|g| quarter(g, 4, &[1, 0]))?;
-    println!("quarter: {} nodes, {} triangles", a.n, a.t);
-    let a = sheet.call(|g| refine(g, 4, &[1, 0, 0, 0, 0, 0]))?;
-    println!("refine: {} nodes, {} triangles", a.n, a.t);
+    done("check", sheet.call(check)?);
+    print_fine_rule(&mut sheet)?;
     let a = sheet.call(|g| restore(g, 4))?;
-    println!("restore: {} nodes, {} triangles, {} passes", a.n, a.t, a.passes);
+    done("restore", a);
     let base = Sheet::square();
     assert!(sheet.nodes == base.nodes && sheet.rows == base.rows, "the base is back");
-    println!("the base is back");
+    println!("{} passes, and the base is back, with its corrections:", a.passes);
+    (0..sheet.n).for_each(|k| sheet.show(k));
 
     sheet.rows.copy_within(0..3, 6);
     sheet.t = 3;
-    if let Err(refusal) = sheet.call(check) {
-        println!("check, row 0 once more: {refusal}");
-    }
+    refused("check, row 0 once more", sheet.call(check));
     Ok(())
 }

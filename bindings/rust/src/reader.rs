@@ -15,6 +15,7 @@ pub const OUT: usize = 32_768;
 pub struct State {
     /// The first 255 bytes of the unfinished line, then zeros.
     pub line: Vec<u8>,
+    /// Four numbers a node, as [`crate::Node::of`] shows them.
     pub nodes: Vec<i32>,
     pub rows: Vec<u32>,
     pub scratch: Vec<u32>,
@@ -43,7 +44,7 @@ impl Default for State {
     fn default() -> State {
         State {
             line: vec![0; 255],
-            nodes: vec![0; 1024],
+            nodes: vec![0; 2048],
             rows: vec![0; 3072],
             scratch: vec![0; 6144],
             used: 0,

@@ -1,7 +1,8 @@
 //! Why a call refuses, and its words.
 use std::fmt;
 
-/// Why a call refused: what is wrong and, with 3 to 7, where. The node or triangle is the lowest at fault, counted from 0.
+/// Why a call refused: what is wrong and, with 3 to 7, where. The node or triangle is the lowest at fault, counted from 0; with 3 for a correction
+/// to be set, the node given.
 ///
 /// Its words end with the number in brackets, as those of C do:
 /// "triangle 17 has a directed edge that a lower row already has (5)".
@@ -13,7 +14,7 @@ pub enum Refusal {
     Sizes,
     /// 2: the marks are not one byte for each triangle (refine, quarter) or node (coarsen), or one is above 1.
     Marks,
-    /// 3: a coordinate of this node is outside −1,048,576 .. 1,048,576.
+    /// 3: a coordinate of this node is outside −1,048,576 .. 1,048,576, or its dx or dy, stored or to be set, outside −32,768 .. 32,767.
     OutOfRange { node: usize },
     /// 4: this triangle names a node that is not below n, or one node twice.
     Misnamed { triangle: usize },
@@ -29,6 +30,10 @@ pub enum Refusal {
     NoRoom,
     /// 10: the labelling is not compatible (check only).
     NotCompatible,
+    /// 13: the node to be set is a base node, below n0 (set_correction only).
+    BaseNode,
+    /// 15: the node to be set is not below n (set_correction only).
+    NoSuchNode,
     /// 17: the piece is over 512 bytes, or comes after the end was announced (reader only).
     Piece,
     /// A number that no call gives.
@@ -50,6 +55,8 @@ impl Refusal {
             8 => Refusal::OddSum,
             9 => Refusal::NoRoom,
             10 => Refusal::NotCompatible,
+            13 => Refusal::BaseNode,
+            15 => Refusal::NoSuchNode,
             17 => Refusal::Piece,
             _ => Refusal::Unknown { number },
         })
@@ -68,12 +75,14 @@ impl Refusal {
             Refusal::OddSum => 8,
             Refusal::NoRoom => 9,
             Refusal::NotCompatible => 10,
+            Refusal::BaseNode => 13,
+            Refusal::NoSuchNode => 15,
             Refusal::Piece => 17,
             Refusal::Unknown { number } => number,
         }
     }
 
-    /// The lowest node at fault, with 3 and 7.
+    /// The node at fault, with 3 and 7.
     pub fn node(self) -> Option<usize> {
         match self {
             Refusal::OutOfRange { node } | Refusal::Unused { node } => Some(node),
@@ -81,7 +90,7 @@ impl Refusal {
         }
     }
 
-    /// The lowest triangle at fault, with 4, 5 and 6.
+    /// The triangle at fault, with 4, 5 and 6.
     pub fn triangle(self) -> Option<usize> {
         match self {
             Refusal::Misnamed { triangle } | Refusal::Repeated { triangle } | Refusal::NotPositive { triangle } => Some(triangle),
@@ -95,7 +104,9 @@ impl fmt::Display for Refusal {
         match self {
             Refusal::Sizes => f.write_str("a table length is not a multiple of its row, a room, buffer or count is out of bounds, or scratch is short")?,
             Refusal::Marks => f.write_str("the marks are not one byte for each triangle or node, or one is above 1")?,
-            Refusal::OutOfRange { node } => write!(f, "node {node} has a coordinate outside -1,048,576 to 1,048,576")?,
+            Refusal::OutOfRange { node } => {
+                write!(f, "node {node} has a coordinate outside -1,048,576 to 1,048,576, or a correction, stored or to be set, outside -32,768 to 32,767")?
+            }
             Refusal::Misnamed { triangle } => write!(f, "triangle {triangle} names a node that is not there, or one node twice")?,
             Refusal::Repeated { triangle } => write!(f, "triangle {triangle} has a directed edge that a lower row already has")?,
             Refusal::NotPositive { triangle } => write!(f, "triangle {triangle} has a twice-area that is not above 0")?,
@@ -103,6 +114,8 @@ impl fmt::Display for Refusal {
             Refusal::OddSum => f.write_str("an edge to be split has an odd sum of x or of y")?,
             Refusal::NoRoom => f.write_str("there is no room for the new nodes or triangles")?,
             Refusal::NotCompatible => f.write_str("the labelling is not compatible")?,
+            Refusal::BaseNode => f.write_str("the node to be set belongs to the base")?,
+            Refusal::NoSuchNode => f.write_str("the node to be set is not there")?,
             Refusal::Piece => f.write_str("the piece is over 512 bytes, or comes after the end")?,
             Refusal::Unknown { .. } => f.write_str("no call gives this number")?,
         }

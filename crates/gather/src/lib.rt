@@ -19,7 +19,6 @@ ghost use Rattle.tables.specs.Ready.{Ready};
 ghost use Rattle.laws.specs.Meshes.{meshAt, Fair};
 ghost use Rattle.gather.specs.Whole.{Going, Settled, tabled, tabledOf};
 ghost use Rattle.gather.specs.Goes.{Small, takeAt, fateNo, fateAt, goneNode, nextNumber, numberBelow, goneRow, fatherBy, renamedBy, newRow};
-use meaning::Node;
 use meaning::Tri;
 
 // ---- which nodes go

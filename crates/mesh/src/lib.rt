@@ -3,9 +3,10 @@ ghost use mathlib.Core.Path.{_≡_};
 ghost use lib.ListN.{length, replicate};
 ghost use Rattle.meaning.specs.Tables.{given, outcome};
 ghost use Rattle.meaning.specs.Split.{wayOf, newest, allThree};
-ghost use Rattle.meaning.specs.Calls.{checkOut, refineOut, coarsenOut};
+ghost use Rattle.meaning.specs.Calls.{checkOut, refineOut, coarsenOut, setOut};
 ghost use Rattle.mesh.specs.Check.{checkFault};
 use meaning::Answer;
+use meaning::Correction;
 use meaning::Fault;
 use meaning::Manner;
 
@@ -99,6 +100,25 @@ pub fn coarsen(
 {
     tables::clear(scratch);
     let a = coarsening::work(nodes, rows, scratch, marks, n0, n, t);
+    tables::clear(scratch);
+    a
+}
+
+// W5: node z, which must be an added one, is to carry c. A refusal changes no node and no row.
+pub fn set_correction(
+    nodes: &mut [i32],
+    rows: &mut [u32],
+    scratch: &mut [u32],
+    n0: usize,
+    n: usize,
+    t: usize,
+    z: usize,
+    c: Correction,
+) -> Answer
+    ensures { λ r. ⌜ outcome r (now (nodes .exit)) (now (rows .exit)) (now (scratch .exit)) ≡ setOut (given (now (nodes .entry)) (now (rows .entry)) (now (scratch .entry)) n t) n0 z c ⌝ }
+{
+    tables::clear(scratch);
+    let a = setting::work(nodes, rows, scratch, n0, n, t, z, c);
     tables::clear(scratch);
     a
 }

@@ -23,8 +23,8 @@ fn main() {
     let mut nodes: Vec<Point> = vec![];
     let mut rows: Vec<[usize; 3]> = vec![];
     for line in text.lines() {
-        if line.len() == 18 && line.starts_with("01") {
-            nodes.push((number(&line[2..10]) as u32 as i32 as f64, number(&line[10..]) as u32 as i32 as f64));
+        if line.len() == 26 && line.starts_with("01") {
+            nodes.push((number(&line[2..10]) as u32 as i32 as f64, number(&line[10..18]) as u32 as i32 as f64));
         } else if line.len() == 14 && line.starts_with("02") {
             rows.push([0, 1, 2].map(|s| number(&line[2 + 4 * s..6 + 4 * s]) as usize));
         }

@@ -1,9 +1,12 @@
 //! The line program against the rival's, on random text, good and bad. Usage: texts PROGRAM COUNT [SEED].
-//! A run in which a refused 03 never gave one of 3 to 7 with a culprit above 0 fails: it is to be longer.
+//! A run in which a refused 03 never gave one of 3 to 7 with a culprit above 0, or a setting never 0, 13 or 15, fails: it is to be longer.
 use rival::random::Dice;
 use rival::texts::random_text;
 use std::io::Write;
 use std::process::{Command, Stdio};
+
+/// The numbers that a setting may be answered with: a value out of range cannot be written, and the mesh is lawful.
+const SETTINGS: [u8; 3] = [0, 13, 15];
 
 fn run(program: &str, text: &[u8]) -> Vec<u8> {
     let mut child = Command::new(program).stdin(Stdio::piped()).stdout(Stdio::piped()).spawn().expect("the line program");
@@ -21,6 +24,12 @@ fn blamed(answers: &[u8]) -> Vec<u8> {
     lines.map(|line| line[3] - b'0').collect()
 }
 
+/// How many settings were answered with this number.
+fn set(answers: &[u8], number: u8) -> usize {
+    let start = format!("08{number:02x}").into_bytes();
+    answers.split(|&b| b == b'\n').filter(|line| line.starts_with(&start)).count()
+}
+
 fn main() {
     let mut words = std::env::args().skip(1);
     let program = words.next().expect("the program's path");
@@ -28,6 +37,7 @@ fn main() {
     let first: u64 = words.next().map_or(1, |w| w.parse().expect("a seed"));
     let mut lines = 0;
     let mut blames = vec![];
+    let mut settings = [0; SETTINGS.len()];
     for seed in first..first + count {
         let text = random_text(&mut Dice::new(seed));
         let (ours, theirs) = (run(&program, &text), rival::lines::program(&text));
@@ -37,11 +47,13 @@ fn main() {
         }
         lines += theirs.iter().filter(|&&b| b == b'\n').count();
         blames.extend(blamed(&theirs));
+        settings.iter_mut().zip(SETTINGS).for_each(|(times, number)| *times += set(&theirs, number));
     }
     let times = [3, 4, 5, 6, 7].map(|k| blames.iter().filter(|&&number| number == k).count());
     println!("texts: refused 03s with a culprit above 0, by 3 to 7: {times:?}");
-    if times.contains(&0) {
-        println!("texts: {count} from seed {first} answered alike, but one of 3 to 7 never came so");
+    println!("texts: settings answered {SETTINGS:?}: {settings:?}");
+    if times.contains(&0) || settings.contains(&0) {
+        println!("texts: {count} from seed {first} answered alike, but one of these never came");
         std::process::exit(1);
     }
     println!("texts: {count} from seed {first} answered alike, {lines} lines");

@@ -16,6 +16,8 @@ pub enum Call {
     Quarter(usize, Vec<u8>),
     Coarsen(usize, Vec<u8>),
     Restore(usize),
+    /// The base's node count, the node, and its correction.
+    Set(usize, usize, [i32; 2]),
 }
 
 impl Call {
@@ -26,6 +28,7 @@ impl Call {
             Call::Quarter(..) => "quarter",
             Call::Coarsen(..) => "coarsen",
             Call::Restore(..) => "restore",
+            Call::Set(..) => "set_correction",
         }
     }
 }
@@ -50,6 +53,9 @@ pub fn proved(call: &Call, g: &mut Tables) -> Answer {
                 passes = 7777;
                 ffi::spoutbeetle_restore(nodes, nodes_len, rows, rows_len, scratch, scratch_len, *n0, &mut n, &mut t, &mut passes, &mut culprit)
             }
+            Call::Set(n0, node, [dx, dy]) => {
+                ffi::spoutbeetle_set_correction(nodes, nodes_len, rows, rows_len, scratch, scratch_len, *n0, n, t, *node, *dx, *dy, &mut culprit)
+            }
         }
     };
     (g.n, g.t) = (n, t);
@@ -65,6 +71,7 @@ pub fn wrapped(call: &Call, g: &mut Tables) -> Answer {
         Call::Quarter(n0, marks) => spoutbeetle::quarter(lent, *n0, marks),
         Call::Coarsen(n0, marks) => spoutbeetle::coarsen(lent, *n0, marks),
         Call::Restore(n0) => spoutbeetle::restore(lent, *n0),
+        Call::Set(n0, node, [dx, dy]) => spoutbeetle::set_correction(lent, *n0, *node, *dx, *dy),
     };
     match said {
         Ok(a) => {
@@ -82,6 +89,7 @@ pub fn rival(call: &Call, g: &mut Tables) -> Answer {
         Call::Quarter(n0, marks) => calls::quarter(g, *n0, marks),
         Call::Coarsen(n0, marks) => calls::coarsen(g, *n0, marks),
         Call::Restore(n0) => calls::restore(g, *n0),
+        Call::Set(n0, node, [dx, dy]) => calls::set_correction(g, *n0, *node, *dx, *dy),
     }
 }
 

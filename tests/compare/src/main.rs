@@ -1,20 +1,34 @@
 //! Drives the proved library, by its exported calls and by the wrapper, and the rival with the same random calls and compares answers and
 //! every table entry. Usage: compare COUNT [SEED]. The first difference is made smaller by taking rows away, shown with its seed, and the
 //! run fails. A run in which a call never gave one of the numbers that it may answer, or one of 3 to 7 never with a culprit above 0 or
-//! never with several at fault, fails too: it is to be longer.
+//! never with several at fault, fails too: it is to be longer. A setting must have drawn 3 by what is stored and by the value to be set.
 use compare::{agreed, Call};
-use rival::calls::{offenders, Tables};
-use rival::random::{damage, mesh, Dice};
+use rival::calls::{offenders, Answer, Tables};
+use rival::random::{any_correction, damage, mesh, Dice};
 use std::collections::BTreeMap;
 
-/// The calls, and the numbers that document 01 lists for each; quarter's are refine's.
-const NUMBERS: [(&str, &[u32]); 5] = [
+/// Settings whose value is out of range, while all that is stored is in range.
+const BY_VALUE: &str = "set_correction, by the value to be set,";
+
+/// The calls, and the numbers that documents 01 and 02 list for each; quarter's are refine's.
+const NUMBERS: [(&str, &[u32]); 7] = [
     ("check", &[0, 1, 3, 4, 5, 6, 7, 10]),
     ("refine", &[0, 1, 2, 3, 4, 5, 6, 7, 8, 9]),
     ("quarter", &[0, 1, 2, 3, 4, 5, 6, 7, 8, 9]),
     ("coarsen", &[0, 1, 2, 3, 4, 5, 6, 7]),
     ("restore", &[0, 1, 3, 4, 5, 6, 7]),
+    ("set_correction", &[0, 1, 3, 4, 5, 6, 7, 13, 15]),
+    (BY_VALUE, &[3]),
 ];
+
+/// A base node, an added one, or one that is not there.
+fn random_node(d: &mut Dice, n: usize, n0: usize) -> usize {
+    match d.below(5) {
+        0 => d.below(n0),
+        1 => [n, n.saturating_add(d.below(3)), usize::MAX][d.below(3)],
+        _ => n0 + d.below(n.saturating_sub(n0).min(2000)),
+    }
+}
 
 fn random_call(d: &mut Dice, g: &Tables, base: usize) -> Call {
     let n0 = if d.once_in(4) { d.below(g.n.saturating_add(2).min(2000)) } else { base };
@@ -30,13 +44,25 @@ fn random_call(d: &mut Dice, g: &Tables, base: usize) -> Call {
         m
     };
     let (refining, coarsening) = (marks(g.t, 3), marks(g.n, 1));
-    match d.below(5) {
+    match d.below(6) {
         0 => Call::Check,
         1 => Call::Refine(n0, refining),
         2 => Call::Quarter(n0, refining),
         3 if d.once_in(2) => Call::Coarsen(n0, coarsening),
         3 => Call::Coarsen(n0, coarsening.iter().map(|&b| if d.once_in(3) { 0 } else { b }).collect()),
-        _ => Call::Restore(n0),
+        4 => Call::Restore(n0),
+        _ => {
+            let node = random_node(d, g.n, n0);
+            Call::Set(n0, node, any_correction(d))
+        }
+    }
+}
+
+/// The call as it is counted: a setting that its value alone refuses stands for itself.
+fn counted_as(call: &Call, said: Answer, at_fault: &[usize]) -> &'static str {
+    match call {
+        Call::Set(..) if said.number == 3 && at_fault.is_empty() => BY_VALUE,
+        _ => call.name(),
     }
 }
 
@@ -55,10 +81,11 @@ fn compare_one(seed: u64, seen: &mut BTreeMap<(&str, u32), Times>) {
     damage(&mut d, &mut given);
     let call = random_call(&mut d, &given, base);
     let (said, _) = agreed(seed, &call, &given);
-    let times = seen.entry((call.name(), said.number)).or_default();
+    let at_fault = offenders(&given, said);
+    let times = seen.entry((counted_as(&call, said, &at_fault), said.number)).or_default();
     times.given += 1;
     times.above += (said.culprit > 0) as u64;
-    times.several += (offenders(&given, said).len() > 1) as u64;
+    times.several += (at_fault.len() > 1) as u64;
 }
 
 /// What the calls said, and what of it was never seen.
@@ -68,7 +95,7 @@ fn tell(seen: &BTreeMap<(&str, u32), Times>) -> Vec<String> {
         let told = numbers.iter().map(|&k| match seen.get(&(kind, k)) {
             Some(times) if (3..=7).contains(&k) => {
                 missed.extend((times.above == 0).then(|| format!("{kind} {k} with a culprit above 0")));
-                missed.extend((times.several == 0).then(|| format!("{kind} {k} with several at fault")));
+                missed.extend((times.several == 0 && kind != BY_VALUE).then(|| format!("{kind} {k} with several at fault")));
                 format!("{k} {} times ({} with a culprit above 0, {} with several at fault)", times.given, times.above, times.several)
             }
             Some(times) => format!("{k} {} times", times.given),

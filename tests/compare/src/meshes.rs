@@ -11,17 +11,25 @@ pub type Mesh = (Vec<(i32, i32)>, Vec<[u32; 3]>);
 /// A call that takes marks.
 pub type Marked = fn(usize, Vec<u8>) -> Call;
 
-/// Tables that hold the mesh, with room for `nc` nodes and `tc` rows; scratch is filled with sevens.
+/// What node `k` carries, spread over the whole range.
+fn carried(k: usize) -> [i32; 2] {
+    [7_919, 104_729].map(|step| (step * k % 65_536) as i32 - 32_768)
+}
+
+/// Tables that hold the mesh, its nodes carrying corrections, with room for `nc` nodes and `tc` rows; scratch is filled with sevens.
 pub fn tables((nodes, rows): &Mesh, nc: usize, tc: usize) -> Tables {
-    let places = nodes.iter().flat_map(|p| [p.0, p.1]).collect();
-    let mut g = Tables { nodes: places, rows: rows.concat(), scratch: vec![], n: nodes.len(), t: rows.len() };
+    let numbers = |(k, &(x, y)): (usize, &(i32, i32))| {
+        let [dx, dy] = carried(k);
+        [x, y, dx, dy]
+    };
+    let mut g = Tables { nodes: nodes.iter().enumerate().flat_map(numbers).collect(), rows: rows.concat(), scratch: vec![], n: nodes.len(), t: rows.len() };
     widen(&mut g, nc, tc);
     g
 }
 
 /// The same mesh with another room, zeros past the counts and sevens in scratch.
 pub fn widen(g: &mut Tables, nc: usize, tc: usize) {
-    g.nodes.resize(2 * nc, 0);
+    g.nodes.resize(4 * nc, 0);
     g.rows.resize(3 * tc, 0);
     g.scratch = vec![7; 4 * (nc + tc)];
 }
@@ -30,17 +38,17 @@ pub fn widen(g: &mut Tables, nc: usize, tc: usize) {
 const APART: i32 = 1 << 17;
 
 /// `count` copies of the mesh in lines of four, with `count` times its room. The first `n0` nodes of all copies are numbered first, then the
-/// others copy by copy; rows are listed copy by copy.
+/// others copy by copy; rows are listed copy by copy. Corrections are new ones.
 pub fn copies(one: &Tables, n0: usize, count: usize) -> Tables {
     let number = |copy: usize, k: usize| if k < n0 { copy * n0 + k } else { count * n0 + copy * (one.n - n0) + k - n0 };
     let (mut nodes, mut rows) = (vec![(0, 0); count * one.n], vec![]);
     for copy in 0..count {
         let (right, up) = (APART * (copy % 4) as i32, APART * (copy / 4) as i32);
-        let places = one.nodes.chunks(2).take(one.n).enumerate();
-        places.for_each(|(k, place)| nodes[number(copy, k)] = (place[0] + right, place[1] + up));
+        let numbered = one.nodes.chunks(4).take(one.n).enumerate();
+        numbered.for_each(|(k, node)| nodes[number(copy, k)] = (node[0] + right, node[1] + up));
         rows.extend(one.rows.chunks(3).take(one.t).map(|row| [0, 1, 2].map(|corner| number(copy, row[corner] as usize) as u32)));
     }
-    tables(&(nodes, rows), count * one.nodes.len() / 2, count * one.rows.len() / 3)
+    tables(&(nodes, rows), count * one.nodes.len() / 4, count * one.rows.len() / 3)
 }
 
 /// 1,024 nodes and 2,048 rows: a grid of 31 by 31 squares, and 126 rows more over it whose edges span two squares.
@@ -144,7 +152,7 @@ fn mark(g: &Tables, call: Marked, n0: usize, rows: &[usize], marks: &mut Vec<u8>
     let said = rival(&call(n0, more.clone()), &mut g.clone());
     if said.number == 0 {
         *marks = more;
-        return 2 * said.n == g.nodes.len();
+        return 4 * said.n == g.nodes.len();
     }
     let (first, second) = rows.split_at(rows.len() / 2);
     rows.len() > 1 && (mark(g, call, n0, first, marks) || mark(g, call, n0, second, marks))

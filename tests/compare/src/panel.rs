@@ -5,7 +5,7 @@ use std::collections::BTreeMap;
 use std::fmt::Arguments;
 
 /// The bytes of the longest answer that there is: a `07` that shows 512 nodes and 1,024 triangles.
-pub const LONGEST: usize = 512 * 19 + 1024 * 15;
+pub const LONGEST: usize = 512 * 27 + 1024 * 15;
 
 /// How often each kind of thing happened.
 pub type Seen = BTreeMap<&'static str, u64>;

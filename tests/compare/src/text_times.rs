@@ -11,7 +11,7 @@ type Texts = (&'static str, Vec<Vec<u8>>);
 fn texts() -> [Texts; 3] {
     let malformed = [vec![b'0'; 254], vec![b'\n']].concat().repeat(4000);
     let (nodes, rows) = grid(21, 22, 8);
-    let nodes = nodes.iter().map(|(x, y)| format!("01{x:08x}{y:08x}\n"));
+    let nodes = nodes.iter().zip(0u16..).map(|((x, y), k)| format!("01{x:08x}{y:08x}{:04x}{:04x}\n", k * 100, !k));
     let rows = rows.iter().map(|[p, q, r]| format!("02{p:04x}{q:04x}{r:04x}\n"));
     let base: String = nodes.chain(rows).chain(["03\n".to_string()]).collect();
     [

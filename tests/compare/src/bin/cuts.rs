@@ -140,8 +140,8 @@ type Spoil = fn(&mut State, &mut Vec<u8>);
 const LENT: [Spoil; 10] = [
     |s, _| s.line.truncate(254),
     |s, _| s.line.push(0),
-    |s, _| s.nodes.truncate(1023),
-    |s, _| s.nodes.push(0),
+    |s, _| s.nodes.truncate(2047),
+    |s, _| s.nodes.extend([0; 4]),
     |s, _| s.rows.truncate(3071),
     |s, _| s.rows.extend([0; 3]),
     |s, _| s.scratch.truncate(6143),
@@ -173,7 +173,7 @@ fn refused(turn: Turn, given: &State, lent: &[u8], by: By) {
 
 /// Every wrong size, before the end and after it, with pieces that are taken, and that are refused as 17 if all is lent in its size.
 fn wrong_sizes(seen: &mut Seen) {
-    let text = b"010000000000000000\n0100000008";
+    let text = b"01000000000000000000010002\n0100000008";
     let mut none = Seen::new();
     let mut panel = Panel::begin("wrong sizes", text, &mut none);
     panel.hand_over(text.len());
@@ -196,7 +196,7 @@ fn wrong_sizes(seen: &mut Seen) {
 
 /// 512 nodes and 1,024 triangles, shown; and a last line without its end byte.
 fn fullest() -> Vec<u8> {
-    let nodes = (0..512).map(|k| format!("01{:08x}{:08x}\n", k * 0x12345, -k));
+    let nodes = (0..512).map(|k| format!("01{:08x}{:08x}{:04x}{:04x}\n", k * 0x12345, -k, k * 128, 0xffff - k));
     let rows = (0..1024).map(|k| format!("02{:04x}{:04x}{:04x}\n", k, k * 17 % 1024, 0xffff - k));
     nodes.chain(rows).chain(["07\n07".to_string()]).collect::<String>().into()
 }

@@ -1,12 +1,15 @@
-//! Document 01's hand meshes, those of request W1, and every refusal with its culprit, run through the proved library, by its exported calls
-//! and by the wrapper, and through the rival. Usage: hand.
+//! Document 01's hand meshes, those of requests W1 and W5, and every refusal with its culprit, run through the proved library, by its exported
+//! calls and by the wrapper, and through the rival. Usage: hand.
 //! Entries past the counts and scratch hold sevens before each call: after 0 they are zero, after a refusal the tables are as they were.
 use compare::{proved, rival as other, wrapped, Call};
 use rival::calls::{Answer, Tables};
 use rival::random::grid;
 
-/// Places of nodes, and rows.
+/// Places of nodes, which carry no correction, and rows.
 type Mesh = (&'static [(i32, i32)], &'static [[u32; 3]]);
+
+/// Nodes, x y dx dy each, and rows.
+type Carrying = (&'static [[i32; 4]], &'static [[u32; 3]]);
 
 const S: Mesh = (&[(0, 0), (8, 0), (8, 8), (0, 8)], &[[1, 2, 0], [3, 0, 2]]);
 const R: Mesh = (&[(0, 0), (16, 0), (0, 16), (4, 4)], &[[0, 1, 3], [1, 2, 3], [2, 0, 3]]);
@@ -115,37 +118,88 @@ const ODD_SIDES: Mesh = (&[(1, 1), (4, 0), (0, 4)], &[[0, 1, 2]]);
 const ODD_SIDES_REFINED: Mesh = (&[(1, 1), (4, 0), (0, 4), (2, 2)], &[[3, 0, 1], [3, 2, 0]]);
 /// Rows 1 and 2 name a node that is not there, and one node twice.
 const MISNAMED: Mesh = (S.0, &[[1, 2, 0], [3, 0, 4], [2, 2, 0]]);
+/// Row 1 repeats an edge of row 0; row 1 is turned; node 4 is in no row.
+const REPEATED: Mesh = (S.0, &[[1, 2, 0], [2, 0, 3]]);
+const TURNED: Mesh = (S.0, &[[1, 2, 0], [0, 2, 1]]);
+const LONER: Mesh = (&[(0, 0), (8, 0), (8, 8), (0, 8), (9, 9)], S.1);
 /// Row 0's edges have even sums, the refinement edge that its side draws in has not.
 const ODD_NEIGHBOUR: Mesh = (&[(0, 4), (8, 4), (0, 12), (3, 0)], &[[0, 1, 2], [1, 0, 3]]);
 
-/// A call, what it is given, and what 01, W1 or W2 says of it.
+/// S; nodes 1 and 3 carry the ends of the range.
+const C: Carrying = (&[[0, 0, -3, 7], [8, 0, 32767, -32768], [8, 8, 0, -2], [0, 8, -32768, 32767]], S.1);
+/// C, row 0 refined: node 4 halves 0-2. Then once more: node 5 halves 1-2.
+const C_ONCE: Carrying = (&[C.0[0], C.0[1], C.0[2], C.0[3], [4, 4, -2, 2]], CASE_2.1);
+const C_TWICE: Carrying = (&[C.0[0], C.0[1], C.0[2], C.0[3], [4, 4, -2, 2], [8, 4, 16383, -16385]], CASE_3.1);
+/// Node 4 set; node 5 set to the ends of the range; node 0 set, with no base node.
+const SET_4: Carrying = (&[C.0[0], C.0[1], C.0[2], C.0[3], [4, 4, 9, -9], [8, 4, 16383, -16385]], CASE_3.1);
+const SET_5: Carrying = (&[C.0[0], C.0[1], C.0[2], C.0[3], [4, 4, -2, 2], [8, 4, 32767, -32768]], CASE_3.1);
+const SET_0: Carrying = (&[[0, 0, 5, -6], C.0[1], C.0[2], C.0[3], [4, 4, -2, 2], [8, 4, 16383, -16385]], CASE_3.1);
+/// Row 0 refined again: node 6 halves 1-4, as 4 was set, and node 7 halves 0-1.
+const C_THRICE: Carrying = (
+    &[C.0[0], C.0[1], C.0[2], C.0[3], [4, 4, 9, -9], [8, 4, 16383, -16385], [6, 2, 16388, -16389], [4, 0, 16382, -16381]],
+    CASE_4.1,
+);
+/// Node 6 goes; 7 is then called 6 and carries what it did.
+const C_WITHOUT_6: Carrying = (
+    &[C.0[0], C.0[1], C.0[2], C.0[3], [4, 4, 9, -9], [8, 4, 16383, -16385], [4, 0, 16382, -16381]],
+    CASE_5_PASS_1.1,
+);
+/// C, row 0 cut in four.
+const C_QUARTERED: Carrying = (
+    &[C.0[0], C.0[1], C.0[2], C.0[3], [4, 4, -2, 2], [8, 4, 16383, -16385], [4, 0, 16382, -16381]],
+    QUARTERED.1,
+);
+/// Node 4 carries the mean of 0 and 2, but does not stand between them.
+const BESIDE: Carrying = (&[C.0[0], C.0[1], C.0[2], C.0[3], [4, 5, -2, 2]], CASE_2.1);
+/// Node 1 is out of range by its correction, node 2 by its place, node 3 by both.
+const ASTRAY: Carrying = (&[[0, 0, 0, 0], [8, 0, 0, 32768], [1048577, 8, 0, 0], [0, 1048577, -32769, 0]], S.1);
+
+/// A call, what it is given, and what 01, W1, W2 or W5 says of it.
 struct Case {
     name: &'static str,
     given: Tables,
     call: Call,
     number: u32,
-    after: Mesh,
+    after: Held,
     passes: usize,
     culprit: usize,
 }
 
+/// A mesh as tables hold it.
+struct Held {
+    nodes: Vec<i32>,
+    rows: Vec<u32>,
+}
+
+impl From<Mesh> for Held {
+    fn from((nodes, rows): Mesh) -> Held {
+        Held { nodes: nodes.iter().flat_map(|p| [p.0, p.1, 0, 0]).collect(), rows: rows.concat() }
+    }
+}
+
+impl From<Carrying> for Held {
+    fn from((nodes, rows): Carrying) -> Held {
+        Held { nodes: nodes.concat(), rows: rows.concat() }
+    }
+}
+
 /// The mesh in tables of these rooms.
-fn lent(mesh: Mesh, nc: usize, tc: usize) -> Tables {
-    let mut nodes: Vec<i32> = mesh.0.iter().flat_map(|p| [p.0, p.1]).collect();
-    let mut rows: Vec<u32> = mesh.1.concat();
-    nodes.resize(2 * nc, 7);
+fn lent(mesh: impl Into<Held>, nc: usize, tc: usize) -> Tables {
+    let Held { mut nodes, mut rows } = mesh.into();
+    let (n, t) = (nodes.len() / 4, rows.len() / 3);
+    nodes.resize(4 * nc, 7);
     rows.resize(3 * tc, 7);
-    Tables { nodes, rows, scratch: vec![7; 4 * (nc + tc)], n: mesh.0.len(), t: mesh.1.len() }
+    Tables { nodes, rows, scratch: vec![7; 4 * (nc + tc)], n, t }
 }
 
 /// A call that is done and leaves this mesh.
-fn done(name: &'static str, given: Mesh, call: Call, after: Mesh, passes: usize) -> Case {
-    Case { name, given: lent(given, 20, 30), call, number: 0, after, passes, culprit: 0 }
+fn done(name: &'static str, given: impl Into<Held>, call: Call, after: impl Into<Held>, passes: usize) -> Case {
+    Case { name, given: lent(given, 20, 30), call, number: 0, after: after.into(), passes, culprit: 0 }
 }
 
 /// A call that is refused and names nobody.
 fn refused(name: &'static str, given: Tables, call: Call, number: u32) -> Case {
-    Case { name, given, call, number, after: EMPTY, passes: 0, culprit: 0 }
+    Case { name, given, call, number, after: EMPTY.into(), passes: 0, culprit: 0 }
 }
 
 /// Marks: 1 at the places listed, 0 elsewhere.
@@ -224,6 +278,51 @@ fn quarter_meshes() -> Vec<Case> {
     ]
 }
 
+/// Request W5: what the nodes carry after refining, setting, coarsening and restoring.
+fn corrections() -> Vec<Case> {
+    let row_0 = |rows: usize| Call::Refine(4, marks(rows, &[0]));
+    vec![
+        done("W5, C is admitted", C, Call::Check, C, 0),
+        done("W5, refine", C, row_0(2), C_ONCE, 0),
+        done("W5, refine twice", C_ONCE, row_0(4), C_TWICE, 0),
+        done("W5, set node 4", C_TWICE, Call::Set(4, 4, [9, -9]), SET_4, 0),
+        done("W5, refine with what was set", SET_4, row_0(5), C_THRICE, 0),
+        done("W5, a full pass", C_THRICE, Call::Coarsen(4, vec![1; 8]), C_WITHOUT_6, 0),
+        done("W5, restore", C_THRICE, Call::Restore(4), C, 3),
+        done("W5, restore after a setting", SET_4, Call::Restore(4), C, 2),
+        done("W5, quarter", C, Call::Quarter(4, marks(2, &[0])), C_QUARTERED, 0),
+        done("W5, restore after quarter", C_QUARTERED, Call::Restore(4), C, 2),
+        done("W5, a node that was set goes", SET_4, Call::Coarsen(4, vec![0, 0, 0, 0, 0, 1]), (&SET_4.0[..5], CASE_2.1), 0),
+        done("W5, the mean carried beside the middle", BESIDE, Call::Restore(4), BESIDE, 0),
+        done("W5, set to the ends of the range", C_TWICE, Call::Set(4, 5, [32767, -32768]), SET_5, 0),
+        done("W5, set to what it carries", SET_5, Call::Set(4, 5, [32767, -32768]), SET_5, 0),
+        done("W5, set with no base node", C_TWICE, Call::Set(0, 0, [5, -6]), SET_0, 0),
+        Case { given: lent(C_TWICE, 6, 5), ..done("W5, set in full tables", C_TWICE, Call::Set(4, 4, [9, -9]), SET_4, 0) },
+    ]
+}
+
+/// "rounded down (−3 and 0 give −2)": what the ends carry, and the node between them.
+fn means() -> Vec<Case> {
+    let ends: [[[i32; 2]; 3]; 7] = [
+        [[-3, 4], [0, -1], [-2, 1]],
+        [[0, -3], [3, 0], [1, -2]],
+        [[3, 3], [0, -1], [1, 1]],
+        [[-1, -1], [0, -1], [-1, -1]],
+        [[-4, -4], [0, -1], [-2, -3]],
+        [[32767, -32768], [32767, -32768], [32767, -32768]],
+        [[32767, -32768], [-32768, 32767], [-1, -1]],
+    ];
+    let held = |(places, rows): Mesh, carried: &[[i32; 2]]| Held {
+        nodes: places.iter().zip(carried).flat_map(|(p, c)| [p.0, p.1, c[0], c[1]]).collect(),
+        rows: rows.concat(),
+    };
+    let case = |[a, b, mean]: [[i32; 2]; 3]| {
+        let carried = [a, b, [11, -12], mean];
+        done("W5, the mean", held(ENDS, &carried), refine(ENDS, 3, &[0]), held(ENDS_CUT, &carried), 0)
+    };
+    ends.map(case).into()
+}
+
 /// 2: another length, and a byte above 1.
 fn number_2() -> Vec<Case> {
     let s = || lent(S, 20, 30);
@@ -263,7 +362,7 @@ fn numbers_8_to_10() -> Vec<Case> {
 /// Every call but the check takes n0; all answer 3 to 7 alike, and name the same culprit.
 fn by_all_calls(name: &'static str, given: Tables, number: u32, culprit: usize) -> Vec<Case> {
     let (nodes, rows) = (vec![0; given.n], vec![0; given.t]);
-    [Call::Check, Call::Refine(0, rows.clone()), Call::Quarter(0, rows), Call::Coarsen(0, nodes), Call::Restore(0)]
+    [Call::Check, Call::Refine(0, rows.clone()), Call::Quarter(0, rows), Call::Coarsen(0, nodes), Call::Restore(0), Call::Set(0, 0, [1, -1])]
         .map(|call| Case { culprit, ..refused(name, given.clone(), call, number) })
         .into()
 }
@@ -309,10 +408,11 @@ fn lowest_culprits() -> Vec<Case> {
 fn last_culprits() -> Vec<Case> {
     let (nodes, mut rows) = grid(31, 31, 8);
     rows.push([0, 2, 64]);
-    let given = Tables { nodes: nodes.iter().flat_map(|p| [p.0, p.1]).collect(), rows: rows.concat(), scratch: vec![7; 20000], n: 1024, t: 1923 };
+    let given = Tables { nodes: nodes.iter().flat_map(|p| [p.0, p.1, -1, 1]).collect(), rows: rows.concat(), scratch: vec![7; 20000], n: 1024, t: 1923 };
     type Spoil = fn(&mut Tables);
-    let wrong: [(&'static str, Spoil, u32, usize); 5] = [
-        ("3, the last node", |g| g.nodes[2047] = i32::MAX, 3, 1023),
+    let wrong: [(&'static str, Spoil, u32, usize); 6] = [
+        ("3, the last node", |g| g.nodes[4 * 1023 + 1] = i32::MAX, 3, 1023),
+        ("3, the last correction", |g| g.nodes[4 * 1023 + 3] = 32768, 3, 1023),
         ("4, the last row", |g| g.rows[3 * 1922] = 1024, 4, 1922),
         ("5, the last row", |g| g.rows[3 * 1922 + 2] = 35, 5, 1922),
         ("6, the last row", |g| g.rows[3 * 1922 + 2] = 4, 6, 1922),
@@ -340,21 +440,24 @@ fn range_ends() -> Vec<Case> {
 /// Every reason for 1, of every call.
 fn number_1() -> Vec<Case> {
     type Spoil = fn(&mut Tables);
-    let reasons: [(&'static str, Spoil); 9] = [
-        ("1, an odd node table", |g| g.nodes.push(7)),
+    let reasons: [(&'static str, Spoil); 11] = [
+        ("1, a node table of 4 k + 1", |g| g.nodes.push(7)),
+        ("1, a node table of 4 k + 2", |g| g.nodes.extend([7, 7])),
+        ("1, a node table of 4 k + 3", |g| g.nodes.extend([7, 7, 7])),
         ("1, a row table of 3 k + 1", |g| g.rows.push(7)),
         ("1, a row table of 3 k + 2", |g| g.rows.extend([7, 7])),
-        ("1, 1,025 nodes of room", |g| (g.nodes, g.scratch) = (vec![7; 2050], vec![7; 20000])),
+        ("1, 1,025 nodes of room", |g| (g.nodes, g.scratch) = (vec![7; 4100], vec![7; 20000])),
         ("1, 2,049 rows of room", |g| (g.rows, g.scratch) = (vec![7; 6147], vec![7; 20000])),
         ("1, n above NC", |g| g.n = 21),
         ("1, t above TC", |g| g.t = usize::MAX),
         ("1, scratch one short", |g| g.scratch.truncate(4 * 50 - 1)),
         ("1 before 4", |g| (g.rows[5], g.scratch) = (4, vec![])),
     ];
-    let mut all: Vec<Case> =
-        [refine(S, 5, &[0]), quarter(S, 5, &[0]), full_pass(S, 5), Call::Restore(5)].map(|call| refused("1, n0 above n", lent(S, 20, 30), call, 1)).into();
+    let mut all: Vec<Case> = [refine(S, 5, &[0]), quarter(S, 5, &[0]), full_pass(S, 5), Call::Restore(5), Call::Set(5, 4, [0, 0])]
+        .map(|call| refused("1, n0 above n", lent(S, 20, 30), call, 1))
+        .into();
     for (name, spoil) in reasons {
-        for call in [Call::Check, refine(S, 4, &[0]), quarter(S, 4, &[0]), full_pass(S, 4), Call::Restore(4)] {
+        for call in [Call::Check, refine(S, 4, &[0]), quarter(S, 4, &[0]), full_pass(S, 4), Call::Restore(4), Call::Set(4, 4, [40000, 0])] {
             let mut given = lent(S, 20, 30);
             spoil(&mut given);
             all.push(refused(name, given, call, 1));
@@ -363,13 +466,65 @@ fn number_1() -> Vec<Case> {
     all
 }
 
+/// Request W5: corrections out of range that are stored, refused by all calls alike.
+fn stored_out() -> Vec<Case> {
+    let parts = [[32768, 0], [0, 32768], [-32769, 0], [0, -32769], [i32::MIN, 0], [0, i32::MAX]];
+    let carrying = |[dx, dy]: [i32; 2]| Held { nodes: [[0, 0, 0, 0], [8, 0, 0, 0], [8, 8, dx, dy], [0, 8, 0, 0]].concat(), rows: S.1.concat() };
+    let mut all: Vec<Case> = parts.into_iter().flat_map(|part| by_all_calls("3, a correction", lent(carrying(part), 20, 30), 3, 2)).collect();
+    all.extend(by_all_calls("3, by correction or place", lent(ASTRAY, 20, 30), 3, 1));
+    all.extend([(3, [0, -32769]), (2, [5, -6])].map(|(node, value)| {
+        let call = Call::Set(4, node, value);
+        Case { culprit: 2, ..refused("3, stored, before the value to be set", lent(carrying([32768, 0]), 20, 30), call, 3) }
+    }));
+    all
+}
+
+/// A setting: its name, what it is given, n0 and the node, the value, and what it draws.
+type Wrong = (&'static str, Tables, [usize; 2], [i32; 2], u32, usize);
+
+/// Request W5: every reason to refuse a setting, in their order.
+fn settings_refused() -> Vec<Case> {
+    const WIDE: [i32; 2] = [32768, 0];
+    const LOW: [i32; 2] = [0, -32769];
+    const IN: [i32; 2] = [5, -6];
+    let [misnamed, repeated, turned, loner] = [MISNAMED, REPEATED, TURNED, LONER].map(|mesh| move || lent(mesh, 20, 30));
+    let twice = || lent(C_TWICE, 20, 30);
+    let wrong: [Wrong; 22] = [
+        ("3, dx to be set", twice(), [4, 5], WIDE, 3, 5),
+        ("3, dy to be set", twice(), [4, 4], LOW, 3, 4),
+        ("3, dx to be set far out", twice(), [4, 4], [i32::MIN, 0], 3, 4),
+        ("3, dy to be set far out", twice(), [4, 4], [0, i32::MAX], 3, 4),
+        ("3 to be set, before 4", misnamed(), [4, 2], WIDE, 3, 2),
+        ("3 to be set, before 5", repeated(), [4, 3], LOW, 3, 3),
+        ("3 to be set, before 6", turned(), [4, 0], LOW, 3, 0),
+        ("3 to be set, before 7", loner(), [4, 7], LOW, 3, 7),
+        ("3 to be set, before 13", twice(), [4, 0], WIDE, 3, 0),
+        ("3 to be set, before 15", twice(), [4, 6], LOW, 3, 6),
+        ("3 to be set, of a node number of all ones", twice(), [4, usize::MAX], LOW, 3, usize::MAX),
+        ("4 before 13", misnamed(), [4, 1], IN, 4, 1),
+        ("5 before 15", repeated(), [4, 9], IN, 5, 1),
+        ("6 before 13", turned(), [4, 0], IN, 6, 1),
+        ("7 of the node to be set", loner(), [4, 4], IN, 7, 4),
+        ("13", twice(), [4, 3], IN, 13, 0),
+        ("13, all are base nodes", twice(), [6, 5], IN, 13, 0),
+        ("13, to what it carries", twice(), [4, 0], [-3, 7], 13, 0),
+        ("15", twice(), [4, 6], IN, 15, 0),
+        ("15, all are base nodes", twice(), [6, 6], IN, 15, 0),
+        ("15, a node number of all ones", twice(), [4, usize::MAX], IN, 15, 0),
+        ("15, the empty mesh", lent(EMPTY, 20, 30), [0, 0], IN, 15, 0),
+    ];
+    let case = |(name, given, [n0, node], value, number, culprit): Wrong| Case { culprit, ..refused(name, given, Call::Set(n0, node, value), number) };
+    wrong.into_iter().map(case).collect()
+}
+
 /// What the tables hold after a call.
 fn expected(case: &Case) -> (Answer, Tables) {
     let given = &case.given;
     let mut after = match case.number {
         0 if !matches!(case.call, Call::Check) => {
-            let mut g = lent(case.after, given.nodes.len() / 2, given.rows.len() / 3);
-            g.nodes[2 * g.n..].fill(0);
+            let after = Held { nodes: case.after.nodes.clone(), rows: case.after.rows.clone() };
+            let mut g = lent(after, given.nodes.len() / 4, given.rows.len() / 3);
+            g.nodes[4 * g.n..].fill(0);
             g.rows[3 * g.t..].fill(0);
             g
         }
@@ -392,8 +547,8 @@ fn fault(case: &Case, by: fn(&Call, &mut Tables) -> Answer) -> Option<String> {
 }
 
 fn main() {
-    let done = [hand_meshes(), quarter_meshes(), range_ends()];
-    let refused = [number_1(), number_2(), numbers_3_to_7(), lowest_culprits(), last_culprits(), numbers_8_to_10()];
+    let done = [hand_meshes(), quarter_meshes(), range_ends(), corrections(), means()];
+    let refused = [number_1(), number_2(), numbers_3_to_7(), lowest_culprits(), last_culprits(), numbers_8_to_10(), stored_out(), settings_refused()];
     let cases: Vec<Case> = done.into_iter().chain(refused).flatten().collect();
     let faults: Vec<String> = cases.iter().flat_map(|c| [fault(c, proved), fault(c, wrapped), fault(c, other)]).flatten().collect();
     for f in &faults {

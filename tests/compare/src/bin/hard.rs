@@ -1,10 +1,10 @@
 //! Drives the proved library and the rival with meshes made to be hard for a search of neighbours: fans round any node, double fans, dense
-//! meshes and shuffled grids, as they are, grown, spoilt, and in tables of odd lengths. Each goes through all five calls; answers and every table
+//! meshes and shuffled grids, as they are, grown, spoilt, and in tables of odd lengths. Each goes through all six calls; answers and every table
 //! entry are compared. Usage: hard COUNT [SEED]. A run in which a kind of mesh never met one of the outcomes below fails too: it is to be longer.
 use compare::meshes::{dense, double_fan, fan, shuffled, Mesh};
 use compare::{agreed, made, rival, Call};
 use rival::calls::{quarter, refine, Tables};
-use rival::random::{grid, lend, Dice};
+use rival::random::{correction, grid, lend, Dice};
 use std::collections::{BTreeMap, HashSet};
 
 const SHAPES: [&str; 4] = ["fans", "double fans", "dense meshes", "grids"];
@@ -24,12 +24,13 @@ enum State {
 
 /// The calls, and the outcomes that each must have met with every shape: "changed" is 0 with other counts than before, "5 far" names a row whose
 /// edge another holds that stands 500 rows lower or more, "held" is a restore that leaves more nodes since a row holds a split edge.
-const OUTCOMES: [(&str, &[&str]); 5] = [
+const OUTCOMES: [(&str, &[&str]); 6] = [
     ("check", &["0", "1", "5", "5 far", "10"]),
     ("refine", &["changed", "1", "5", "5 far", "9"]),
     ("quarter", &["changed", "1", "5", "5 far", "9"]),
     ("coarsen", &["changed", "1", "5", "5 far"]),
     ("restore", &["changed", "held", "1", "5", "5 far"]),
+    ("set_correction", &["0", "1", "5", "5 far", "13", "15"]),
 ];
 const FAR: usize = 500;
 
@@ -47,6 +48,7 @@ fn drawn(d: &mut Dice, shape: &str) -> Mesh {
         }
         "double fans" => double_fan(size(d, 2, 1022)),
         "dense meshes" => dense(2 * size(d, 2, 56) as u32, 2048),
+        _ if d.once_in(6) => grid(31, 31, 16),
         _ => grid(size(d, 1, 31), size(d, 1, 31), 16),
     };
     if shape == "grids" || d.once_in(2) { shuffled(d, &mesh) } else { mesh }
@@ -56,7 +58,7 @@ fn drawn(d: &mut Dice, shape: &str) -> Mesh {
 fn lent(d: &mut Dice, (nodes, rows): &Mesh) -> Tables {
     let mut g = lend(d, nodes, rows);
     let (nc, tc) = if d.once_in(2) { (1024, 2048) } else { (g.n + d.below(1025 - g.n), g.t + d.below(2049 - g.t)) };
-    g.nodes.resize_with(2 * nc, || d.below(1000) as i32 - 500);
+    g.nodes.resize_with(4 * nc, || d.below(1000) as i32 - 500);
     g.rows.resize_with(3 * tc, || d.below(50) as u32);
     g.scratch.resize_with(4 * (nc + tc) + d.below(5), || d.below(9) as u32);
     g
@@ -84,7 +86,7 @@ fn turned(d: &mut Dice, mut row: [u32; 3]) -> [u32; 3] {
 }
 
 fn twice_area(g: &Tables, row: [u32; 3]) -> i64 {
-    let [(px, py), (qx, qy), (rx, ry)] = row.map(|k| (g.nodes[2 * k as usize] as i64, g.nodes[2 * k as usize + 1] as i64));
+    let [(px, py), (qx, qy), (rx, ry)] = row.map(|k| (g.nodes[4 * k as usize] as i64, g.nodes[4 * k as usize + 1] as i64));
     (qx - px) * (ry - py) - (rx - px) * (qy - py)
 }
 
@@ -137,7 +139,7 @@ fn spoil(d: &mut Dice, g: &mut Tables, state: State) -> Option<(usize, usize)> {
             (0..=d.below(2)).map(|_| repeat(d, g, state)).reduce(|first, then| if then.0 <= first.0 { then } else { first })
         }
         State::OddLengths => {
-            let (nodes, rows) = [(1, 0), (0, 1), (0, 2), (1, 1)][d.below(4)];
+            let (nodes, rows) = [(1, 0), (2, 0), (3, 0), (0, 1), (0, 2), (1, 1)][d.below(6)];
             g.nodes.resize(g.nodes.len() + nodes, 0);
             g.rows.resize(g.rows.len() + rows, 0);
             None
@@ -145,14 +147,16 @@ fn spoil(d: &mut Dice, g: &mut Tables, state: State) -> Option<(usize, usize)> {
     }
 }
 
-/// The five calls, with the base's node count or, once in four, any.
-fn calls(d: &mut Dice, g: &Tables, base: usize) -> [Call; 5] {
+/// The six calls, with the base's node count or, once in four, any.
+fn calls(d: &mut Dice, g: &Tables, base: usize) -> [Call; 6] {
     let n0 = if d.once_in(4) { d.below(g.n + 1) } else { base };
     let (rows, more_rows, nodes) = (marks(d, g.t), marks(d, g.t), marks(d, g.n));
-    [Call::Check, Call::Refine(n0, rows), Call::Quarter(n0, more_rows), Call::Coarsen(n0, nodes), Call::Restore(n0)]
+    let node = [d.below(g.n), n0 + d.below(g.n - n0), g.n][d.below(3)];
+    let set = Call::Set(n0, node, correction(d));
+    [Call::Check, Call::Refine(n0, rows), Call::Quarter(n0, more_rows), Call::Coarsen(n0, nodes), Call::Restore(n0), set]
 }
 
-/// One mesh through all five calls; what they say is held against what was done to the mesh, and counted.
+/// One mesh through all six calls; what they say is held against what was done to the mesh, and counted.
 fn compare_one(seed: u64, seen: &mut BTreeMap<(&str, &str, String), u64>) {
     let mut d = Dice::new(seed);
     let shape = SHAPES[seed as usize % SHAPES.len()];
@@ -206,5 +210,5 @@ fn main() {
         std::process::exit(1);
     }
     let fives: u64 = seen.iter().filter(|((_, _, outcome), _)| outcome == "5").map(|(_, times)| times).sum();
-    println!("hard: {count} meshes from seed {first}, {} calls agree, {fives} of them said 5 and named the row; every outcome was met", 5 * count);
+    println!("hard: {count} meshes from seed {first}, {} calls agree, {fives} of them said 5 and named the row; every outcome was met", 6 * count);
 }

@@ -69,6 +69,8 @@ fn copied(one: &Case, count: usize) -> Case {
         Call::Quarter(n0, marks) => (*n0, Call::Quarter(n0 * count, marks.repeat(count))),
         Call::Coarsen(n0, marks) => (*n0, Call::Coarsen(n0 * count, marks.repeat(count))),
         Call::Restore(n0) => (*n0, Call::Restore(n0 * count)),
+        // the first copy's node
+        Call::Set(n0, node, value) => (*n0, Call::Set(n0 * count, n0 * count + node - n0, *value)),
     };
     let all = Case { name: format!("{}, {count} copies of the first", one.name), call, given: copies(&one.given, n0, count) };
     let [a, said] = [one, &all].map(|case| made(&case.call, &case.given, other).0);
@@ -76,14 +78,15 @@ fn copied(one: &Case, count: usize) -> Case {
     all
 }
 
-/// Every call in its family: a grid is checked; a square that was grown is refined, cut in four, coarsened and restored.
+/// Every call in its family: a grid is checked; a square that was grown is refined, cut in four, coarsened and restored, and a node of it is set.
 fn families() -> Vec<Case> {
-    let families: [fn(usize) -> Case; 5] = [
+    let families: [fn(usize) -> Case; 6] = [
         checked,
         |n| added("refine", Call::Refine, 3, n),
         |n| added("quarter", Call::Quarter, 9, n),
         |n| case("one full pass", Call::Coarsen(4, vec![1; n]), grown(n)),
         |n| case("restore", Call::Restore(4), grown(n)),
+        |n| case("set_correction", Call::Set(4, n - 1, [-3, 5]), grown(n)),
     ];
     let members = |family: &fn(usize) -> Case| {
         let sized = SIZES.map(family);
@@ -118,6 +121,7 @@ fn bad() -> Vec<Case> {
         ("a grid shuffled", shuffled(d, &grid(31, 31, 8))),
     ];
     let mut cases: Vec<_> = checked.iter().map(|(what, mesh)| case(&format!("check, {what}"), Call::Check, largest(mesh))).collect();
+    cases.push(case("set_correction, a full table", Call::Set(1023, 1023, [-3, 5]), largest(&full())));
     cases.extend(there_and_back("a fan, its hub numbered highest", Call::Refine, &fan(511, 511)));
     cases.extend(there_and_back("a fan, its hub numbered highest", Call::Quarter, &fan(341, 341)));
     cases.extend(there_and_back("a double fan", Call::Refine, &double_fan(511)));

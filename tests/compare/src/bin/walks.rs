@@ -1,8 +1,10 @@
-//! Random walks over the proved library: a base, a thousand accepted and refused calls that mix both ways to refine with coarsen, then
-//! restore, which must give back the base row for row with no more passes than nodes were added. Usage: walks COUNT [SEED].
+//! Random walks over the proved library: a base whose nodes carry corrections, a thousand accepted and refused calls that mix both ways to refine
+//! with coarsen and settings, then restore, which must give back the base row for row, corrections and all, with no more passes than nodes were
+//! added. Usage: walks COUNT [SEED]. A run in which no setting was accepted, or none refused as 3, 13 or 15, fails: it is to be longer.
 use compare::{proved, Call};
-use rival::calls::Tables;
-use rival::random::{grid, lend, Dice};
+use rival::calls::{Answer, Tables};
+use rival::random::{any_correction, grid, lend, Dice};
+use spoutbeetle::Node;
 
 /// What a walk made of its calls.
 #[derive(Default)]
@@ -10,19 +12,41 @@ struct Told {
     refined: usize,
     quartered: usize,
     coarsened: usize,
+    set: usize,
     refused: usize,
+    /// Settings refused as 3, 13 and 15.
+    settings_refused: [usize; 3],
     passes: usize,
 }
 
-/// A call on the mesh, made with the base's node count or, once in five, with anything. A quarter splits more for a mark, so it gets fewer.
+/// The numbers that refuse a setting on a lawful mesh.
+const REFUSE_A_SETTING: [u32; 3] = [3, 13, 15];
+
+/// A call on the mesh, made with the base's node count or, once in four, with anything. A quarter splits more for a mark, so it gets fewer.
 fn random_call(d: &mut Dice, g: &Tables, n0: usize) -> Call {
     let way: (fn(usize, Vec<u8>) -> Call, usize) = if d.once_in(2) { (Call::Quarter, 80) } else { (Call::Refine, 20) };
     let (refine, every) = way;
-    match d.below(5) {
+    match d.below(8) {
         0 => Call::Coarsen(n0, (0..g.n).map(|_| d.once_in(2) as u8).collect()),
         1 => refine(d.below(g.n + 5), (0..g.t + d.below(3)).map(|_| d.below(3) as u8).collect()),
+        2 | 3 => Call::Set(n0, d.below(g.n + 3), any_correction(d)),
+        4 => Call::Set(d.below(g.n + 5), d.below(g.n + 3), any_correction(d)),
         _ => refine(n0, (0..g.t).map(|_| d.once_in(every) as u8).collect()),
     }
+}
+
+/// A refused call is counted. A lawful mesh has no culprit: only a value to be set names a node, the one given.
+fn refused(seed: u64, call: &Call, a: Answer, told: &mut Told) {
+    told.refused += 1;
+    let named = match call {
+        Call::Set(_, node, _) => {
+            let place = REFUSE_A_SETTING.iter().position(|&number| number == a.number);
+            place.into_iter().for_each(|k| told.settings_refused[k] += 1);
+            if a.number == 3 { *node } else { 0 }
+        }
+        _ => 0,
+    };
+    assert_eq!(a.culprit, named, "seed {seed}: {call:?} said {a:?}");
 }
 
 fn walk(seed: u64) -> Told {
@@ -30,9 +54,9 @@ fn walk(seed: u64) -> Told {
     let (w, h) = (1 + d.below(4), 1 + d.below(4));
     let (nodes, rows) = grid(w, h, 1 << (4 + d.below(6)));
     let mut g = lend(&mut d, &nodes, &rows);
-    g.nodes.resize(2 * (120 + d.below(900)).min(1024), 0);
+    g.nodes.resize(4 * (120 + d.below(900)).min(1024), 0);
     g.rows.resize(3 * (240 + d.below(1800)).min(2048), 0);
-    g.scratch.resize(4 * (g.nodes.len() / 2 + g.rows.len() / 3), 0);
+    g.scratch.resize(4 * (g.nodes.len() / 4 + g.rows.len() / 3), 0);
     let base = g.clone();
     let n0 = base.n;
     assert_eq!(proved(&Call::Check, &mut g).number, 0, "seed {seed}: the base is admitted");
@@ -43,16 +67,16 @@ fn walk(seed: u64) -> Told {
             Call::Refine(k, _) => (*k, &mut told.refined),
             Call::Quarter(k, _) => (*k, &mut told.quartered),
             Call::Coarsen(k, _) => (*k, &mut told.coarsened),
+            Call::Set(k, ..) => (*k, &mut told.set),
             _ => unreachable!("no such call is made here"),
         };
         let mut next = g.clone();
         let a = proved(&call, &mut next);
-        assert_eq!(a.culprit, 0, "seed {seed}: a lawful mesh has no culprit");
         if a.number == 0 && called_with == n0 {
             *kind += 1;
             g = next;
         } else if a.number != 0 {
-            told.refused += 1;
+            refused(seed, &call, a, &mut told);
             assert!(next.nodes == g.nodes && next.rows == g.rows, "seed {seed}: a refusal changed a table");
         }
     }
@@ -66,9 +90,9 @@ fn walk(seed: u64) -> Told {
 }
 
 fn same(g: &Tables, base: &Tables) -> bool {
-    g.nodes[..2 * base.n] == base.nodes[..2 * base.n]
+    Node::of(&g.nodes)[..base.n] == Node::of(&base.nodes)[..base.n]
         && g.rows[..3 * base.t] == base.rows[..3 * base.t]
-        && g.nodes[2 * base.n..].iter().all(|&x| x == 0)
+        && g.nodes[4 * base.n..].iter().all(|&x| x == 0)
         && g.rows[3 * base.t..].iter().all(|&x| x == 0)
         && g.scratch.iter().all(|&x| x == 0)
 }
@@ -79,6 +103,12 @@ fn main() {
     let first: u64 = words.next().map_or(1, |w| w.parse().expect("a seed"));
     let told: Vec<_> = (first..first + count).map(walk).collect();
     let sum = |f: fn(&Told) -> usize| told.iter().map(f).sum::<usize>();
-    let accepted = format!("{} refine, {} quarter and {} coarsen", sum(|w| w.refined), sum(|w| w.quartered), sum(|w| w.coarsened));
+    let accepted = format!("{} refine, {} quarter, {} coarsen and {} settings", sum(|w| w.refined), sum(|w| w.quartered), sum(|w| w.coarsened), sum(|w| w.set));
+    let settings = [0, 1, 2].map(|k| told.iter().map(|w| w.settings_refused[k]).sum::<usize>());
+    println!("walks: settings refused as {REFUSE_A_SETTING:?}: {settings:?}");
+    if settings.contains(&0) || sum(|w| w.set) == 0 {
+        println!("walks: {count} from seed {first} end with the base, but one of these never came");
+        std::process::exit(1);
+    }
     println!("walks: {count} from seed {first}; {accepted} accepted, {} refused, {} passes back to the base", sum(|w| w.refused), sum(|w| w.passes));
 }

@@ -73,7 +73,7 @@ halves m e = even (at m (e .lo) .x +ℤ at m (e .hi) .x) && even (at m (e .lo) .
 abbrev pub midpoint : Mesh → Edge → Place
 midpoint m e = place (half (at m (e .lo) .x +ℤ at m (e .hi) .x)) (half (at m (e .lo) .y +ℤ at m (e .hi) .y))
 
--- half, rounded down: −3 gives −2 (its bounds: `floor-half` in crates/whole)
+-- half, rounded down: −3 gives −2 (its bounds: `floor-half` in crates/laws/specs/Mean.antt)
 abbrev pub halfDown : ℤ → ℤ
 halfDown (pos n) = pos (n / 2)
 halfDown (negsuc n) = negsuc (n / 2)

@@ -47,7 +47,8 @@ fn set_node(nodes: &mut [i32], n: usize, z: usize, c: Correction)
     ensures { λ _. ⌜ now (nodes .exit) ≡ filled (pos 0) (length (now (nodes .entry))) (flatNodes (nodesSet (now (nodes .entry)) n z c)) ⌝ }
 {
     let place = tables::place_at(nodes, z);
-    tables::put_node(nodes, z, Node { place, correction: c });
+    let correction = c;
+    tables::put_node(nodes, z, Node { place, correction });
     tables::clear_nodes_from(nodes, n);
 }
 

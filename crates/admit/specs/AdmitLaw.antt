@@ -69,7 +69,7 @@ lists-is f end b e = rw e
 -- ---- a frame
 
 module _ (s : Session) (kind : ℕ) (f : List ℕ) where
-  pub admit-node : kind ≡ 1 → not (s .accepted) && eqb (length f) 16 && ltb (s .n) 512 ≡ admits s kind f
+  pub admit-node : kind ≡ 1 → not (s .accepted) && eqb (length f) 24 && ltb (s .n) 512 ≡ admits s kind f
   unfolding admits
   admit-node e = rw e
 
@@ -89,16 +89,20 @@ module _ (s : Session) (kind : ℕ) (f : List ℕ) where
   unfolding admits refinesIn
   admit-restore e = rw e
 
+  pub admit-set : kind ≡ 8 → s .accepted && eqb (length f) 12 ≡ admits s kind f
+  unfolding admits refinesIn
+  admit-set e = rw e
+
   module _ (x : kind ≡ 1 → ⊥) (y : kind ≡ 2 → ⊥) (z : kind ≡ 3 → ⊥) where
     pub admit-refine : (b : Bool) → isRefining kind ≡ true → b ≡ listsBelow (s .t) f → s .accepted && b ≡ admits s kind f
     unfolding admits
     admit-refine b e q = rw (ne-eqb kind 1 x, ne-eqb kind 2 y, ne-eqb kind 3 z, e, q)
 
-    pub admit-show : isRefining kind ≡ false → (kind ≡ 5 → ⊥) → (kind ≡ 6 → ⊥) → eqb kind 7 && eqb (length f) 0 ≡ admits s kind f
+    pub admit-show : isRefining kind ≡ false → (kind ≡ 5 → ⊥) → (kind ≡ 6 → ⊥) → (kind ≡ 8 → ⊥) → eqb kind 7 && eqb (length f) 0 ≡ admits s kind f
     unfolding admits
-    admit-show e c d = rw (ne-eqb kind 1 x, ne-eqb kind 2 y, ne-eqb kind 3 z, e, ne-eqb kind 5 c, ne-eqb kind 6 d)
+    admit-show e c d g = rw (ne-eqb kind 1 x, ne-eqb kind 2 y, ne-eqb kind 3 z, e, ne-eqb kind 5 c, ne-eqb kind 6 d, ne-eqb kind 8 g)
 
-  -- what an admitted 01 or 02 relies on
+  -- what an admitted 01, 02 or 08 relies on
   module _ (y : admits s kind f ≡ true) where
     fit : (k n most : ℕ) → not (s .accepted) && eqb (length f) k && ltb n most ≡ true → (length f ≡ k) × (n < most)
     fit k n most e = (
@@ -106,13 +110,13 @@ module _ (s : Session) (kind : ℕ) (f : List ℕ) where
       ltb-true n most (and-right (not (s .accepted) && eqb (length f) k) (ltb n most) e),
     )
 
-    pub node-fields : kind ≡ 1 → length f ≡ 16
+    pub node-fields : kind ≡ 1 → length f ≡ 24
     unfolding admits
-    node-fields e = fit 16 (s .n) 512 (rw e at y) .0
+    node-fields e = fit 24 (s .n) 512 (rw e at y) .0
 
     pub node-room : kind ≡ 1 → s .n < 512
     unfolding admits
-    node-room e = fit 16 (s .n) 512 (rw e at y) .1
+    node-room e = fit 24 (s .n) 512 (rw e at y) .1
 
     pub row-fields : kind ≡ 2 → length f ≡ 12
     unfolding admits
@@ -121,6 +125,10 @@ module _ (s : Session) (kind : ℕ) (f : List ℕ) where
     pub row-room : kind ≡ 2 → s .t < 1024
     unfolding admits
     row-room e = fit 12 (s .t) 1024 (rw e at y) .1
+
+    pub setting-fields : kind ≡ 8 → length f ≡ 12
+    unfolding admits refinesIn
+    setting-fields e = eqb-true (length f) 12 (and-right (s .accepted) (eqb (length f) 12) (rw e at y))
 
 -- ---- a line
 

@@ -66,7 +66,7 @@ fn admits(session: Session, kind: u32, fields: &[u8]) -> bool
     ensures { λ r. ⌜ r ≡ f.admits session kind (now (fields .entry)) ⌝ }
 {
     if kind == 1 {
-        return !session.accepted & (fields.len() == 16) & (session.n < 512);
+        return !session.accepted & (fields.len() == 24) & (session.n < 512);
     }
     if kind == 2 {
         return !session.accepted & (fields.len() == 12) & (session.t < 1024);
@@ -82,6 +82,9 @@ fn admits(session: Session, kind: u32, fields: &[u8]) -> bool
     }
     if kind == 6 {
         return session.accepted & (fields.len() == 0);
+    }
+    if kind == 8 {
+        return session.accepted & (fields.len() == 12);
     }
     (kind == 7) & (fields.len() == 0)
 }

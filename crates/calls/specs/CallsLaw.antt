@@ -1,4 +1,4 @@
--- The calls of frames 03 to 06 and 09, in the form in which the code makes them. Assumes nothing.
+-- The calls of frames 03 to 06, 08 and 09, in the form in which the code makes them. Assumes nothing.
 use mathlib.Core.Path.{_≡_, _∙_}
 use mathlib.Core.List.{List}
 use Prim.Native.Nat.{ℕ, _/_, _≤_}
@@ -8,11 +8,13 @@ use lib.IntN.{ℤ, pos}
 use lib.ListN.{length, take, replicate}
 use Rattle.lists.specs.Search.{items, itemsFrom, iter}
 use Rattle.meaning.specs.declared.Answer.{Answer}
+use Rattle.meaning.specs.declared.Correction.{Correction}
 use Rattle.meaning.specs.declared.Manner.{Manner}
 use Rattle.meaning.specs.Split.{Way, wayOf}
-use Rattle.meaning.specs.Tables.{Given, given, Outcome, outcome, answer, placeAt, rowAt, flatNodes, flatRows, filled}
-use Rattle.meaning.specs.Calls.{checkOut, refineOut, coarsenOut, restoreOut}
-use Rattle.text.specs.Digits.{listed}
+use Rattle.meaning.specs.Tables.{Given, given, Outcome, outcome, answer, nodeAt, rowAt, flatNodes, flatRows, filled}
+use Rattle.meaning.specs.Calls.{checkOut, refineOut, coarsenOut, restoreOut, setOut}
+use Rattle.text.specs.Digits.{number, field, listed}
+use Rattle.text.specs.Lines.{correctionIn}
 use Rattle.protocol.specs.declared.Refines.{Refines}
 use Rattle.protocol.specs.declared.Refines.the-variants.{In, Never}
 use Rattle.protocol.specs.declared.Session.{Session}
@@ -25,12 +27,12 @@ module _ (a : Answer) (ns : List ℤ) (rs sc : List ℕ) (o : Outcome) (c : outc
   pub check-kept : a .number ≡ 0 → outcome a ns rs sc ≡ orDropped o
   check-kept z = rw (← c, eq-eqb (a .number) 0 z)
 
-  pub check-dropped : (ns₁ : List ℤ) (rs₁ : List ℕ) → (a .number ≡ 0 → ⊥) → ns₁ ≡ filled (pos 0) (length ns) (flatNodes (items (placeAt ns) 0 0)) →
+  pub check-dropped : (ns₁ : List ℤ) (rs₁ : List ℕ) → (a .number ≡ 0 → ⊥) → ns₁ ≡ filled (pos 0) (length ns) (flatNodes (items (nodeAt ns) 0 0)) →
       rs₁ ≡ filled 0 (length rs) (flatRows (items (rowAt rs) 0 0)) → outcome (answer (a .number) 0 0 0 (a .culprit)) ns₁ rs₁ sc ≡ orDropped o
   unfolding items itemsFrom
   check-dropped ns₁ rs₁ z f g = rw (← c, ne-eqb (a .number) 0 z, f, g)
 
--- ---- 03 to 06 and 09
+-- ---- 03 to 06, 08 and 09
 
 module _ (ns : List ℤ) (rs sc : List ℕ) (s : Session) (kind : ℕ) (f : List ℕ) (o : Outcome) where
   pub called-check : kind ≡ 3 → o ≡ orDropped (checkOut (given ns rs sc (s .n) (s .t))) → o ≡ called (held ns rs sc s) kind f
@@ -41,15 +43,24 @@ module _ (ns : List ℤ) (rs sc : List ℕ) (s : Session) (kind : ℕ) (f : List
   unfolding called refinesIn
   called-coarsen k e = e ∙ rw k
 
+  pub called-set : kind ≡ 8 → o ≡ setOut (given ns rs sc (s .n) (s .t)) (s .n0) (field 4 f 0) (correctionIn f 1) → o ≡ called (held ns rs sc s) kind f
+  unfolding called refinesIn
+  called-set k e = e ∙ rw k
+
   -- r is what the code found of the kind
   module _ (r : Refines) (g : r ≡ refinesIn kind) (x : kind ≡ 3 → ⊥) where
     pub called-refine : (k : Manner) → r ≡ In k → o ≡ refineOut (wayOf k) (given ns rs sc (s .n) (s .t)) (s .n0) (marksOf (s .t) (listed f)) → o ≡ called (held ns rs sc s) kind f
     unfolding called
     called-refine k h e = e ∙ rw (ne-eqb kind 3 x, ← g, h)
 
-    pub called-restore : r ≡ Never → (kind ≡ 5 → ⊥) → o ≡ restoreOut (given ns rs sc (s .n) (s .t)) (s .n0) → o ≡ called (held ns rs sc s) kind f
+    pub called-restore : r ≡ Never → (kind ≡ 5 → ⊥) → (kind ≡ 8 → ⊥) → o ≡ restoreOut (given ns rs sc (s .n) (s .t)) (s .n0) → o ≡ called (held ns rs sc s) kind f
     unfolding called
-    called-restore h c e = e ∙ rw (ne-eqb kind 3 x, ← g, h, ne-eqb kind 5 c)
+    called-restore h c d e = e ∙ rw (ne-eqb kind 3 x, ← g, h, ne-eqb kind 5 c, ne-eqb kind 8 d)
+
+-- what is given to be set, as the code reads it
+pub set-read : (f : List ℕ) (g : Given) (n0 z : ℕ) (c : Correction) (o : Outcome) → z ≡ number 4 f 0 → c ≡ correctionIn f 1 → o ≡ setOut g n0 z c →
+    o ≡ setOut g n0 (field 4 f 0) (correctionIn f 1)
+set-read f g n0 z c o a b e = rw (← a, ← b) e
 
 -- what is listed, as the code marks it
 module _ (f : List ℕ) (k : ℕ) (m : List ℕ) (g : Given) (n0 : ℕ) (o : Outcome) where

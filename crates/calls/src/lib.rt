@@ -1,12 +1,14 @@
-// Frames 03 to 06 and 09: the calls. Numbers listed have four digits each.
+// Frames 03 to 06, 08 and 09: the calls. Numbers listed have four digits each.
 ghost use mathlib.Core.Path.{_≡_};
+ghost use mathlib.Core.Bool.{true};
 ghost use Prim.Native.Nat.{_+_, _*_, _/_, _≤_};
 ghost use lib.ListN.{length};
 ghost use Rattle.lists.specs.Search.{iter};
 ghost use Rattle.meaning.specs.Split.{wayOf};
 ghost use Rattle.meaning.specs.Tables.{given, outcome};
-ghost use Rattle.meaning.specs.Calls.{checkOut, refineOut, coarsenOut};
-ghost use Rattle.text.specs.Digits.{listed};
+ghost use Rattle.meaning.specs.Calls.{checkOut, refineOut, coarsenOut, setOut};
+ghost use Rattle.text.specs.Digits.{field, listed};
+ghost use Rattle.text.specs.Lines.{correctionIn};
 ghost use Rattle.protocol.specs.Frames as f;
 ghost use Rattle.calls.specs.MarksLaw.{markOne};
 use meaning::Answer;
@@ -51,7 +53,7 @@ fn check_base(
     if a.number == 0 {
         return a;
     }
-    tables::clear_places_from(nodes, 0);
+    tables::clear_nodes_from(nodes, 0);
     tables::clear_rows_from(rows, 0);
     Answer {
         number: a.number,
@@ -106,7 +108,32 @@ fn coarsen_listed(
     mesh::coarsen(nodes, rows, scratch, &marks[..n], session.n0, n, session.t)
 }
 
-// 03 to 06 and 09.
+// 08: set the correction of one node.
+fn set_given(
+    fields: &[u8],
+    nodes: &mut [i32],
+    rows: &mut [u32],
+    scratch: &mut [u32],
+    session: Session,
+) -> Answer
+    requires { ⌜ length (now fields) ≡ 12 ⌝ }
+    ensures { λ a. ⌜ outcome a (now (nodes .exit)) (now (rows .exit)) (now (scratch .exit)) ≡ setOut (given (now (nodes .entry)) (now (rows .entry)) (now (scratch .entry)) (session .n) (session .t)) (session .n0) (field 4 (now (fields .entry)) 0) (correctionIn (now (fields .entry)) 1) ⌝ }
+{
+    let node = read::four(fields, 0) as usize;
+    let c = read::correction_in(fields, 1);
+    mesh::set_correction(
+        nodes,
+        rows,
+        scratch,
+        session.n0,
+        session.n,
+        session.t,
+        node,
+        c,
+    )
+}
+
+// 03 to 06, 08 and 09, admitted.
 pub fn call(
     kind: u32,
     fields: &[u8],
@@ -117,6 +144,7 @@ pub fn call(
 ) -> Answer
     requires { ⌜ session .n ≤ 512 ⌝ }
     requires { ⌜ session .t ≤ 1024 ⌝ }
+    requires { ⌜ f.admits session kind (now fields) ≡ true ⌝ }
     ensures { λ a. ⌜ outcome a (now (nodes .exit)) (now (rows .exit)) (now (scratch .exit)) ≡ f.called (f.held (now (nodes .entry)) (now (rows .entry)) (now (scratch .entry)) session) kind (now (fields .entry)) ⌝ }
 {
     if kind == 3 {
@@ -127,6 +155,9 @@ pub fn call(
     }
     if kind == 5 {
         return coarsen_listed(fields, nodes, rows, scratch, session);
+    }
+    if kind == 8 {
+        return set_given(fields, nodes, rows, scratch, session);
     }
     job::restore(nodes, rows, scratch, session.n0, session.n, session.t)
 }

@@ -27,10 +27,10 @@ writing out s = record { next = s .next; text = writes (wrote 0 out) (s .text) }
 
 -- "The program holds each table whole": the lengths of its tables and of the buffer, and counts within its rooms
 unfoldable pub whole : ℕ → ℕ → ℕ → ℕ → Session → Bool
-whole nl rl sl ol s = eqb nl 1024 && eqb rl 3072 && eqb sl 6144 && leb 32768 ol && leb (s .n) 512 && leb (s .t) 1024
+whole nl rl sl ol s = eqb nl 2048 && eqb rl 3072 && eqb sl 6144 && leb 32768 ol && leb (s .n) 512 && leb (s .t) 1024
 
 pub record Whole (nl rl sl ol : ℕ) (s : Session) : Type 0 where
-  pub nodes : nl ≡ 1024
+  pub nodes : nl ≡ 2048
   pub rows : rl ≡ 3072
   pub scratch : sl ≡ 6144
   pub out : 32768 ≤ ol
@@ -41,7 +41,7 @@ module _ (nl rl sl ol : ℕ) (s : Session) where
   pub whole-is : whole nl rl sl ol s ≡ true → Whole nl rl sl ol s
   unfolding whole
   whole-is e =
-      let x2 = eqb nl 1024 && eqb rl 3072 in
+      let x2 = eqb nl 2048 && eqb rl 3072 in
       let x3 = x2 && eqb sl 6144 in
       let x4 = x3 && leb 32768 ol in
       let x5 = x4 && leb (s .n) 512 in
@@ -50,8 +50,8 @@ module _ (nl rl sl ol : ℕ) (s : Session) where
       let e3 = and-left x3 (leb 32768 ol) e4 in
       let e2 = and-left x2 (eqb sl 6144) e3 in
       record {
-        nodes = eqb-true nl 1024 (and-left (eqb nl 1024) (eqb rl 3072) e2);
-        rows = eqb-true rl 3072 (and-right (eqb nl 1024) (eqb rl 3072) e2);
+        nodes = eqb-true nl 2048 (and-left (eqb nl 2048) (eqb rl 3072) e2);
+        rows = eqb-true rl 3072 (and-right (eqb nl 2048) (eqb rl 3072) e2);
         scratch = eqb-true sl 6144 (and-right x2 (eqb sl 6144) e3);
         out = leb-true 32768 ol (and-right x3 (leb 32768 ol) e4);
         few-nodes = leb-true (s .n) 512 (and-right x4 (leb (s .n) 512) e5);
@@ -62,7 +62,7 @@ module _ (nl rl sl ol : ℕ) (s : Session) where
   unfolding whole
   is-whole w =
       rw (
-        eq-eqb nl 1024 (w .nodes),
+        eq-eqb nl 2048 (w .nodes),
         eq-eqb rl 3072 (w .rows),
         eq-eqb sl 6144 (w .scratch),
         le-leb 32768 ol (w .out),

@@ -8,12 +8,12 @@ use borrow.Author.Tests.{ne-eqb, not-true, not-false}
 use lib.IntN.{ℤ}
 use lib.ListN.{length, take, drop}
 use Rattle.meaning.specs.declared.Answer.{Answer}
-use Rattle.meaning.specs.declared.Place.{Place}
+use Rattle.meaning.specs.declared.Node.{Node}
 use Rattle.meaning.specs.declared.Tri.{Tri}
 use Rattle.meaning.specs.Tables.{outcome}
-use Rattle.tables.specs.Put.{setPlace, setRow}
+use Rattle.tables.specs.Put.{setNode, setRow}
 use Rattle.text.specs.Digits.{number}
-use Rattle.text.specs.Lines.{placeIn, rowIn, ffLine, answerLine, allLines}
+use Rattle.text.specs.Lines.{nodeIn, rowIn, ffLine, answerLine, allLines}
 use Rattle.text.specs.Writing.{Wrote, wrote, writes}
 use Rattle.protocol.specs.declared.Session.{Session}
 use Rattle.frames.specs.declared.Answered.{Answered}
@@ -32,14 +32,14 @@ with h w = record { next = h; text = w }
 
 -- an admitted 01 or 02 has its place in the table
 module _ (nl rl sl ol kind : ℕ) (f : List ℕ) (s : Session) (w : Whole nl rl sl ol s) (y : admits s kind f ≡ true) where
-  pub place-room : kind ≡ 1 → 2 * s .n + 2 ≤ nl
-  place-room e = let r = node-room s kind f y e in omega (arith, w .nodes)
+  pub node-fits : kind ≡ 1 → 4 * s .n + 4 ≤ nl
+  node-fits e = let r = node-room s kind f y e in omega (arith, w .nodes)
 
   pub tri-room : kind ≡ 2 → 3 * s .t + 3 ≤ rl
   tri-room e = let r = row-room s kind f y e in omega (arith, w .rows)
 
 module _ (ns : List ℤ) (rs sc out : List ℕ) (s : Session) (kind : ℕ) (f : List ℕ) where
-  pub frame-node : (a : Place) (ns₁ : List ℤ) → kind ≡ 1 → a ≡ placeIn f → ns₁ ≡ setPlace ns (s .n) a →
+  pub frame-node : (a : Node) (ns₁ : List ℤ) → kind ≡ 1 → a ≡ nodeIn f → ns₁ ≡ setNode ns (s .n) a →
       lent (answered (session (s .n + 1) (s .t) (s .n0) (s .accepted)) 0) ns₁ rs sc out ≡ writing out (frame (held ns rs sc s) kind f)
   unfolding frame addNode writes
   frame-node a ns₁ k p e = rw (k, e, p)

@@ -7,12 +7,14 @@ use native.Mathlib.Omega.{arith}
 use borrow.Author.Tests.{ne-eqb}
 use lib.Dec.{eqb}
 use lib.ListN.{length}
+use Rattle.meaning.specs.declared.Correction.{Correction}
 use Rattle.meaning.specs.Mesh.{Mesh}
-use Rattle.meaning.specs.Lawful.{Names, names-3, names-4, names-5, names-6, names-7, names-none}
+use Rattle.meaning.specs.Lawful.{InBounds, Names, names-3, names-4, names-5, names-6, names-7, names-none}
+use Rattle.meaning.specs.Setting.{SetNames, names-stored, names-given}
 use Rattle.meaning.specs.Split.{wayOf}
 use Rattle.meaning.specs.Tables.{Given, Outcome, meshOf}
 use Rattle.meaning.specs.Calls.{checkOut}
-use Rattle.laws.specs.CallLaw.{check-names, refine-names, coarsen-names, restore-names}
+use Rattle.laws.specs.CallLaw.{check-names, refine-names, coarsen-names, restore-names, set-call-names}
 use Rattle.laws.specs.TableMesh.{nodes-count, rows-count}
 use Rattle.text.specs.Digits.{number}
 use Rattle.text.specs.LinesAre.{culprit-read}
@@ -24,6 +26,11 @@ use Rattle.frames.specs.Stays.{pick, of-called}
 record Blames (g : Given) (o : Outcome) : Type 0 where
   names : Names (meshOf g) (o .answer .number) (o .answer .culprit)
 
+-- what `08` says to set is in range, so that its refusals name what the mesh's do
+in-bounds-names : {m : Mesh} {z k y : ℕ} {v : Correction} → InBounds v → SetNames m z v k y → Names m k y
+in-bounds-names b (names-stored n) = n
+in-bounds-names b (names-given _ out) = absurd (out b)
+
 module _ (h : Held) (kind : ℕ) (fields : List ℕ) where
   called-blames : Blames (givenBy h) (called h kind fields)
   called-blames =
@@ -32,6 +39,7 @@ module _ (h : Held) (kind : ℕ) (fields : List ℕ) where
       of-called (Blames g) h kind fields (pick (Blames g) (eqb (checkOut g .answer .number) 0) (record { names = check-names g }) (record { names = check-names g }))
       (λ k marks. record { names = refine-names g n0 (wayOf k) marks })
       (λ marks. record { names = coarsen-names g n0 marks })
+      (λ z v b. record { names = in-bounds-names b (set-call-names g n0 z v) })
       (record { names = restore-names g n0 })
 
 -- a culprit is below the rooms, or 0: four digits are enough for it

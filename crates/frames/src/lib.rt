@@ -29,7 +29,7 @@ fn frame(
     ensures { λ r. ⌜ l.lent r (now (nodes .exit)) (now (rows .exit)) (now (scratch .exit)) (now (out .exit)) ≡ l.writing (now (out .entry)) (f.frame (f.held (now (nodes .entry)) (now (rows .entry)) (now (scratch .entry)) session) kind (now (fields .entry))) ⌝ }
 {
     if kind == 1 {
-        tables::put_place(nodes, session.n, read::place_in(fields));
+        tables::put_node(nodes, session.n, read::node_in(fields));
         return Answered {
             session: Session {
                 n: session.n + 1,
@@ -68,7 +68,7 @@ fn frame(
 pub fn whole(nl: usize, rl: usize, sl: usize, ol: usize, session: Session) -> bool
     ensures { λ r. ⌜ r ≡ l.whole nl rl sl ol session ⌝ }
 {
-    (nl == 1024)
+    (nl == 2048)
         & (rl == 3072)
         & (sl == 6144)
         & (32_768 <= ol)

@@ -165,7 +165,7 @@ fn close(
 }
 
 fn main() {
-    let mut nodes = [0i32; 1024];
+    let mut nodes = [0i32; 2048];
     let mut rows = [0u32; 3072];
     let mut scratch = [0u32; 6144];
     let mut line = [0u8; 255];

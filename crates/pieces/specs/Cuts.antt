@@ -12,11 +12,12 @@ use Rattle.meaning.specs.Lawful.{refusal, compatible, faultOf, firstOutside, fi
 use Rattle.meaning.specs.Split.{closure, splitEdges, splitAt, split, refined}
 use Rattle.meaning.specs.Good.{pairs, span, G1-4, good}
 use Rattle.meaning.specs.Coarsen.{taken, without, coarsened, goodNodes, pass, restored}
-use Rattle.meaning.specs.Tables.{placeAt, rowAt, meshOf}
-use Rattle.meaning.specs.Calls.{checkNo, refineNo, coarsenNo, checks, refines, coarsens, restores, culpritOf, sizesFit, checkOut, refineOut, coarsenOut, restoreOut}
-use Rattle.tables.specs.Put.{setPlace, setRow}
+use Rattle.meaning.specs.Setting.{corrected, setFault}
+use Rattle.meaning.specs.Tables.{nodeAt, rowAt, meshOf}
+use Rattle.meaning.specs.Calls.{checkNo, refineNo, coarsenNo, checks, refines, coarsens, restores, sets, culpritOf, sizesFit, checkOut, refineOut, coarsenOut, restoreOut, setOut}
+use Rattle.tables.specs.Put.{setNode, setRow}
 use Rattle.text.specs.Digits.{bytes, isDigit, worth, number, listed, signed, unsigned, hexDigit, hex}
-use Rattle.text.specs.Lines.{placeIn, rowIn, answerLine, nodeLine, rowLine, allLines}
+use Rattle.text.specs.Lines.{correctionIn, nodeIn, rowIn, answerLine, nodeLine, rowLine, allLines}
 use Rattle.text.specs.Writing.{writes}
 use Rattle.protocol.specs.Frames.{held, session, refinesIn, wellFormed, listsBelow, admits, takes, addNode, addRow, marksOf, called, sessionAfter, frame, lineStep}
 use Rattle.frames.specs.Answered.{whole, lineLent}
@@ -35,7 +36,7 @@ record Seen : Type 0 where
 -- on tables and buffers that held something
 told : List Turn → Seen
 told ts =
-    let h : Had = hadOf (replicate 255 7) (replicate 1024 (pos 7)) (replicate 3072 7) (replicate 6144 7) (replicate 32768 7) ts in
+    let h : Had = hadOf (replicate 255 7) (replicate 2048 (pos 7)) (replicate 3072 7) (replicate 6144 7) (replicate 32768 7) ts in
     record { said = h .said; used = h .carried .line .used; line = take 4 (h .carried .line .buffer); ended = h .carried .ended }
 
 record Row : Type 0 where
@@ -64,9 +65,9 @@ digits k = piece (replicate k 0x30)
 -- S of document 01, cut anywhere
 square : List Turn
 square =
-    words "010000000000000000\n01000000080" ∷
-    words "0000000\n010000000800000008" ∷
-    words "\n010000000000000008\n0" ∷
+    words "01000000000000000000000000\n01000000080" ∷
+    words "000000000000000\n010000000800000008000" ∷
+    words "00000\n01000000000000000800000000\n0" ∷
     words "2000100020000\n" ∷
     words "02000300000002\n03" ∷
     []
@@ -122,9 +123,9 @@ rows =
     done (piece (replicate 511 0x30 ++ 0x0a ∷ []) ∷ []) "ff\n" ∷
     waits (piece (bytes "03\n" ++ replicate 509 0x31) ∷ []) "03000000000000000000\n" 255 (bytes "1111") ∷
     -- frames that have no answer
-    done (words "010000000000000000\n" ∷ words "02000000010002\n" ∷ []) "" ∷
-    done (words "0180000000ffff" ∷ words "ffff\n02ffff00010000\n07\n" ∷ []) "0180000000ffffffff\n02ffff00010000\n" ∷
-    done (words "010000000000000000\n010000000000000000\nff\n02000000010002\n03\n" ∷ []) "ff\n03040000000000000000\n" ∷
+    done (words "01000000000000000000000000\n" ∷ words "02000000010002\n" ∷ []) "" ∷
+    done (words "0180000000ffff" ∷ words "ffff8000" ∷ words "7fff\n02ffff00010000\n07\n" ∷ []) "0180000000ffffffff80007fff\n02ffff00010000\n" ∷
+    done (words "01000000000000000000000000\n01000000000000000000000000\nff\n02000000010002\n03\n" ∷ []) "ff\n03040000000000000000\n" ∷
     -- a base that came in pieces
     waits square "" 2 (bytes "03" ++ 0 ∷ 0 ∷ []) ∷
     done (square ++ words "\n" ∷ []) "03000004000200000000\n" ∷
@@ -132,10 +133,12 @@ rows =
     done (square ++ words "\n04" ∷ digits 100 ∷ digits 152 ∷ words "\n" ∷ []) "03000004000200000000\n04000005000400000000\n" ∷
     done (square ++ words "\n04" ∷ digits 100 ∷ digits 153 ∷ words "\n" ∷ []) "03000004000200000000\nff\n" ∷
     done (square ++ words "\n0400" ∷ words "00\n06\n" ∷ []) "03000004000200000000\n04000005000400000000\n06000004000200010000\n" ∷
+    -- W5: a setting that came in pieces; of a node that is not there
+    done (square ++ words "\n040000\n0800047f" ∷ words "ff8000\n08000" ∷ words "500010002\n" ∷ []) "03000004000200000000\n04000005000400000000\n08000005000400000000\n080f0005000400000000\n" ∷
     []
 
 cuts-told : map (λ r. told (r .turns)) rows ≡ map (λ r. r .seen) rows
-unfolding rows told words digits square waits done ended hadOf beginOut takeOut untimely further byteRead lineRead longer wiped fits whole lineLent writes lowest lowestFrom items itemsFrom twiceArea refusal compatible faultOf firstOutside firstMisnamed firstRepeat firstFlat firstUnused firstClash closure splitEdges splitAt split refined pairs span G1-4 good taken without coarsened goodNodes pass restored placeAt rowAt meshOf checkNo refineNo coarsenNo checks refines coarsens restores culpritOf sizesFit checkOut refineOut coarsenOut restoreOut setPlace setRow isDigit worth number listed signed unsigned hexDigit hex placeIn rowIn answerLine nodeLine rowLine allLines refinesIn wellFormed listsBelow admits takes addNode addRow marksOf called sessionAfter frame lineStep endOut
+unfolding rows told words digits square waits done ended hadOf beginOut takeOut untimely further byteRead lineRead longer wiped fits whole lineLent writes lowest lowestFrom items itemsFrom twiceArea refusal compatible faultOf firstOutside firstMisnamed firstRepeat firstFlat firstUnused firstClash closure splitEdges splitAt split refined pairs span G1-4 good taken without coarsened goodNodes pass restored nodeAt rowAt meshOf checkNo refineNo coarsenNo checks refines coarsens restores corrected setFault sets culpritOf sizesFit checkOut refineOut coarsenOut restoreOut setOut setNode setRow isDigit worth number listed signed unsigned hexDigit hex correctionIn nodeIn rowIn answerLine nodeLine rowLine allLines refinesIn wellFormed listsBelow admits takes addNode addRow marksOf called sessionAfter frame lineStep endOut
 cuts-told = refl
 
 -- ---- single calls: the number, how many bytes were taken and how many written, how many wait
@@ -171,28 +174,28 @@ begin-of l = shown (beginOut (replicate (l .line) 7) (replicate (l .nodes) (pos 
 
 -- all in its size
 fit : Sizes
-fit = lent 255 1024 3072 6144 32768 0 0 0
+fit = lent 255 2048 3072 6144 32768 0 0 0
 
 -- one thing in another size
 unfit : List Sizes
 unfit =
-    lent 254 1024 3072 6144 32768 0 0 0 ∷
-    lent 256 1024 3072 6144 32768 0 0 0 ∷
-    lent 255 1023 3072 6144 32768 0 0 0 ∷
-    lent 255 1025 3072 6144 32768 0 0 0 ∷
-    lent 255 1024 3071 6144 32768 0 0 0 ∷
-    lent 255 1024 3073 6144 32768 0 0 0 ∷
-    lent 255 1024 3072 6143 32768 0 0 0 ∷
-    lent 255 1024 3072 6145 32768 0 0 0 ∷
-    lent 255 1024 3072 6144 32767 0 0 0 ∷
+    lent 254 2048 3072 6144 32768 0 0 0 ∷
+    lent 256 2048 3072 6144 32768 0 0 0 ∷
+    lent 255 2047 3072 6144 32768 0 0 0 ∷
+    lent 255 2049 3072 6144 32768 0 0 0 ∷
+    lent 255 2048 3071 6144 32768 0 0 0 ∷
+    lent 255 2048 3073 6144 32768 0 0 0 ∷
+    lent 255 2048 3072 6143 32768 0 0 0 ∷
+    lent 255 2048 3072 6145 32768 0 0 0 ∷
+    lent 255 2048 3072 6144 32767 0 0 0 ∷
     []
 
 -- or too much carried
 tooMuch : List Sizes
 tooMuch =
-    lent 255 1024 3072 6144 32768 256 0 0 ∷
-    lent 255 1024 3072 6144 32768 0 513 0 ∷
-    lent 255 1024 3072 6144 32768 0 0 1025 ∷
+    lent 255 2048 3072 6144 32768 256 0 0 ∷
+    lent 255 2048 3072 6144 32768 0 513 0 ∷
+    lent 255 2048 3072 6144 32768 0 0 1025 ∷
     []
 
 record Call : Type 0 where
@@ -217,9 +220,9 @@ calls =
     ones (λ l. end-of l true) (unfit ++ tooMuch) ++
     -- a longer buffer for answers, and the most that may be carried
     call (begin-of fit) 0 0 13 0 ∷
-    call (begin-of (lent 255 1024 3072 6144 40000 0 0 0)) 0 0 13 0 ∷
-    call (take-of (lent 255 1024 3072 6144 40000 255 512 1024) false (bytes "\n03")) 0 1 3 0 ∷
-    call (end-of (lent 255 1024 3072 6144 40000 255 512 1024) false) 0 0 7 0 ∷
+    call (begin-of (lent 255 2048 3072 6144 40000 0 0 0)) 0 0 13 0 ∷
+    call (take-of (lent 255 2048 3072 6144 40000 255 512 1024) false (bytes "\n03")) 0 1 3 0 ∷
+    call (end-of (lent 255 2048 3072 6144 40000 255 512 1024) false) 0 0 7 0 ∷
     -- up to the first line that has an answer
     call (take-of fit false []) 0 0 0 0 ∷
     call (take-of fit false (bytes "03")) 0 2 0 2 ∷
@@ -235,10 +238,10 @@ calls =
     call (take-of fit true (bytes "\n")) 17 0 0 0 ∷
     -- the end, and once more
     call (end-of fit false) 0 0 4 0 ∷
-    call (end-of (lent 255 1024 3072 6144 32768 1 0 0) false) 0 0 7 0 ∷
+    call (end-of (lent 255 2048 3072 6144 32768 1 0 0) false) 0 0 7 0 ∷
     call (end-of fit true) 0 0 0 0 ∷
     []
 
 calls-answered : map (λ c. c .got) calls ≡ map (λ c. c .expected) calls
-unfolding calls unfit tooMuch ones call lent readerOf shown take-of end-of begin-of fit beginOut takeOut untimely further byteRead lineRead longer wiped fits whole lineLent writes lowest lowestFrom items itemsFrom refusal compatible faultOf firstOutside firstMisnamed firstRepeat firstFlat firstUnused firstClash placeAt rowAt meshOf checkNo checks culpritOf sizesFit checkOut setRow isDigit worth number listed hexDigit hex rowIn answerLine refinesIn wellFormed admits takes addRow called sessionAfter frame lineStep endOut
+unfolding calls unfit tooMuch ones call lent readerOf shown take-of end-of begin-of fit beginOut takeOut untimely further byteRead lineRead longer wiped fits whole lineLent writes lowest lowestFrom items itemsFrom refusal compatible faultOf firstOutside firstMisnamed firstRepeat firstFlat firstUnused firstClash nodeAt rowAt meshOf checkNo checks culpritOf sizesFit checkOut setRow isDigit worth number listed hexDigit hex rowIn answerLine refinesIn wellFormed admits takes addRow called sessionAfter frame lineStep endOut
 calls-answered = refl

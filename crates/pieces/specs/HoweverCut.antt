@@ -92,7 +92,7 @@ turns-had base ol (piece p ∷ ts) s c a =
 
 start-whole : (ol : ℕ) → 32768 ≤ ol → WholeHeld start ol
 start-whole ol o = record {
-  nodes = length-replicate {A = ℤ} 1024 (pos 0);
+  nodes = length-replicate {A = ℤ} 2048 (pos 0);
   rows = length-replicate {A = ℕ} 3072 0;
   scratch = length-replicate {A = ℕ} 6144 0;
   out = o;

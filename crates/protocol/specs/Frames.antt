@@ -1,5 +1,5 @@
--- Document 01, 'The line program', W1's `09` and W2's culprit: what one line does to what the program holds, and what it writes. Every
--- definition takes any tables and any bytes. Assumes nothing.
+-- Document 01, 'The line program', W1's `09`, W2's culprit, W5's corrections and `08`: what one line does to what the program holds, and
+-- what it writes. Every definition takes any tables and any bytes. Assumes nothing.
 use mathlib.Core.Bool.{Bool, true, false, not, _&&_}
 use mathlib.Core.List.{List, []}
 use Prim.Native.Nat.{ℕ, _+_, _%_}
@@ -13,10 +13,10 @@ use Rattle.meaning.specs.declared.Manner.{Manner}
 use Rattle.meaning.specs.declared.Manner.the-variants.{Newest, AllThree}
 use Rattle.meaning.specs.Split.{wayOf}
 use Rattle.meaning.specs.Tables.{Given, given, Outcome, outcome, answer, filled}
-use Rattle.meaning.specs.Calls.{checkOut, refineOut, coarsenOut, restoreOut}
-use Rattle.tables.specs.Put.{setPlace, setRow}
-use Rattle.text.specs.Digits.{isDigit, number, listed}
-use Rattle.text.specs.Lines.{placeIn, rowIn, ffLine, answerLine, allLines}
+use Rattle.meaning.specs.Calls.{checkOut, refineOut, coarsenOut, restoreOut, setOut}
+use Rattle.tables.specs.Put.{setNode, setRow}
+use Rattle.text.specs.Digits.{isDigit, number, field, listed}
+use Rattle.text.specs.Lines.{correctionIn, nodeIn, rowIn, ffLine, answerLine, allLines}
 use Rattle.protocol.specs.declared.Session.{Session}
 use Rattle.protocol.specs.declared.Refines.{Refines}
 use Rattle.protocol.specs.declared.Refines.the-variants.{In, Never}
@@ -82,15 +82,17 @@ listsBelow end fields = eqb (length fields % 4) 0 && allBelow end (listed fields
 
 -- The other reasons for `ff`: fields of another length, "a number listed in `04` not below t or in `05` not below n, a row past 512 nodes
 -- or 1,024 triangles, 01 to 03 after an accepted 03, or 04 to 06 before one". `03`, `06` and `07` have no fields; `09` is "laid out .. like `04`".
+-- W5: "Frame 01 grows by eight digits; `08` node dx dy (4 digits each) .. `ff` only if malformed or before an accepted 03": its node may be any.
 unfoldable pub admits : Session → ℕ → List ℕ → Bool
 admits s kind fields =
-    cases (eqb kind 1) (not (s .accepted) && eqb (length fields) 16 && ltb (s .n) 512)
+    cases (eqb kind 1) (not (s .accepted) && eqb (length fields) 24 && ltb (s .n) 512)
     (cases (eqb kind 2) (not (s .accepted) && eqb (length fields) 12 && ltb (s .t) 1024)
     (cases (eqb kind 3) (not (s .accepted) && eqb (length fields) 0)
     (cases (isRefining kind) (s .accepted && listsBelow (s .t) fields)
     (cases (eqb kind 5) (s .accepted && listsBelow (s .n) fields)
     (cases (eqb kind 6) (s .accepted && eqb (length fields) 0)
-    (eqb kind 7 && eqb (length fields) 0))))))
+    (cases (eqb kind 8) (s .accepted && eqb (length fields) 12)
+    (eqb kind 7 && eqb (length fields) 0)))))))
 
 -- "The kind byte is read first and the rest of the line is handed on for its fields."
 abbrev pub kindOf : List ℕ → ℕ
@@ -104,10 +106,10 @@ takes s line = wellFormed line && admits s (kindOf line) (fieldsOf line)
 
 -- ---- 01 and 02
 
--- "`01` x y (8 digits each) adds a node"
+-- "`01` x y (8 digits each) adds a node", W5's dx and dy with it
 unfoldable pub addNode : Held → List ℕ → Held
 addNode h fields =
-    held (setPlace (h .nodes) (h .session .n) (placeIn fields)) (h .rows) (h .scratch)
+    held (setNode (h .nodes) (h .session .n) (nodeIn fields)) (h .rows) (h .scratch)
     (session (h .session .n + 1) (h .session .t) (h .session .n0) (h .session .accepted))
 
 -- "`02` p q r (4 digits each) a triangle"
@@ -116,7 +118,7 @@ addRow h fields =
     held (h .nodes) (setRow (h .rows) (h .session .t) (rowIn fields)) (h .scratch)
     (session (h .session .n) (h .session .t + 1) (h .session .n0) (h .session .accepted))
 
--- ---- the calls: 03 to 06, and 09
+-- ---- the calls: 03 to 06, 08 and 09
 
 -- "A refused 03 drops all rows and shows zero counts." The culprit is shown all the same: the node or row, counted as they were added
 abbrev pub orDropped : Outcome → Outcome
@@ -128,13 +130,15 @@ orDropped o =
 unfoldable pub marksOf : ℕ → List ℕ → List ℕ
 marksOf k l = items (λ i. cases (any (eqb i) l) 1 0) 0 k
 
--- "`03` ends the base and checks it; `04` refines the triangles listed; `05` coarsens the nodes listed; `06` restores"; `09` refines like `04`
+-- "`03` ends the base and checks it; `04` refines the triangles listed; `05` coarsens the nodes listed; `06` restores"; `09` refines like `04`;
+-- W5: "`08` node dx dy (4 digits each) sets and answers as `04` does"
 unfoldable pub called : Held → ℕ → List ℕ → Outcome
 called h kind fields =
     cases (eqb kind 3) (orDropped (checkOut (givenBy h)))
     (ifRefines (refinesIn kind) (λ k. refineOut (wayOf k) (givenBy h) (h .session .n0) (marksOf (h .session .t) (listed fields)))
     (cases (eqb kind 5) (coarsenOut (givenBy h) (h .session .n0) (marksOf (h .session .n) (listed fields)))
-    (restoreOut (givenBy h) (h .session .n0))))
+    (cases (eqb kind 8) (setOut (givenBy h) (h .session .n0) (field 4 fields 0) (correctionIn fields 1))
+    (restoreOut (givenBy h) (h .session .n0)))))
 
 -- the counts are the answer's; a 03 that says 0 is accepted, and its nodes are the base's
 unfoldable pub sessionAfter : Session → ℕ → Answer → Session

@@ -32,9 +32,9 @@ abbrev pub stepOf : Held → Line → Step
 stepOf h (whole l) = lineStep h l
 stepOf h (endless l) = ff h
 
--- "The program holds each table whole, 1,024 rows of triangles included."
+-- "The program holds each table whole, 1,024 rows of triangles included.", and 512 nodes; W5: "a node row has four numbers"
 abbrev pub start : Held
-start = held (replicate 1024 (pos 0)) (replicate 3072 0) (replicate 6144 0) (session 0 0 0 false)
+start = held (replicate 2048 (pos 0)) (replicate 3072 0) (replicate 6144 0) (session 0 0 0 false)
 
 abbrev pub answers : Held → List Line → List ℕ
 answers h [] = []

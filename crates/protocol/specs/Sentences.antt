@@ -1,6 +1,6 @@
 -- Sentences of documents 01 and 02 about a line, as theorems. Assumes nothing.
-use mathlib.Core.Path.{_≡_, refl, ap}
-use mathlib.Core.Bool.{Bool, true, false}
+use mathlib.Core.Path.{_≡_, refl, ap, ap₂, _∙_}
+use mathlib.Core.Bool.{Bool, true, false, _&&_}
 use mathlib.Core.List.{List, []}
 use Prim.Native.Nat.{ℕ, _+_, _*_, _≤_, _<_}
 use borrow.Author.Tests.{eqb-true, eq-eqb, ne-eqb, lt-ltb}
@@ -8,30 +8,33 @@ use lib.Dec.{eqb}
 use lib.ListN.{length, drop}
 use Rattle.lists.specs.Lists.{any, once, cases}
 use Rattle.lists.specs.AnyLaw.{any-once}
+use Rattle.meaning.specs.declared.Correction.{Correction}
+use Rattle.meaning.specs.Lawful.{InBounds}
 use Rattle.meaning.specs.Split.{newest, allThree}
-use Rattle.meaning.specs.Tables.{Outcome, answer, placeAt, rowAt}
-use Rattle.meaning.specs.Calls.{checkOut, refineOut}
-use Rattle.tables.specs.PutLaw.{place-set-same, row-set-same}
-use Rattle.text.specs.Digits.{listed, hex}
-use Rattle.text.specs.Lines.{placeIn, rowIn, ended, answerLine}
+use Rattle.meaning.specs.Tables.{Outcome, answer, nodeAt, rowAt}
+use Rattle.meaning.specs.Calls.{checkOut, refineOut, setOut}
+use Rattle.tables.specs.PutLaw.{node-set-same, row-set-same}
+use Rattle.text.specs.Digits.{field, listed, hex}
+use Rattle.text.specs.Lines.{correctionIn, nodeIn, rowIn, ended, answerLine}
+use Rattle.text.specs.LinesAre.{settingText, setting-node, setting-correction}
 use Rattle.protocol.specs.declared.Session.{Session}
 use Rattle.protocol.specs.Frames.{Held, step, givenBy, refinesIn, wellFormed, admits, takes, kindOf, fieldsOf, addNode, addRow, orDropped, marksOf, called, answering, frame, lineStep}
 
--- "Values in `01` and `02` are judged only by `03`." With room and no accepted base, a 01 of 16 digits is taken whatever they say: it
+-- "Values in `01` and `02` are judged only by `03`." With room and no accepted base, a 01 of 24 digits is taken whatever they say: it
 -- answers nothing and stores them; and so is a 02 of 12. (What 03 then says: the rows of `talks` on values, in Worked.)
 module _ (h : Held) (line : List ℕ) (formed : wellFormed line ≡ true) (before : h .session .accepted ≡ false) where
-  pub node-taken : kindOf line ≡ 1 → length (fieldsOf line) ≡ 16 → h .session .n < 512 → lineStep h line ≡ step (addNode h (fieldsOf line)) []
+  pub node-taken : kindOf line ≡ 1 → length (fieldsOf line) ≡ 24 → h .session .n < 512 → lineStep h line ≡ step (addNode h (fieldsOf line)) []
   unfolding lineStep takes admits frame
-  node-taken k l r = rw (formed, k, before, eq-eqb (length (fieldsOf line)) 16 l, lt-ltb (h .session .n) 512 r)
+  node-taken k l r = rw (formed, k, before, eq-eqb (length (fieldsOf line)) 24 l, lt-ltb (h .session .n) 512 r)
 
   pub row-taken : kindOf line ≡ 2 → length (fieldsOf line) ≡ 12 → h .session .t < 1024 → lineStep h line ≡ step (addRow h (fieldsOf line)) []
   unfolding lineStep takes admits frame
   row-taken k l r = rw (formed, k, before, eq-eqb (length (fieldsOf line)) 12 l, lt-ltb (h .session .t) 1024 r)
 
 module _ (h : Held) (fields : List ℕ) where
-  pub node-stored : 2 * h .session .n + 2 ≤ length (h .nodes) → placeAt (addNode h fields .nodes) (h .session .n) ≡ placeIn fields
+  pub node-stored : 4 * h .session .n + 4 ≤ length (h .nodes) → nodeAt (addNode h fields .nodes) (h .session .n) ≡ nodeIn fields
   unfolding addNode
-  node-stored r = place-set-same (h .nodes) (h .session .n) (placeIn fields) r
+  node-stored r = node-set-same (h .nodes) (h .session .n) (nodeIn fields) r
 
   pub row-stored : 3 * h .session .t + 3 ≤ length (h .rows) → rowAt (addRow h fields .rows) (h .session .t) ≡ rowIn fields
   unfolding addRow
@@ -58,6 +61,33 @@ module _ (h : Held) (fields : List ℕ) where
   pub nine-answered : frame h 9 fields ≡ answering h 9 (refineOut allThree (givenBy h) (h .session .n0) (marksOf (h .session .t) (listed fields)))
   unfolding frame called refinesIn
   nine-answered = refl
+
+-- W5: "`08` node dx dy (4 digits each)": 12 digits, whatever they say; "`ff` only if malformed or before an accepted 03"
+pub eight-laid-out : (s : Session) (fields : List ℕ) → admits s 8 fields ≡ (s .accepted && eqb (length fields) 12)
+unfolding admits refinesIn
+eight-laid-out s fields = refl
+
+module _ (h : Held) where
+  -- ".. sets and answers as `04` does": the correction of the node given, with the base's node count
+  pub eight-answered : (fields : List ℕ) → frame h 8 fields ≡ answering h 8 (setOut (givenBy h) (h .session .n0) (field 4 fields 0) (correctionIn fields 1))
+  unfolding frame called refinesIn
+  eight-answered fields = refl
+
+  -- what it sets: any node that 4 digits can say, to any correction in range
+  pub eight-sets : (z : ℕ) (c : Correction) → z < 65536 → InBounds c → frame h 8 (settingText z c) ≡ answering h 8 (setOut (givenBy h) (h .session .n0) z c)
+  eight-sets z c k b =
+      eight-answered (settingText z c) ∙
+      ap₂ (λ (y : ℕ) (d : Correction). answering h 8 (setOut (givenBy h) (h .session .n0) y d)) (setting-node z c k) (setting-correction z c b)
+
+  module _ (line : List ℕ) (formed : wellFormed line ≡ true) (after : h .session .accepted ≡ true) (kind : kindOf line ≡ 8) (long : length (fieldsOf line) ≡ 12) where
+    eight-takes : takes (h .session) line ≡ true
+    unfolding takes
+    eight-takes = rw (formed, kind, eight-laid-out (h .session) (fieldsOf line), after, eq-eqb (length (fieldsOf line)) 12 long)
+
+    -- so that a number not below n too is answered by the call, and not by `ff`
+    pub eight-taken : lineStep h line ≡ answering h 8 (setOut (givenBy h) (h .session .n0) (field 4 (fieldsOf line) 0) (correctionIn (fieldsOf line) 1))
+    unfolding lineStep
+    eight-taken = rw (eight-takes, kind) (eight-answered (fieldsOf line))
 
 -- what two cases have in common
 alike : {A B : Type 0} (f : A → B) (b : Bool) (x y : A) → f y ≡ f x → f (cases b x y) ≡ f x

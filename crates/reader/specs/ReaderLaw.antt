@@ -13,7 +13,7 @@ use lib.Seq.{drop-cons, length-take-le}
 use Rattle.lists.specs.Lists.{cases}
 use Rattle.lists.specs.ListsLaw.{clash, and-left, and-right}
 use Rattle.lists.specs.Search.{items, itemsFrom}
-use Rattle.meaning.specs.Tables.{placeAt, rowAt, flatNodes, flatRows, filled}
+use Rattle.meaning.specs.Tables.{nodeAt, rowAt, flatNodes, flatRows, filled}
 use Rattle.text.specs.Lines.{ffLine}
 use Rattle.text.specs.Writing.{Wrote, wrote, writes, then}
 use Rattle.protocol.specs.declared.Session.{Session}
@@ -204,7 +204,7 @@ module _ (line : List ℕ) (ns : List ℤ) (rs sc out : List ℕ) (y : Bool) (q 
   begin-misfit k n e = nothing-took k 1 (carried 0 false (session 0 0 0 false)) e line ns rs sc out ∙ rw (← q, not-true y n)
 
   module _ (k : ℕ) (o line₁ : List ℕ) (ns₁ : List ℤ) (rs₁ sc₁ : List ℕ) (n : not y ≡ false) (l : unfinished 0 line₁ ≡ wiped (unfinished 255 line))
-      (a : ns₁ ≡ filled (pos 0) (length ns) (flatNodes (items (placeAt ns) 0 0))) (b : rs₁ ≡ filled 0 (length rs) (flatRows (items (rowAt rs) 0 0))) (c : sc₁ ≡ replicate (length sc) 0)
+      (a : ns₁ ≡ filled (pos 0) (length ns) (flatNodes (items (nodeAt ns) 0 0))) (b : rs₁ ≡ filled 0 (length rs) (flatRows (items (rowAt rs) 0 0))) (c : sc₁ ≡ replicate (length sc) 0)
       (t : wrote k o ≡ writes (wrote 0 out) opening) where
     pub begin-begins : tells 0 0 (wrote k o) (reader (unfinished 0 line₁) false (held ns₁ rs₁ sc₁ (session 0 0 0 false))) ≡ beginOut line ns rs sc out
     unfolding beginOut wiped items itemsFrom

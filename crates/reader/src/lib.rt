@@ -211,7 +211,7 @@ pub fn begin(
         return unchanged(1, carried);
     }
     wipe(line, 255);
-    tables::clear_places_from(nodes, 0);
+    tables::clear_nodes_from(nodes, 0);
     tables::clear_rows_from(rows, 0);
     tables::clear(scratch);
     let written = put_first(out);

@@ -1,11 +1,14 @@
-// The calls for programs in other languages. A slice passes as a pointer and a length; counts pass by reference and are the new ones after.
-// Every call leaves behind `culprit` the node or row that is to blame for a refusal as 3 to 7, and 0 with any other number.
+// The calls for programs in other languages. A slice passes as a pointer and a length; counts that a call may change pass by reference and
+// are the new ones after. Every call leaves behind `culprit` the node or row that is to blame for a refusal as 3 to 7, and 0 with any other
+// number.
 mod reading;
 
 ghost use mathlib.Core.Path.{_≡_};
 ghost use Rattle.meaning.specs.Split.{newest, allThree};
 ghost use Rattle.meaning.specs.Tables.{given, outcome, answer};
-ghost use Rattle.meaning.specs.Calls.{checkOut, refineOut, coarsenOut, restoreOut};
+ghost use Rattle.meaning.specs.Calls.{checkOut, refineOut, coarsenOut, restoreOut, setOut};
+ghost use Rattle.meaning.specs.Mesh.{correction};
+use meaning::Correction;
 
 // The base check's number.
 #[no_mangle]
@@ -107,4 +110,25 @@ pub extern "C" fn spoutbeetle_restore(
     *passes = restored.passes;
     *culprit = restored.culprit;
     restored.number
+}
+
+// Set_correction's number: the node given is to carry dx and dy.
+#[no_mangle]
+pub extern "C" fn spoutbeetle_set_correction(
+    nodes: &mut [i32],
+    rows: &mut [u32],
+    scratch: &mut [u32],
+    n0: usize,
+    n: usize,
+    t: usize,
+    node: usize,
+    dx: i32,
+    dy: i32,
+    culprit: &mut usize,
+) -> u32
+    ensures { λ r. ⌜ outcome (answer r n t 0 (now (culprit .exit))) (now (nodes .exit)) (now (rows .exit)) (now (scratch .exit)) ≡ setOut (given (now (nodes .entry)) (now (rows .entry)) (now (scratch .entry)) n t) n0 node (correction dx dy) ⌝ }
+{
+    let set = mesh::set_correction(nodes, rows, scratch, n0, n, t, node, Correction { dx, dy });
+    *culprit = set.culprit;
+    set.number
 }

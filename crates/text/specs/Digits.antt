@@ -43,12 +43,13 @@ field w text i = number w text (w * i)
 unfoldable pub listed : List ℕ → List ℕ
 listed text = items (field 4 text) 0 (length text / 4)
 
--- "coordinates two's complement", 32 bits
-unfoldable pub signed : ℕ → ℤ
-signed v = cases (ltb v 2147483648) (pos v) (negsuc (4294967295 - v))
+-- "coordinates two's complement": the number that w digits of worth v stand for
+unfoldable pub signed : ℕ → ℕ → ℤ
+signed w v = cases (ltb v (16 ^ w / 2)) (pos v) (negsuc (16 ^ w - 1 - v))
 
 -- ---- writing
 
+-- the worth of 8 digits that stand for a number; the last 4 of them stand for it too, if it is from −32,768 to 32,767 (`node-read` in LinesAre)
 unfoldable pub unsigned : ℤ → ℕ
 unsigned (pos n) = n
 unsigned (negsuc n) = 4294967295 - n

@@ -14,9 +14,10 @@ use mir.Facts.{toZ-pos, toZ-neg}
 use lib.ListN.{length, getD}
 use Rattle.lists.specs.Lists.{cases}
 use Rattle.lists.specs.ListsLaw.{clash}
-use Rattle.meaning.specs.Mesh.{place, tri}
+use Rattle.meaning.specs.declared.Correction.{Correction}
+use Rattle.meaning.specs.Mesh.{place, correction, node, tri}
 use Rattle.text.specs.Digits.{worth, number, signed, unsigned}
-use Rattle.text.specs.Lines.{placeIn, rowIn}
+use Rattle.text.specs.Lines.{correctionIn, nodeIn, rowIn}
 
 -- ---- one digit
 
@@ -70,19 +71,29 @@ module _ (text : List ℕ) (k x y : ℕ) where
 
 pub ruleset numbers = (two-is, four-is, eight-is)
 
--- ---- two's complement: the bits of a coordinate, and the test of its sign
+-- ---- two's complement: 8 digits, 4 digits, and the test of a sign
+
+below-zero : (n : ℕ) → n < 2147483648 → toZ w32 (4294967295 - n) ≡ negsuc n
+below-zero n h = let e : 4294967295 - n ≡ 4294967296 - suc n = omega arith in rw e (toZ-neg w32 n h)
 
 module _ (v : ℕ) where
-  pub signed-low : v < 2147483648 → toZ w32 v ≡ signed v
+  pub signed-low : v < 2147483648 → toZ w32 v ≡ signed 8 v
   unfolding signed
   signed-low h = rw (lt-ltb v 2147483648 h)
 
-  pub signed-high : 2147483648 ≤ v → Fits w32 v → toZ w32 (4294967295 - (4294967295 - v)) ≡ signed v
+  pub signed-high : 2147483648 ≤ v → Fits w32 v → toZ w32 (4294967295 - (4294967295 - v)) ≡ signed 8 v
   unfolding signed
   signed-high h f =
       let g : v < 4294967296 = f .fits in
-      let e : 4294967295 - (4294967295 - v) ≡ 4294967296 - suc (4294967295 - v) = omega arith in
-      rw (le-ltb v 2147483648 h, e) (toZ-neg w32 (4294967295 - v) (omega arith))
+      rw (le-ltb v 2147483648 h) (below-zero (4294967295 - v) (omega arith))
+
+  pub signed4-low : v < 32768 → toZ w32 v ≡ signed 4 v
+  unfolding signed
+  signed4-low h = rw (lt-ltb v 32768 h) (toZ-pos w32 (omega arith))
+
+  pub signed4-high : 32768 ≤ v → v < 65536 → toZ w32 (4294967295 - (65535 - v)) ≡ signed 4 v
+  unfolding signed
+  signed4-high h f = rw (le-ltb v 32768 h) (below-zero (65535 - v) (omega arith))
 
 -- z is not below 0; it is below 0
 pub unsigned-fits : (z : ℤ) → SFits w32 z → leZ (pos 0) (toZ w32 (ofZ w32 z)) ≡ true → T (nonNeg (toZ w32 (ofZ w32 z))) × Fits w32 (natAbs (toZ w32 (ofZ w32 z)))
@@ -112,9 +123,15 @@ unsigned-high (negsuc n) f t = let h : n < 2147483648 = f .sfits in rw (bits-tur
 -- ---- the fields of frames 01 and 02
 
 module _ (fields : List ℕ) where
-  pub place-read : (x y : ℤ) (v w : ℕ) → x ≡ signed v → v ≡ number 8 fields 0 → y ≡ signed w → w ≡ number 8 fields 8 → place x y ≡ placeIn fields
-  unfolding placeIn
-  place-read x y v w a b c d = rw (a, b, c, d)
+  pub correction-read : (i : ℕ) (x y : ℤ) (v w : ℕ) → x ≡ signed 4 v → v ≡ number 4 fields (4 * i) → y ≡ signed 4 w → w ≡ number 4 fields (4 * (i + 1)) →
+      correction x y ≡ correctionIn fields i
+  unfolding correctionIn
+  correction-read i x y v w a b c d = rw (a, b, c, d)
+
+  pub node-fields : (x y : ℤ) (c : Correction) (v w : ℕ) → x ≡ signed 8 v → v ≡ number 8 fields 0 → y ≡ signed 8 w → w ≡ number 8 fields 8 → c ≡ correctionIn fields 4 →
+      node (place x y) c ≡ nodeIn fields
+  unfolding nodeIn
+  node-fields x y e v w a b c d f = rw (a, b, c, d, f)
 
   pub row-read : (p q r : ℕ) → p ≡ number 4 fields 0 → q ≡ number 4 fields 4 → r ≡ number 4 fields 8 → tri p q r ≡ rowIn fields
   unfolding rowIn

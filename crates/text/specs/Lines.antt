@@ -1,21 +1,26 @@
--- Document 01, 'The line program', and W2: the lines that the program reads and writes. Assumes nothing.
+-- Document 01, 'The line program', W2 and W5: the lines that the program reads and writes. Assumes nothing.
 use mathlib.Core.List.{List, [], _∷_, _++_}
-use Prim.Native.Nat.{ℕ}
+use Prim.Native.Nat.{ℕ, _+_}
 use lib.IntN.{ℤ}
 use Rattle.lists.specs.Lists.{joined}
 use Rattle.lists.specs.Search.{items}
 use Rattle.meaning.specs.declared.Answer.{Answer}
-use Rattle.meaning.specs.declared.Place.{Place}
+use Rattle.meaning.specs.declared.Correction.{Correction}
+use Rattle.meaning.specs.declared.Node.{Node}
 use Rattle.meaning.specs.declared.Tri.{Tri}
-use Rattle.meaning.specs.Mesh.{place, tri}
-use Rattle.meaning.specs.Tables.{placeAt, rowAt}
+use Rattle.meaning.specs.Mesh.{place, correction, node, tri}
+use Rattle.meaning.specs.Tables.{nodeAt, rowAt}
 use Rattle.text.specs.Digits.{bytes, field, signed, unsigned, hex}
 
 -- ---- read
 
--- "`01` x y (8 digits each)"
-unfoldable pub placeIn : List ℕ → Place
-placeIn fields = place (signed (field 8 fields 0)) (signed (field 8 fields 1))
+-- W5: "dx dy (4 digits each)", numbers i and i + 1 of 4 digits
+unfoldable pub correctionIn : List ℕ → ℕ → Correction
+correctionIn fields i = correction (signed 4 (field 4 fields i)) (signed 4 (field 4 fields (i + 1)))
+
+-- "`01` x y (8 digits each)"; W5: "Frame 01 grows by eight digits": dx and dy. In front of these are 16 digits, 4 numbers of 4
+unfoldable pub nodeIn : List ℕ → Node
+nodeIn fields = node (place (signed 8 (field 8 fields 0)) (signed 8 (field 8 fields 1))) (correctionIn fields 4)
 
 -- "`02` p q r (4 digits each)"
 unfoldable pub rowIn : List ℕ → Tri
@@ -37,12 +42,16 @@ unfoldable pub answerLine : ℕ → Answer → List ℕ
 answerLine kind a = ended (hex 2 kind ++ hex 2 (a .number) ++ hex 4 (a .n) ++ hex 4 (a .t) ++ hex 4 (a .passes) ++ hex 4 (a .culprit))
 
 -- a node "as `01` frames", a triangle "as `02` frames"
-unfoldable pub nodeLine : Place → List ℕ
-nodeLine a = ended (hex 2 1 ++ hex 8 (unsigned (a .x)) ++ hex 8 (unsigned (a .y)))
+unfoldable pub nodeLine : Node → List ℕ
+nodeLine a =
+    ended
+    (hex 2 1 ++
+    hex 8 (unsigned (a .place .x)) ++ hex 8 (unsigned (a .place .y)) ++
+    hex 4 (unsigned (a .correction .dx)) ++ hex 4 (unsigned (a .correction .dy)))
 
 unfoldable pub rowLine : Tri → List ℕ
 rowLine w = ended (hex 2 2 ++ hex 4 (w .p) ++ hex 4 (w .q) ++ hex 4 (w .r))
 
 -- "`07` writes all nodes as `01` frames, then all triangles as `02` frames"
 unfoldable pub allLines : List ℤ → List ℕ → ℕ → ℕ → List ℕ
-allLines nodes rows n t = joined nodeLine (items (placeAt nodes) 0 n) ++ joined rowLine (items (rowAt rows) 0 t)
+allLines nodes rows n t = joined nodeLine (items (nodeAt nodes) 0 n) ++ joined rowLine (items (rowAt rows) 0 t)

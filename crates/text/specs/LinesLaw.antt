@@ -9,21 +9,32 @@ use mir.Facts.{toZ-ofZ}
 use Rattle.lists.specs.Lists.{joined}
 use Rattle.lists.specs.Search.{items}
 use Rattle.meaning.specs.declared.Answer.{Answer}
-use Rattle.meaning.specs.declared.Place.{Place}
+use Rattle.meaning.specs.declared.Node.{Node}
 use Rattle.meaning.specs.declared.Tri.{Tri}
-use Rattle.meaning.specs.Tables.{placeAt, rowAt}
+use Rattle.meaning.specs.Tables.{nodeAt, rowAt}
 use Rattle.text.specs.Digits.{unsigned, hex}
 use Rattle.text.specs.Lines.{answerLine, nodeLine, rowLine, allLines}
 use Rattle.text.specs.Writing.{Wrote, wrote, writes, writes-append, then}
 
+-- two numbers with signs, of as many digits each: a place, a correction
+pub signed-put : (w x y : Wrote) (k u v : ℕ) (a b : ℤ) → SFits w32 a → SFits w32 b → u ≡ unsigned (toZ w32 (ofZ w32 a)) → v ≡ unsigned (toZ w32 (ofZ w32 b)) →
+    x ≡ writes w (hex k u) → y ≡ writes x (hex k v) → y ≡ writes w (hex k (unsigned a) ++ hex k (unsigned b))
+signed-put w x y k u v a b fa fb da db e f =
+    let g : u ≡ unsigned a = rw (toZ-ofZ fa) at da in
+    let h : v ≡ unsigned b = rw (toZ-ofZ fb) at db in
+    rw (← g, ← h) (then w x y (hex k u) (hex k v) e f)
+
 module _ (w w1 w2 w3 w4 : Wrote) where
-  pub node-put : (a : Place) (x y : ℕ) → SFits w32 (a .x) → SFits w32 (a .y) → x ≡ unsigned (toZ w32 (ofZ w32 (a .x))) → y ≡ unsigned (toZ w32 (ofZ w32 (a .y))) →
-      w1 ≡ writes w (hex 2 1) → w2 ≡ writes w1 (hex 8 x) → w3 ≡ writes w2 (hex 8 y) → w4 ≡ writes w3 (10 ∷ []) → w4 ≡ writes w (nodeLine a)
+  pub node-put : (a : Node) → w1 ≡ writes w (hex 2 1) → w2 ≡ writes w1 (hex 8 (unsigned (a .place .x)) ++ hex 8 (unsigned (a .place .y))) →
+      w3 ≡ writes w2 (hex 4 (unsigned (a .correction .dx)) ++ hex 4 (unsigned (a .correction .dy))) → w4 ≡ writes w3 (10 ∷ []) → w4 ≡ writes w (nodeLine a)
   unfolding nodeLine
-  node-put a x y fx fy dx dy e1 e2 e3 e4 =
-      let f : x ≡ unsigned (a .x) = rw (toZ-ofZ fx) at dx in
-      let g : y ≡ unsigned (a .y) = rw (toZ-ofZ fy) at dy in
-      rw (← f, ← g, writes-append w (hex 2 1 ++ hex 8 x ++ hex 8 y) (10 ∷ []), writes-append w (hex 2 1 ++ hex 8 x) (hex 8 y), writes-append w (hex 2 1) (hex 8 x), ← e1, ← e2, ← e3) e4
+  node-put a e1 e2 e3 e4 =
+      let k = hex 2 1 in
+      let x = hex 8 (unsigned (a .place .x)) in
+      let y = hex 8 (unsigned (a .place .y)) in
+      let dx = hex 4 (unsigned (a .correction .dx)) in
+      let dy = hex 4 (unsigned (a .correction .dy)) in
+      rw (writes-append w (k ++ x ++ y ++ dx ++ dy) (10 ∷ []), writes-append w (k ++ x ++ y ++ dx) dy, writes-append w (k ++ x ++ y) dx, writes-append w (k ++ x) y, writes-append w k x, ← e1, ← writes-append w1 x y, ← e2, ← writes-append w2 dx dy, ← e3) e4
 
   module _ (w5 : Wrote) where
     pub row-put : (t : Tri) → w1 ≡ writes w (hex 2 2) → w2 ≡ writes w1 (hex 4 (t .p)) → w3 ≡ writes w2 (hex 4 (t .q)) → w4 ≡ writes w3 (hex 4 (t .r)) →
@@ -47,7 +58,7 @@ module _ (w w1 w2 w3 w4 : Wrote) where
         let c = hex 4 (a .culprit) in
         rw (writes-append w (k ++ j ++ n ++ t ++ p ++ c) (10 ∷ []), writes-append w (k ++ j ++ n ++ t ++ p) c, writes-append w (k ++ j ++ n ++ t) p, writes-append w (k ++ j ++ n) t, writes-append w (k ++ j) n, writes-append w k j, ← e1, ← e2, ← e3, ← e4, ← writes-append w4 p c, ← e5) e6
 
-pub all-put : (w x y : Wrote) (ns : List ℤ) (rs : List ℕ) (n t : ℕ) → x ≡ writes w (joined nodeLine (items (placeAt ns) 0 n)) →
+pub all-put : (w x y : Wrote) (ns : List ℤ) (rs : List ℕ) (n t : ℕ) → x ≡ writes w (joined nodeLine (items (nodeAt ns) 0 n)) →
     y ≡ writes x (joined rowLine (items (rowAt rs) 0 t)) → y ≡ writes w (allLines ns rs n t)
 unfolding allLines
-all-put w x y ns rs n t a b = then w x y (joined nodeLine (items (placeAt ns) 0 n)) (joined rowLine (items (rowAt rs) 0 t)) a b
+all-put w x y ns rs n t a b = then w x y (joined nodeLine (items (nodeAt ns) 0 n)) (joined rowLine (items (rowAt rs) 0 t)) a b

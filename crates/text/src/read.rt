@@ -1,10 +1,12 @@
 // Digits and numbers, read from a line.
 ghost use mathlib.Core.Path.{_≡_};
-ghost use Prim.Native.Nat.{ℕ, _+_, _≤_, _<_};
+ghost use Prim.Native.Nat.{ℕ, _+_, _*_, _≤_, _<_};
 ghost use lib.ListN.{length};
 ghost use Rattle.lists.specs.Lists.{all};
 ghost use Rattle.text.specs.Digits as d;
-ghost use Rattle.text.specs.Lines.{placeIn, rowIn};
+ghost use Rattle.text.specs.Lines.{correctionIn, nodeIn, rowIn};
+use meaning::Correction;
+use meaning::Node;
 use meaning::Place;
 use meaning::Tri;
 
@@ -76,9 +78,9 @@ fn eight(text: &[u8], k: usize) -> u32
     65_536 * four(text, k) + four(text, k + 4)
 }
 
-// Two's complement: the coordinate with these 32 bits.
-fn signed(v: u32) -> i32
-    ensures { λ r. ⌜ r ≡ d.signed v ⌝ }
+// Two's complement: the number that eight digits stand for.
+fn signed8(v: u32) -> i32
+    ensures { λ r. ⌜ r ≡ d.signed 8 v ⌝ }
 {
     if v < 2_147_483_648 {
         return v as i32;
@@ -86,15 +88,39 @@ fn signed(v: u32) -> i32
     !(!v as i32)
 }
 
-// The fields of frame 01.
-pub fn place_in(fields: &[u8]) -> Place
-    requires { ⌜ length (now fields) ≡ 16 ⌝ }
-    ensures { λ a. ⌜ a ≡ placeIn (now (fields .entry)) ⌝ }
+// The number that four digits stand for.
+fn signed4(v: u32) -> i32
+    requires { ⌜ v < 65_536 ⌝ }
+    ensures { λ r. ⌜ r ≡ d.signed 4 v ⌝ }
 {
-    Place {
-        x: signed(eight(fields, 0)),
-        y: signed(eight(fields, 8)),
+    if v < 32_768 {
+        return v as i32;
     }
+    !((65_535 - v) as i32)
+}
+
+// A correction: numbers i and i + 1 of four digits.
+pub fn correction_in(fields: &[u8], i: usize) -> Correction
+    requires { ⌜ 4 * i + 8 ≤ length (now fields) ⌝ }
+    ensures { λ c. ⌜ c ≡ correctionIn (now (fields .entry)) i ⌝ }
+{
+    Correction {
+        dx: signed4(four(fields, 4 * i)),
+        dy: signed4(four(fields, 4 * (i + 1))),
+    }
+}
+
+// The fields of frame 01.
+pub fn node_in(fields: &[u8]) -> Node
+    requires { ⌜ length (now fields) ≡ 24 ⌝ }
+    ensures { λ a. ⌜ a ≡ nodeIn (now (fields .entry)) ⌝ }
+{
+    let place = Place {
+        x: signed8(eight(fields, 0)),
+        y: signed8(eight(fields, 8)),
+    };
+    let correction = correction_in(fields, 4);
+    Node { place, correction }
 }
 
 // The fields of frame 02.

@@ -5,11 +5,13 @@ ghost use Prim.Native.Nat.{ℕ, _+_, _*_, _%_, _≤_, _<_};
 ghost use lib.ListN.{length};
 ghost use Rattle.lists.specs.Lists.{joined};
 ghost use Rattle.lists.specs.Search.{items};
-ghost use Rattle.meaning.specs.Tables.{placeAt, rowAt};
+ghost use Rattle.meaning.specs.Tables.{nodeAt, rowAt};
 ghost use Rattle.text.specs.Digits as d;
 ghost use Rattle.text.specs.Lines.{ffLine, answerLine, nodeLine, rowLine, allLines};
 ghost use Rattle.text.specs.Writing.{wrote, writes};
 use meaning::Answer;
+use meaning::Correction;
+use meaning::Node;
 use meaning::Place;
 use meaning::Tri;
 
@@ -62,7 +64,7 @@ fn hex8(out: &mut [u8], at: usize, v: usize) -> usize
     hex4(out, k, v)
 }
 
-// The 32 bits of a coordinate.
+// Two's complement: the worth of the eight digits that stand for z.
 fn unsigned(z: i32) -> u32
     ensures { λ r. ⌜ r ≡ d.unsigned z ⌝ }
 {
@@ -107,7 +109,7 @@ fn put_last_two(out: &mut [u8], at: usize, a: Answer) -> usize
     hex4(out, k, a.culprit)
 }
 
-// The answer of frames 03 to 06 and 09.
+// The answer of frames 03 to 06, 08 and 09.
 pub fn put_answer(out: &mut [u8], kind: u32, a: Answer) -> usize
     requires { ⌜ 21 ≤ length (now out) ⌝ }
     ensures { λ r. ⌜ wrote r (now (out .exit)) ≡ writes (wrote 0 (now (out .entry))) (answerLine kind a) ⌝ }
@@ -120,15 +122,35 @@ pub fn put_answer(out: &mut [u8], kind: u32, a: Answer) -> usize
     put(out, k, b'\n')
 }
 
+fn put_place(out: &mut [u8], at: usize, a: Place) -> usize
+    requires { ⌜ at + 16 ≤ length (now out) ⌝ }
+    ensures next { λ r. ⌜ r ≡ at + 16 ⌝ }
+    ensures text { λ r. ⌜ wrote r (now (out .exit)) ≡ writes (wrote at (now (out .entry))) (d.hex 8 (d.unsigned (a .x)) ++ d.hex 8 (d.unsigned (a .y))) ⌝ }
+{
+    let k = hex8(out, at, unsigned(a.x) as usize);
+    hex8(out, k, unsigned(a.y) as usize)
+}
+
+fn put_correction(out: &mut [u8], at: usize, c: Correction) -> usize
+    requires { ⌜ at + 8 ≤ length (now out) ⌝ }
+    ensures next { λ r. ⌜ r ≡ at + 8 ⌝ }
+    ensures text { λ r. ⌜ wrote r (now (out .exit)) ≡ writes (wrote at (now (out .entry))) (d.hex 4 (d.unsigned (c .dx)) ++ d.hex 4 (d.unsigned (c .dy))) ⌝ }
+{
+    let k = hex4(out, at, unsigned(c.dx) as usize);
+    hex4(out, k, unsigned(c.dy) as usize)
+}
+
 // A node as frame 01.
-fn put_node(out: &mut [u8], at: usize, a: Place) -> usize
-    requires { ⌜ at + 19 ≤ length (now out) ⌝ }
-    ensures next { λ r. ⌜ r ≡ at + 19 ⌝ }
+fn put_node(out: &mut [u8], at: usize, a: Node) -> usize
+    requires { ⌜ at + 27 ≤ length (now out) ⌝ }
+    ensures next { λ r. ⌜ r ≡ at + 27 ⌝ }
     ensures text { λ r. ⌜ wrote r (now (out .exit)) ≡ writes (wrote at (now (out .entry))) (nodeLine a) ⌝ }
 {
+    let place = a.place;
+    let correction = a.correction;
     let k = hex2(out, at, 1);
-    let k = hex8(out, k, unsigned(a.x) as usize);
-    let k = hex8(out, k, unsigned(a.y) as usize);
+    let k = put_place(out, k, place);
+    let k = put_correction(out, k, correction);
     put(out, k, b'\n')
 }
 
@@ -147,15 +169,15 @@ fn put_row(out: &mut [u8], at: usize, w: Tri) -> usize
 
 // The first n nodes.
 fn put_nodes(out: &mut [u8], at: usize, nodes: &[i32], n: usize) -> usize
-    requires { ⌜ 2 * n ≤ length (now nodes) ⌝ }
-    requires { ⌜ at + 19 * n ≤ length (now out) ⌝ }
-    ensures next { λ r. ⌜ r ≡ at + 19 * n ⌝ }
-    ensures text { λ r. ⌜ wrote r (now (out .exit)) ≡ writes (wrote at (now (out .entry))) (joined nodeLine (items (placeAt (now (nodes .entry))) 0 n)) ⌝ }
+    requires { ⌜ 4 * n ≤ length (now nodes) ⌝ }
+    requires { ⌜ at + 27 * n ≤ length (now out) ⌝ }
+    ensures next { λ r. ⌜ r ≡ at + 27 * n ⌝ }
+    ensures text { λ r. ⌜ wrote r (now (out .exit)) ≡ writes (wrote at (now (out .entry))) (joined nodeLine (items (nodeAt (now (nodes .entry))) 0 n)) ⌝ }
 {
     let mut k = at;
     let mut i = 0;
     while i < n {
-        k = put_node(out, k, tables::place_at(nodes, i));
+        k = put_node(out, k, tables::node_at(nodes, i));
         i += 1;
     }
     k
@@ -179,9 +201,9 @@ fn put_rows(out: &mut [u8], at: usize, rows: &[u32], t: usize) -> usize
 
 // All nodes, then all rows.
 pub fn put_all(out: &mut [u8], nodes: &[i32], rows: &[u32], n: usize, t: usize) -> usize
-    requires { ⌜ 2 * n ≤ length (now nodes) ⌝ }
+    requires { ⌜ 4 * n ≤ length (now nodes) ⌝ }
     requires { ⌜ 3 * t ≤ length (now rows) ⌝ }
-    requires { ⌜ 19 * n + 15 * t ≤ length (now out) ⌝ }
+    requires { ⌜ 27 * n + 15 * t ≤ length (now out) ⌝ }
     ensures { λ r. ⌜ wrote r (now (out .exit)) ≡ writes (wrote 0 (now (out .entry))) (allLines (now (nodes .entry)) (now (rows .entry)) n t) ⌝ }
 {
     let k = put_nodes(out, 0, nodes, n);

@@ -5,5 +5,5 @@ use Rattle.text.proofs.write.put_node.Tie as tie
 
 pub put-node-spec : {M : Type 1} → statement M
 put-node-spec = tie.close (tie.spec
-    (λ c κs. search needs) (λ c κs. search needs) (λ c. search needs) (λ c κs. search needs) (λ c κs. search needs)
-    (λ c. search needs) (λ c κs. search needs) (λ c κs. search needs) (λ c. search needs) (λ c. search (needs, node-put)))
+    (λ c κs. search needs) (λ c κs. search needs) (λ c κs. search needs) (λ c κs. search needs) (λ c. search needs)
+    (λ c. search (needs, node-put)))

@@ -1,6 +1,6 @@
 use Rattle.text.specs.Writing.{wrote, writes, line-turn, line-end}
 use Rattle.text.specs.Lines.{nodeLine}
-use Rattle.meaning.specs.Tables.{placeAt}
+use Rattle.meaning.specs.Tables.{nodeAt}
 use Rattle.lists.specs.Search.{items}
 use Rattle.lists.specs.Lists.{joined}
 use lib.ListN.{length}
@@ -11,7 +11,7 @@ use Rattle.text.proofs.write.put_nodes.Statement.{statement}
 use Rattle.text.proofs.write.put_nodes.Tie as tie
 
 abbrev Inv-loop : tie.InvT-loop
-Inv-loop out₀ at nodes n k₀ i₀ out k i = (length out ≡ length out₀) × (i ≤ n) × (k ≡ at + 19 * i) × (writes (wrote k out) (joined nodeLine (items (placeAt nodes) i n)) ≡ writes (wrote at out₀) (joined nodeLine (items (placeAt nodes) 0 n)))
+Inv-loop out₀ at nodes n k₀ i₀ out k i = (length out ≡ length out₀) × (i ≤ n) × (k ≡ at + 27 * i) × (writes (wrote k out) (joined nodeLine (items (nodeAt nodes) i n)) ≡ writes (wrote at out₀) (joined nodeLine (items (nodeAt nodes) 0 n)))
 
 abbrev μ-loop : tie.MeasureT-loop
 μ-loop out₀ at nodes n k₀ i₀ out k i = n - i

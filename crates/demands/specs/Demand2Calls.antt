@@ -30,8 +30,7 @@ use Rattle.laws.specs.Bisected.{bisected-laws}
 use Rattle.laws.specs.Refine.{toSplit, Least, OddSum, Fits, TooMany, RefineSays, unlawful, Refined, refine-splits, started-exactly, starts-own, refine-exact, refine-8, refine-9, refine-0, refine-only-8-9, refine-done}
 use Rattle.laws.specs.CoarsenCalls.{Coarsened, CoarsenSays, well-marked, RestoreDone, coarsen-exact, coarsen-0, coarsen-done, restore-done}
 use Rattle.laws.specs.Restore.{LooksAt, looks-lawful, restored-fewer, restored-rows}
-use Rattle.laws.specs.PlaceOnly.{SamePlaces}
-use Rattle.laws.specs.Setting.{Corrected, corrected-count, corrected-places, set-exact, set-not-1, set-0, set-13, set-15, set-done}
+use Rattle.laws.specs.Setting.{Corrected, set-exact, set-not-1, set-0, set-13, set-15, set-done}
 use Rattle.laws.specs.TableMesh.{nodes-count, rows-count, tablesAfter}
 use Rattle.laws.specs.CallLaw.{Sizes, sizes-exact, AsGiven, Holds, AnswersBy, Answers, CallLeaves, call-answers, done-holds, check-leaves, refine-leaves, coarsen-leaves, restore-leaves, set-leaves, check-names, refine-names, coarsen-names, restore-names, set-call-names, set-counts, restore-refused}
 use Rattle.demands.specs.InFour.{InFour, marked-in-four}

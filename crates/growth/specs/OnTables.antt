@@ -31,7 +31,6 @@ use Rattle.growth.specs.Coarsening.{from-coarsened}
 use Rattle.growth.specs.Refining.{from-refine}
 use Rattle.growth.specs.Correcting.{from-set}
 use Rattle.growth.specs.Restoring.{pass-removes, restored-base}
-use Rattle.laws.specs.PlaceOnly.{SamePlaces}
 use Rattle.laws.specs.Setting.{corrected-count, corrected-places}
 use Rattle.laws.specs.TableMesh.{Fits, nodes-count, rows-count, tablesAfter, done-mesh, done-nodes, done-rows}
 use Rattle.laws.specs.CallLaw.{Sizes, sizes-exact, sizes-unfit, sizes-again, check-leaves, refine-leaves, coarsen-leaves, restore-leaves, set-leaves}

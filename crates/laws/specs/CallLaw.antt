@@ -23,7 +23,6 @@ use Rattle.meaning.specs.Calls.{marksFit, culpritOf, saysOf, says, checkNo, ref
 use Rattle.laws.specs.Exact.{unfit}
 use Rattle.laws.specs.Marks.{marks-exact, ones-fit}
 use Rattle.laws.specs.Culprit.{Due, names-exact, culprit-names, culprit-none, check-due, refine-due, coarsen-due, restore-due}
-use Rattle.laws.specs.PlaceOnly.{SamePlaces}
 use Rattle.laws.specs.Setting.{corrected-count, corrected-places, set-names, set-nobody}
 use Rattle.laws.specs.TableMesh.{nodes-count, rows-count, flat-nodes-length, flat-rows-length, tablesAfter, done-mesh, done-nodes, done-rows}
 

@@ -1,11 +1,11 @@
 -- W5: the mean of two corrections, rounded down: for any sum, negative ones too, half of it is the largest number that is not above the exact
 -- half; so the mean lies between the two, and in the range in which both are. Assumes nothing.
 use mathlib.Core.Path.{_≡_, ap₂}
-use Prim.Native.Nat.{ℕ, suc, _+_, _*_, _/_}
+use Prim.Native.Nat.{suc, _+_, _/_}
 use native.Mathlib.Omega.{arith}
 use lib.IntN.{ℤ, pos, negsuc, _+ℤ_, +ℤ-comm}
 use lib.Signed.{_≤ℤ_, _<ℤ_}
-use Rattle.whole.specs.Diff.{onℤ, sumℤ, up, dn}
+use Rattle.whole.specs.Diff.{onℤ, sumℤ}
 use Rattle.meaning.specs.declared.Correction.{Correction}
 use Rattle.meaning.specs.Mesh.{correction}
 use Rattle.meaning.specs.Lawful.{InBounds}

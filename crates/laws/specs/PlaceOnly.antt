@@ -2,17 +2,16 @@
 -- good, the same are taken, and areas are the same. Assumes nothing.
 use mathlib.Core.Bool.{Bool, _&&_, _||_, not}
 use mathlib.Core.List.{List, [], _∷_, map}
-use mathlib.Core.Path.{_≡_, refl, sym, ap, ap₂, subst, _∙_}
+use mathlib.Core.Path.{_≡_, refl, sym, ap, _∙_}
 use Prim.Native.Nat.{ℕ, zero, suc}
 use lib.Dec.{eqb, leb, ltb}
-use lib.IntN.{ℤ}
 use lib.ListN.{length, getD, length-map}
 use Rattle.lists.specs.Lists.{all, only, upTo}
 use Rattle.meaning.specs.declared.Node.{Node}
 use Rattle.meaning.specs.declared.Place.{Place}
 use Rattle.meaning.specs.declared.Tri.{Tri}
 use Rattle.meaning.specs.Mesh.{Mesh, mesh, at, origin, sameEdge, sum, twiceArea, total}
-use Rattle.meaning.specs.Good.{G1, G2, G3, G4, G1-4, good, pairs, span, isMiddle}
+use Rattle.meaning.specs.Good.{G1, G2, G4, G1-4, good, pairs, span, isMiddle}
 use Rattle.meaning.specs.Coarsen.{marked, taken}
 
 -- where the nodes stand

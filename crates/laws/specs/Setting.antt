@@ -3,16 +3,15 @@
 use mathlib.Core.Bool.{Bool, true, false}
 use mathlib.Core.List.{List}
 use mathlib.Core.Logic.{_↔_, _≢_, _⊎_, inl, inr}
-use mathlib.Core.Path.{_≡_, refl, sym, ap, subst, subst⁻¹, _∙_}
+use mathlib.Core.Path.{_≡_, refl, sym, ap, subst, _∙_}
 use Prim.Native.Nat.{ℕ, zero, suc, _≤_, _<_}
-use native.Mathlib.Decide.{ℕ-discrete}
 use native.Mathlib.Omega.{arith}
 use lib.Dec.{leb, ltb}
 use lib.IntN.{pos}
 use lib.Signed.{_<ℤ_}
 use lib.ListN.{length, getD, set, length-set}
 use lib.Seq.{getD-set-same, getD-set-other, map-set-same}
-use borrow.Author.Tests.{leb-true, leb-false, ltb-true, ltb-false, lt-ltb}
+use borrow.Author.Tests.{leb-true, leb-false, ltb-true, ltb-false}
 use Rattle.lists.specs.declared.Found.{Found}
 use Rattle.lists.specs.declared.Found.the-variants.{At, Nothing}
 use Rattle.lists.specs.Lists.{onFound, All, nil, cons}
@@ -21,14 +20,14 @@ use Rattle.meaning.specs.declared.Node.{Node}
 use Rattle.meaning.specs.declared.Correction.{Correction}
 use Rattle.meaning.specs.declared.Fault.{Fault}
 use Rattle.meaning.specs.Mesh.{Mesh, node, nodeOf, at, origin, total}
-use Rattle.meaning.specs.Lawful.{InBounds, NodeInRange, Lawful, Applies, LowestOf, Other, Names, names-3, names-none, beyond, firstOutside, fault, orLater, from4}
+use Rattle.meaning.specs.Lawful.{InBounds, NodeInRange, Lawful, Applies, Other, Names, names-3, names-none, beyond, firstOutside, fault, orLater}
 use Rattle.meaning.specs.Setting.{corrected, SetApplies, of-mesh, value-out, base-node, not-below, SetSays, SetNames, names-stored, names-given, foundIf, orFound, setFault}
 use Rattle.laws.specs.Faults.{first-3, none-3, bounds-exact}
-use Rattle.laws.specs.Lawful.{LowestFrom, link, lowest-one, links-4-7, at-least-3, at-most-7, found-3, not-3, refusal-lawful, lawful-refusal, refusal-exact}
+use Rattle.laws.specs.Lawful.{LowestFrom, link, lowest-one, links-4-7, at-least-3, at-most-7, found-3, not-3}
 use Rattle.laws.specs.CoarsenCalls.{lowest-0}
 use Rattle.laws.specs.Culprit.{names-or-later, names-4-7, names-one, named-3, named-0}
 use Rattle.laws.specs.Exact.{refuted}
-use Rattle.laws.specs.PlaceOnly.{SamePlaces, at-same, area-by-place, total-by-place}
+use Rattle.laws.specs.PlaceOnly.{SamePlaces, area-by-place, total-by-place}
 
 -- ---- the mesh after it
 

@@ -1,7 +1,6 @@
 -- W5: setting the correction of one node: the mesh after it, and when each number is given, as named facts and as what is computed.
 -- Assumes nothing.
 use mathlib.Core.Bool.{Bool, true, false}
-use mathlib.Core.List.{List}
 use Prim.Native.Nat.{ℕ, _≤_, _<_}
 use lib.Dec.{leb, ltb}
 use lib.ListN.{length, set}

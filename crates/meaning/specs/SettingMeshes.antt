@@ -13,7 +13,7 @@ use Rattle.meaning.specs.Good.{pairs, span, G1-4, good}
 use Rattle.meaning.specs.Coarsen.{taken, without, coarsened, goodNodes, pass, restored}
 use Rattle.meaning.specs.Setting.{corrected, setFault}
 use Rattle.meaning.specs.Calls.{culpritOf, checkNo, refineNo, coarsenNo, checks, refines, coarsens, restores, sets}
-use Rattle.meaning.specs.HandCase.{Case, check, refine, quarter, coarsen, restore, setting, computed, says, blames, case, at}
+use Rattle.meaning.specs.HandCase.{Case, check, refine, coarsen, restore, setting, computed, says, blames, case, at}
 use Rattle.meaning.specs.HandMeshes.{S, R}
 
 -- the node at (a, b) that carries (c, d)

@@ -2,7 +2,7 @@
 use mathlib.Core.Bool.{Bool, true, false, not, _&&_}
 use mathlib.Core.List.{List, []}
 use mathlib.Core.Path.{_≡_, refl, sym, ap, ap₂, _∙_}
-use Prim.Native.Nat.{ℕ, zero, suc, _+_, _*_, _≤_, _<_}
+use Prim.Native.Nat.{ℕ, zero, suc, _*_, _≤_, _<_}
 use native.Mathlib.Decide.{ℕ-discrete}
 use native.Mathlib.Omega.{arith}
 use lib.Dec.{eqb, leb, ltb}
@@ -21,9 +21,9 @@ use Rattle.meaning.specs.declared.Fault.{Fault}
 use Rattle.meaning.specs.declared.Node.{Node}
 use Rattle.meaning.specs.declared.Place.{Place}
 use Rattle.meaning.specs.Mesh.{Mesh, node, at, origin}
-use Rattle.meaning.specs.Lawful.{beyond, fault, faultOf, firstOutside, firstMisnamed, firstRepeat, firstFlat, firstUnused, orLater, from4}
+use Rattle.meaning.specs.Lawful.{beyond, fault, faultOf, firstOutside, firstMisnamed, firstRepeat, firstFlat, firstUnused, orLater}
 use Rattle.meaning.specs.Setting.{corrected, foundIf, orFound, setFault}
-use Rattle.meaning.specs.Tables.{Given, Outcome, given, outcome, answer, nodeAt, placeAt, rowAt, meshOf, flatNodes, flatRows, filled}
+use Rattle.meaning.specs.Tables.{Given, given, outcome, answer, nodeAt, placeAt, rowAt, meshOf, flatNodes, flatRows, filled}
 use Rattle.meaning.specs.Calls.{saysOf, sets, sizesFit, untouched, leavesBy, leaves, sized, setOut}
 use Rattle.laws.specs.CallLaw.{Sizes, sizes-exact}
 use Rattle.laws.specs.Setting.{corrected-count, set-0}

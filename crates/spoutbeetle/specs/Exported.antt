@@ -3,8 +3,12 @@ use mathlib.Core.List.{List}
 use mathlib.Core.Path.{_≡_, sym, subst, ap, _∙_}
 use Prim.Native.Nat.{ℕ}
 use lib.IntN.{ℤ}
+use mir.Syntax.{w32}
+use mir.Val.{SFits, toZ, ofZ}
+use mir.Facts.{toZ-ofZ}
 use Rattle.meaning.specs.declared.Answer.{Answer}
 use Rattle.meaning.specs.declared.Correction.{Correction}
+use Rattle.meaning.specs.Mesh.{correction}
 use Rattle.meaning.specs.Split.{Way}
 use Rattle.meaning.specs.Tables.{Given, Outcome, outcome, answer}
 use Rattle.meaning.specs.Calls.{checkOut, refineOut, coarsenOut, setOut}
@@ -35,13 +39,18 @@ module _ (a : Answer) (nodes : List ℤ) (rows scratch : List ℕ) where
   coarsen-answer marks g n0 e = without-passes _ (coarsen-no-passes g n0 marks) e
 
   -- a setting shows the counts it was given and no passes
-  pub set-answer : (g : Given) (n0 z : ℕ) (c : Correction) → outcome a nodes rows scratch ≡ setOut g n0 z c →
+  as-set : (g : Given) (n0 z : ℕ) (c : Correction) → outcome a nodes rows scratch ≡ setOut g n0 z c →
       outcome (answer (a .number) (g .n) (g .t) 0 (a .culprit)) nodes rows scratch ≡ setOut g n0 z c
-  set-answer g n0 z c e =
+  as-set g n0 z c e =
       let s = set-counts g n0 z c in
       let n : a .n ≡ g .n = ap (λ (x : Outcome). x .answer .n) e ∙ s .0 in
       let t : a .t ≡ g .t = ap (λ (x : Outcome). x .answer .t) e ∙ s .1 in
       (λ i. outcome (answer (a .number) (sym n i) (sym t i) 0 (a .culprit)) nodes rows scratch) ∙ without-passes _ (set-no-passes g n0 z c) e
+
+  -- dx and dy as the machine holds them
+  pub set-answer : (g : Given) (n0 z : ℕ) (x y : ℤ) → SFits w32 x → SFits w32 y → outcome a nodes rows scratch ≡ setOut g n0 z (correction (toZ w32 (ofZ w32 x)) (toZ w32 (ofZ w32 y))) →
+      outcome (answer (a .number) (g .n) (g .t) 0 (a .culprit)) nodes rows scratch ≡ setOut g n0 z (correction x y)
+  set-answer g n0 z x y f h e = as-set g n0 z (correction x y) (rw (toZ-ofZ f, toZ-ofZ h) at e)
 
 -- begin and end take no byte of a piece
 module _ (k : Took) (line : List ℕ) (ns : List ℤ) (rs sc out : List ℕ) where
@@ -56,4 +65,4 @@ module _ (k : Took) (line : List ℕ) (ns : List ℤ) (rs sc out : List ℕ) whe
       tells (k .number) 0 (wrote (k .written) out) (carries (k .carried) line ns rs sc) ≡ endOut r out₀
   end-answer r out₀ = without-taken (endOut r out₀) (end-taken r out₀)
 
-pub ruleset exported = (check-answer, refine-answer, coarsen-answer, set-answer, begin-answer, end-answer)
+pub ruleset exported = (check-answer, refine-answer, coarsen-answer, begin-answer, end-answer)

@@ -8,7 +8,7 @@ use Rattle.lists.specs.Search.{lowest, lowestFrom, iter, iterFrom}
 use Rattle.meaning.specs.Tables.{rowAt}
 use Rattle.tables.specs.Arrow.{arrowAt}
 use Rattle.tables.specs.Slots.{joinSlot}
-use Rattle.tables.specs.Ready.{nodeAt}
+use Rattle.tables.specs.Ready.{namedAt}
 use Rattle.tables.specs.Walk.{rarer, hits, passes, rowOf}
 
 rows : List ℕ
@@ -16,7 +16,7 @@ rows = 1 ∷ 2 ∷ 0 ∷ 3 ∷ 0 ∷ 2 ∷ []
 
 -- scratch after so many slots after
 after : ℕ → List ℕ
-after n = iter (λ k s. joinSlot 4 10 k (nodeAt rows k) s) 0 n (replicate 24 0)
+after n = iter (λ k s. joinSlot 4 10 k (namedAt rows k) s) 0 n (replicate 24 0)
 
 -- ten notes; each node's highest slot; how many name it; the next of each slot, and after the highest the lowest
 all-six : after 6 ≡ 0 ∷ 0 ∷ 0 ∷ 0 ∷ 0 ∷ 0 ∷ 0 ∷ 0 ∷ 0 ∷ 0 ∷ 5 ∷ 1 ∷ 6 ∷ 4 ∷ 2 ∷ 1 ∷ 2 ∷ 1 ∷ 1 ∷ 6 ∷ 5 ∷ 4 ∷ 3 ∷ 2 ∷ []
@@ -34,6 +34,6 @@ unfolding after rows iter iterFrom joinSlot
 fewer-name-3 = refl
 
 -- among the slots that name 3: 3→0 is in row 1, and past the limit of one row; 0→3 in none
-walked : rowOf (lowest (passes rows 2 3 0 (nodeAt rows) 3) 0 6) ∷ rowOf (lowest (passes rows 1 3 0 (nodeAt rows) 3) 0 6) ∷ rowOf (lowest (passes rows 2 0 3 (nodeAt rows) 3) 0 6) ∷ [] ≡ At 1 ∷ Nothing ∷ Nothing ∷ []
+walked : rowOf (lowest (passes rows 2 3 0 (namedAt rows) 3) 0 6) ∷ rowOf (lowest (passes rows 1 3 0 (namedAt rows) 3) 0 6) ∷ rowOf (lowest (passes rows 2 0 3 (namedAt rows) 3) 0 6) ∷ [] ≡ At 1 ∷ Nothing ∷ Nothing ∷ []
 unfolding rows hits arrowAt rowAt lowest lowestFrom
 walked = refl

@@ -16,15 +16,15 @@ use Rattle.tables.specs.Sized.{Sized, Corners, indexAt, slotsOf}
 use Rattle.tables.specs.PutLaw.{tail-filled}
 use Rattle.tables.specs.Slots.{before, putAfter, joinSlot, top-le, many-le}
 use Rattle.tables.specs.SlotsLaw.{join-length, join-take, listed-agree, listed-free, listed-join}
-use Rattle.tables.specs.Ready.{Ready, Holds, nodeAt, holds-none, cornerOf, slot-corner}
+use Rattle.tables.specs.Ready.{Ready, Holds, namedAt, holds-none, cornerOf, slot-corner}
 
 -- the first n slots name nodes below nc
 abbrev pub InRange : ℕ → List ℕ → ℕ → Type 0
-InRange nc rows n = (k : ℕ) → k < n → nodeAt rows k < nc
+InRange nc rows n = (k : ℕ) → k < n → namedAt rows k < nc
 
 -- the first n slots are in the index as the table names nodes now, and no others
 abbrev pub Exact : List ℕ → ℕ → List ℕ → ℕ → Type 0
-Exact scratch nc rows n = Holds scratch nc (length rows) (nodeAt rows) n
+Exact scratch nc rows n = Holds scratch nc (length rows) (namedAt rows) n
 
 -- slot k is not in the index
 abbrev pub isFree : List ℕ → ℕ → List ℕ → ℕ → Bool
@@ -46,13 +46,13 @@ pub slot-put : (nc o k v m a c : ℕ) (s s₁ s₂ s₃ : List ℕ) → m ≡ ge
 unfolding joinSlot
 slot-put nc o k v m a c s s₁ s₂ s₃ e f g h g₂ g₃ = rw (← e, ← f, ← g, ← h, ← g₂) g₃
 
-module _ (s : List ℕ) (nc : ℕ) (rows : List ℕ) (k o v : ℕ) (x : Exact s nc rows k) (b : o ≡ indexAt nc (length rows)) (i : v ≡ nodeAt rows k) (r : nodeAt rows k < nc) where
+module _ (s : List ℕ) (nc : ℕ) (rows : List ℕ) (k o v : ℕ) (x : Exact s nc rows k) (b : o ≡ indexAt nc (length rows)) (i : v ≡ namedAt rows k) (r : namedAt rows k < nc) where
   -- no more slots than have joined
   pub top-small : getD s (o + v) 0 ≤ k
-  top-small = rw (b, x .listed .tops v (omega arith)) (top-le (nodeAt rows) v k)
+  top-small = rw (b, x .listed .tops v (omega arith)) (top-le (namedAt rows) v k)
 
   pub count-small : getD s (o + nc + v) 0 ≤ k
-  count-small = rw (b, x .listed .counts v (omega arith)) (many-le (nodeAt rows) v k)
+  count-small = rw (b, x .listed .counts v (omega arith)) (many-le (namedAt rows) v k)
 
   module _ (h : k < slotsOf (length rows)) (s′ : List ℕ) (e : s′ ≡ joinSlot nc o k v s) where
     pub exact-join : Exact s′ nc rows (k + 1)
@@ -64,10 +64,10 @@ module _ (s : List ℕ) (nc : ℕ) (rows : List ℕ) (k o v : ℕ) (x : Exact s 
           sizes = rw l (x .sizes);
           in-table = omega arith;
           in-range = λ j u. in-range-too j u (ℕ-discrete j k);
-          listed = rw (e, i, b) (rw n at (listed-join (nodeAt rows) nc (slotsOf (length rows)) (indexAt nc (length rows)) k s r h fits (x .listed)));
+          listed = rw (e, i, b) (rw n at (listed-join (namedAt rows) nc (slotsOf (length rows)) (indexAt nc (length rows)) k s r h fits (x .listed)));
         }
       where
-        in-range-too : (j : ℕ) → j < k + 1 → Dec (j ≡ k) → nodeAt rows j < nc
+        in-range-too : (j : ℕ) → j < k + 1 → Dec (j ≡ k) → namedAt rows j < nc
         in-range-too j u (yes z) = rw z r
         in-range-too j u (no z) = x .in-range j (omega arith)
 
@@ -93,7 +93,7 @@ module _ (s ys : List ℕ) (nc : ℕ) (rows : List ℕ) (o : ℕ) (z : Sized nc 
       ∙ (rw n at (getD-append-add (take o s) (replicate (length s - o) 0) (k - o) 0)) ∙ getD-replicate (length s - o) (k - o) 0 0 (omega arith)
 
   pub exact-blank : Exact (putMid o (length s - o) s ys) nc rows 0
-  exact-blank = holds-none (putMid o (length s - o) s ys) nc (length rows) (nodeAt rows) (rw long z) (λ k u h. (let l = long in zero-at k (omega arith) (omega arith)))
+  exact-blank = holds-none (putMid o (length s - o) s ys) nc (length rows) (namedAt rows) (rw long z) (λ k u h. (let l = long in zero-at k (omega arith) (omega arith)))
 
   pub notes-blank : take (indexAt nc (length rows)) (putMid o (length s - o) s ys) ≡ take (indexAt nc (length rows)) s
   notes-blank = rw (← b, blanked) (let l = length-take-le o s in-scratch in take-append-le o (take o s) (replicate (length s - o) 0) (omega arith) ∙ take-take o o s (omega arith))
@@ -106,7 +106,7 @@ notes-on k s s′ s₀ e f = e ∙ f
 pub free-at : (s : List ℕ) (nc : ℕ) (rows : List ℕ) (k o n : ℕ) → o ≡ indexAt nc (length rows) → n ≡ getD s (o + 2 * nc + k) 0 → eqb n 0 ≡ isFree s nc rows k
 free-at s nc rows k o n e f = rw (← e, ← f)
 
-pub in-range-at : (nc : ℕ) (rows : List ℕ) (n k : ℕ) → InRange nc rows n → k < n → nodeAt rows k < nc
+pub in-range-at : (nc : ℕ) (rows : List ℕ) (n k : ℕ) → InRange nc rows n → k < n → namedAt rows k < nc
 in-range-at nc rows n k h l = h k l
 
 pub exact-end : (s : List ℕ) (nc : ℕ) (rows : List ℕ) (k n : ℕ) → k ≤ n → n ≤ k → Exact s nc rows k → Exact s nc rows n
@@ -127,12 +127,12 @@ exact-ready s nc rows i b r e f =
       sizes = r .holds .sizes;
       in-table = let c = r .holds .in-table in omega arith;
       in-range = λ k u. (let c = r .same k u in let d = r .holds .in-range k (omega arith) in omega arith);
-      listed = listed-agree (r .names) nc (slotsOf (length rows)) o (nodeAt rows) (3 * i) s (r .same) (rw q at l);
+      listed = listed-agree (r .names) nc (slotsOf (length rows)) o (namedAt rows) (3 * i) s (r .same) (rw q at l);
     }
 
 pub ready-exact : (s : List ℕ) (nc : ℕ) (rows : List ℕ) (i : ℕ) → Exact s nc rows (3 * i + 3) → Ready s nc rows (i + 1)
 unfolding Ready
-ready-exact s nc rows i x = record { held = 3 * i + 3; names = nodeAt rows; holds = x; enough = omega arith; same = λ k u. refl }
+ready-exact s nc rows i x = record { held = 3 * i + 3; names = namedAt rows; holds = x; enough = omega arith; same = λ k u. refl }
 
 corners-in : (nc : ℕ) (w : Tri) → Corners nc w → (c : ℕ) → cornerOf w c < nc
 unfolding cornerOf
@@ -145,7 +145,7 @@ pub ready-in-range : (s : List ℕ) (nc : ℕ) (rows : List ℕ) (i : ℕ) → R
 unfolding Ready
 ready-in-range s nc rows i r c k u = go (ltb k (3 * i)) refl
   where
-    go : (b : Bool) → ltb k (3 * i) ≡ b → nodeAt rows k < nc
+    go : (b : Bool) → ltb k (3 * i) ≡ b → namedAt rows k < nc
     go true q = let h = ltb-true k (3 * i) q in let e = r .same k h in let a = r .enough in let d = r .holds .in-range k (omega arith) in omega arith
     go false q =
         let h = ltb-false k (3 * i) q in

@@ -14,8 +14,8 @@ use Rattle.tables.specs.Slots.{Listed}
 use Rattle.tables.specs.SlotsLaw.{listed-start, listed-kept}
 
 -- the node that slot k names
-abbrev pub nodeAt : List ℕ → ℕ → ℕ
-nodeAt rows k = getD rows k 0
+abbrev pub namedAt : List ℕ → ℕ → ℕ
+namedAt rows k = getD rows k 0
 
 -- the first n slots are in the index, slot k under the node `names k`; tl is the length of the triangle table
 pub record Holds (scratch : List ℕ) (nc tl : ℕ) (names : ℕ → ℕ) (n : ℕ) : Type 0 where
@@ -31,7 +31,7 @@ pub record Indexed (scratch : List ℕ) (nc : ℕ) (rows : List ℕ) (t : ℕ) :
   pub names : ℕ → ℕ
   pub holds : Holds scratch nc (length rows) names held
   pub enough : 3 * t ≤ held
-  pub same : (k : ℕ) → k < 3 * t → names k ≡ nodeAt rows k
+  pub same : (k : ℕ) → k < 3 * t → names k ≡ namedAt rows k
 
 unfoldable pub Ready : List ℕ → ℕ → List ℕ → ℕ → Type 0
 Ready scratch nc rows t = Indexed scratch nc rows t
@@ -50,8 +50,8 @@ pub ready-start : (scratch rows : List ℕ) (nc : ℕ) → Sized nc (length rows
 unfolding Ready
 ready-start scratch rows nc z e = record {
   held = 0;
-  names = nodeAt rows;
-  holds = holds-none scratch nc (length rows) (nodeAt rows) z (λ k a h. (ap (λ (v : List ℕ). getD v k 0) e ∙ getD-replicate (length scratch) k 0 0 h));
+  names = namedAt rows;
+  holds = holds-none scratch nc (length rows) (namedAt rows) z (λ k a h. (ap (λ (v : List ℕ). getD v k 0) e ∙ getD-replicate (length scratch) k 0 0 h));
   enough = omega arith;
   same = λ k h. refl;
 }
@@ -95,14 +95,14 @@ cornerOf w (suc zero) = w .q
 cornerOf w (suc (suc c)) = w .r
 
 -- slot k is corner k % 3 of row k / 3
-pub slot-corner : (rows : List ℕ) (k : ℕ) → nodeAt rows k ≡ cornerOf (rowAt rows (k / 3)) (k % 3)
+pub slot-corner : (rows : List ℕ) (k : ℕ) → namedAt rows k ≡ cornerOf (rowAt rows (k / 3)) (k % 3)
 unfolding cornerOf rowAt
 slot-corner rows k = go (k / 3) (k % 3) (omega arith) (omega arith)
   where
-    go : (i c : ℕ) → k ≡ 3 * i + c → c < 3 → nodeAt rows k ≡ cornerOf (rowAt rows i) c
-    go i zero e h = ap (nodeAt rows) (omega arith)
-    go i (suc zero) e h = ap (nodeAt rows) e
-    go i (suc (suc zero)) e h = ap (nodeAt rows) e
+    go : (i c : ℕ) → k ≡ 3 * i + c → c < 3 → namedAt rows k ≡ cornerOf (rowAt rows i) c
+    go i zero e h = ap (namedAt rows) (omega arith)
+    go i (suc zero) e h = ap (namedAt rows) e
+    go i (suc (suc zero)) e h = ap (namedAt rows) e
     go i (suc (suc (suc c))) e h = absurd (omega arith)
 
 -- fewer rows: the search reads only these, so that the others may have changed

@@ -25,7 +25,7 @@ use Rattle.tables.specs.Arrow.{arrowAt}
 use Rattle.tables.specs.Sized.{indexAt}
 use Rattle.tables.specs.FoundLaw.{found-is, none-found, from-before}
 use Rattle.tables.specs.Slots.{top, many, seek, top-le, top-key, top-above, many-stays, many-more, many-here, following-higher, following-round}
-use Rattle.tables.specs.Ready.{Ready, Indexed, nodeAt}
+use Rattle.tables.specs.Ready.{Ready, Indexed, namedAt}
 
 -- how many slots name node v, by the index
 abbrev pub countAt : List ℕ → ℕ → List ℕ → ℕ → ℕ
@@ -74,20 +74,20 @@ and-no false = refl
 record Slot (rows : List ℕ) (j v : ℕ) : Type 0 where
   at : ℕ
   in-row : at / 3 ≡ j
-  names-it : nodeAt rows at ≡ v
+  names-it : namedAt rows at ≡ v
 
 slot-of : (rows : List ℕ) (x y j v : ℕ) → EndOf x y v → arrowAt rows x y j ≡ true → Slot rows j v
 unfolding arrowAt rowAt
 slot-of rows x y j v w e =
-    go (sameArrow (arrow x y) (arrow (nodeAt rows (3 * j)) (nodeAt rows (3 * j + 1)))) refl (sameArrow (arrow x y) (arrow (nodeAt rows (3 * j + 1)) (nodeAt rows (3 * j + 2)))) refl
-    (sameArrow (arrow x y) (arrow (nodeAt rows (3 * j + 2)) (nodeAt rows (3 * j)))) refl e
+    go (sameArrow (arrow x y) (arrow (namedAt rows (3 * j)) (namedAt rows (3 * j + 1)))) refl (sameArrow (arrow x y) (arrow (namedAt rows (3 * j + 1)) (namedAt rows (3 * j + 2)))) refl
+    (sameArrow (arrow x y) (arrow (namedAt rows (3 * j + 2)) (namedAt rows (3 * j)))) refl e
   where
-    by : (a b : ℕ) → a / 3 ≡ j → b / 3 ≡ j → sameArrow (arrow x y) (arrow (nodeAt rows a) (nodeAt rows b)) ≡ true → {v : ℕ} → EndOf x y v → Slot rows j v
-    by a b c d q from-x = record { at = a; in-row = c; names-it = sym (eqb-true x (nodeAt rows a) (and-left (eqb x (nodeAt rows a)) (eqb y (nodeAt rows b)) q)) }
-    by a b c d q from-y = record { at = b; in-row = d; names-it = sym (eqb-true y (nodeAt rows b) (and-right (eqb x (nodeAt rows a)) (eqb y (nodeAt rows b)) q)) }
+    by : (a b : ℕ) → a / 3 ≡ j → b / 3 ≡ j → sameArrow (arrow x y) (arrow (namedAt rows a) (namedAt rows b)) ≡ true → {v : ℕ} → EndOf x y v → Slot rows j v
+    by a b c d q from-x = record { at = a; in-row = c; names-it = sym (eqb-true x (namedAt rows a) (and-left (eqb x (namedAt rows a)) (eqb y (namedAt rows b)) q)) }
+    by a b c d q from-y = record { at = b; in-row = d; names-it = sym (eqb-true y (namedAt rows b) (and-right (eqb x (namedAt rows a)) (eqb y (namedAt rows b)) q)) }
 
-    go : (a : Bool) → sameArrow (arrow x y) (arrow (nodeAt rows (3 * j)) (nodeAt rows (3 * j + 1))) ≡ a → (b : Bool) → sameArrow (arrow x y) (arrow (nodeAt rows (3 * j + 1)) (nodeAt rows (3 * j + 2))) ≡ b →
-        (c : Bool) → sameArrow (arrow x y) (arrow (nodeAt rows (3 * j + 2)) (nodeAt rows (3 * j))) ≡ c → a || (b || (c || false)) ≡ true → Slot rows j v
+    go : (a : Bool) → sameArrow (arrow x y) (arrow (namedAt rows (3 * j)) (namedAt rows (3 * j + 1))) ≡ a → (b : Bool) → sameArrow (arrow x y) (arrow (namedAt rows (3 * j + 1)) (namedAt rows (3 * j + 2))) ≡ b →
+        (c : Bool) → sameArrow (arrow x y) (arrow (namedAt rows (3 * j + 2)) (namedAt rows (3 * j))) ≡ c → a || (b || (c || false)) ≡ true → Slot rows j v
     go true p b q c z i = by (3 * j) (3 * j + 1) (omega arith) (omega arith) p w
     go false p true q c z i = by (3 * j + 1) (3 * j + 2) (omega arith) (omega arith) q w
     go false p false q true z i = by (3 * j + 2) (3 * j) (omega arith) (omega arith) z w

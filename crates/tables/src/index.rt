@@ -11,7 +11,7 @@ ghost use Rattle.lists.specs.Search.{lowest};
 ghost use Rattle.tables.specs.Arrow.{arrowAt};
 ghost use Rattle.tables.specs.Sized.{Sized, indexAt, slotsOf};
 ghost use Rattle.tables.specs.Slots.{before, putAfter, joinSlot};
-ghost use Rattle.tables.specs.Ready.{Ready, nodeAt};
+ghost use Rattle.tables.specs.Ready.{Ready, namedAt};
 ghost use Rattle.tables.specs.Walk.{rarer, EndOf};
 ghost use Rattle.tables.specs.Join.{InRange, Exact, isFree};
 use lists::Found;
@@ -124,7 +124,7 @@ fn put_slot(scratch: &mut [u32], o: usize, nc: usize, k: usize, v: u32)
 fn join_slot(rows: &[u32], scratch: &mut [u32], nc: usize, k: usize)
     requires { ⌜ Exact (now scratch) nc (now rows) k ⌝ }
     requires { ⌜ k < slotsOf (length (now rows)) ⌝ }
-    requires { ⌜ nodeAt (now rows) k < nc ⌝ }
+    requires { ⌜ namedAt (now rows) k < nc ⌝ }
     ensures notes { λ _. ⌜ take (indexAt nc (length (now (rows .entry)))) (now (scratch .exit)) ≡ take (indexAt nc (length (now (rows .entry)))) (now (scratch .entry)) ⌝ }
     ensures exact { λ _. ⌜ Exact (now (scratch .exit)) nc (now (rows .entry)) (k + 1) ⌝ }
 {

@@ -1,9 +1,14 @@
 -- The order of ℤ: what to name where a proof is by hand. Anything linear is `omega (arith, onℤ)`; a sum, a difference or a product in it wants its line: `sumℤ x y`, `subℤ x y`, `mulℤ x y`.
-use mathlib.Core.Path.{_≡_}
+use mathlib.Core.Bool.{Bool, true, false}
+use mathlib.Core.Logic.{_⊎_, inl, inr}
+use mathlib.Core.Path.{_≡_, refl}
+use Prim.Native.Nat.{zero, suc}
 use native.Mathlib.Omega.{arith}
-use lib.IntN.{ℤ}
-use lib.Signed.{_≤ℤ_, _<ℤ_}
-use Rattle.whole.specs.Diff.{onℤ}
+use lib.IntN.{ℤ, pos, negsuc, _-ℤ_, _*ℤ_}
+use lib.Signed.{ltZ, _≤ℤ_, _<ℤ_}
+use Rattle.whole.specs.Diff.{onℤ, subℤ}
+use Rattle.whole.specs.Ring.{_:-_, _:*_, ring3}
+use Rattle.whole.specs.Tests.{ltZ-true, ltZ-false}
 
 pub le-of-eq : {a b : ℤ} → a ≡ b → a ≤ℤ b
 le-of-eq h = omega (arith, onℤ)
@@ -13,3 +18,55 @@ le-antisymm h i = omega (arith, onℤ)
 
 pub lt-not-le : {a b : ℤ} → a <ℤ b → b ≤ℤ a → ⊥
 lt-not-le h i = omega (arith, onℤ)
+
+-- one of the two, by the test
+lt-or-le : (a b : ℤ) → (a <ℤ b) ⊎ (b ≤ℤ a)
+lt-or-le a b = go (ltZ a b) refl
+  where
+    go : (t : Bool) → ltZ a b ≡ t → (a <ℤ b) ⊎ (b ≤ℤ a)
+    go true e = inl (ltZ-true a b e)
+    go false e = inr (ltZ-false a b e)
+
+-- ---- products by what is not below 0
+
+nonneg-times : (a b : ℤ) → pos 0 ≤ℤ a → pos 0 ≤ℤ b → pos 0 ≤ℤ (a *ℤ b)
+nonneg-times (pos a) (pos b) h i = omega (arith, onℤ)
+nonneg-times (pos a) (negsuc b) h i = absurd (omega (arith, onℤ))
+nonneg-times (negsuc a) b h i = absurd (omega (arith, onℤ))
+
+positive-times : (a b : ℤ) → pos 0 <ℤ a → pos 0 <ℤ b → pos 0 <ℤ (a *ℤ b)
+positive-times (pos zero) b h i = absurd (omega (arith, onℤ))
+positive-times (pos (suc a)) (pos zero) h i = absurd (omega (arith, onℤ))
+positive-times (pos (suc a)) (pos (suc b)) h i = omega (arith, onℤ)
+positive-times (pos (suc a)) (negsuc b) h i = absurd (omega (arith, onℤ))
+positive-times (negsuc a) b h i = absurd (omega (arith, onℤ))
+
+difference : (a b d : ℤ) → b *ℤ d -ℤ a *ℤ d ≡ (b -ℤ a) *ℤ d
+difference a b d = ring3 (λ a b d. (b :* d :- a :* d, (b :- a) :* d)) a b d tt
+
+pub scale-le : (d a b : ℤ) → pos 0 ≤ℤ d → a ≤ℤ b → (a *ℤ d) ≤ℤ (b *ℤ d)
+scale-le d a b h l =
+    let p = nonneg-times (b -ℤ a) d (omega (arith, onℤ, subℤ b a)) h in
+    let q : pos 0 ≤ℤ (b *ℤ d -ℤ a *ℤ d) = rw (difference a b d) p in
+    omega (arith, onℤ, subℤ (b *ℤ d) (a *ℤ d))
+
+pub scale-lt : (d a b : ℤ) → pos 0 <ℤ d → a <ℤ b → (a *ℤ d) <ℤ (b *ℤ d)
+scale-lt d a b h l =
+    let p = positive-times (b -ℤ a) d (omega (arith, onℤ, subℤ b a)) h in
+    let q : pos 0 <ℤ (b *ℤ d -ℤ a *ℤ d) = rw (difference a b d) p in
+    omega (arith, onℤ, subℤ (b *ℤ d) (a *ℤ d))
+
+-- what is above 0 cancels
+pub unscale-le : (d a b : ℤ) → pos 0 <ℤ d → (a *ℤ d) ≤ℤ (b *ℤ d) → a ≤ℤ b
+unscale-le d a b h l = go (lt-or-le b a)
+  where
+    go : (b <ℤ a) ⊎ (a ≤ℤ b) → a ≤ℤ b
+    go (inl k) = absurd (lt-not-le (scale-lt d b a h k) l)
+    go (inr k) = k
+
+pub unscale-lt : (d a b : ℤ) → pos 0 <ℤ d → (a *ℤ d) <ℤ (b *ℤ d) → a <ℤ b
+unscale-lt d a b h l = go (lt-or-le a b)
+  where
+    go : (a <ℤ b) ⊎ (b ≤ℤ a) → a <ℤ b
+    go (inl k) = k
+    go (inr k) = absurd (lt-not-le l (scale-le d b a (omega (arith, onℤ)) k))

@@ -230,7 +230,19 @@ ring6 q a b c d e f t = by-check (a ∷ b ∷ c ∷ d ∷ e ∷ f ∷ []) (q (X 
 pub ring8 : (q : Expr → Expr → Expr → Expr → Expr → Expr → Expr → Expr → Expr × Expr) (a b c d e f g h : ℤ) → Checks (a ∷ b ∷ c ∷ d ∷ e ∷ f ∷ g ∷ h ∷ []) (q (X 0) (X 1) (X 2) (X 3) (X 4) (X 5) (X 6) (X 7)) → Holds (a ∷ b ∷ c ∷ d ∷ e ∷ f ∷ g ∷ h ∷ []) (q (X 0) (X 1) (X 2) (X 3) (X 4) (X 5) (X 6) (X 7))
 ring8 q a b c d e f g h t = by-check (a ∷ b ∷ c ∷ d ∷ e ∷ f ∷ g ∷ h ∷ []) (q (X 0) (X 1) (X 2) (X 3) (X 4) (X 5) (X 6) (X 7)) t
 
+pub ring9 : (q : Expr → Expr → Expr → Expr → Expr → Expr → Expr → Expr → Expr → Expr × Expr) (a b c d e f g h i : ℤ) → Checks (a ∷ b ∷ c ∷ d ∷ e ∷ f ∷ g ∷ h ∷ i ∷ []) (q (X 0) (X 1) (X 2) (X 3) (X 4) (X 5) (X 6) (X 7) (X 8)) → Holds (a ∷ b ∷ c ∷ d ∷ e ∷ f ∷ g ∷ h ∷ i ∷ []) (q (X 0) (X 1) (X 2) (X 3) (X 4) (X 5) (X 6) (X 7) (X 8))
+ring9 q a b c d e f g h i t = by-check (a ∷ b ∷ c ∷ d ∷ e ∷ f ∷ g ∷ h ∷ i ∷ []) (q (X 0) (X 1) (X 2) (X 3) (X 4) (X 5) (X 6) (X 7) (X 8)) t
+
+pub ring10 : (q : Expr → Expr → Expr → Expr → Expr → Expr → Expr → Expr → Expr → Expr → Expr × Expr) (a b c d e f g h i j : ℤ) → Checks (a ∷ b ∷ c ∷ d ∷ e ∷ f ∷ g ∷ h ∷ i ∷ j ∷ []) (q (X 0) (X 1) (X 2) (X 3) (X 4) (X 5) (X 6) (X 7) (X 8) (X 9)) → Holds (a ∷ b ∷ c ∷ d ∷ e ∷ f ∷ g ∷ h ∷ i ∷ j ∷ []) (q (X 0) (X 1) (X 2) (X 3) (X 4) (X 5) (X 6) (X 7) (X 8) (X 9))
+ring10 q a b c d e f g h i j t = by-check (a ∷ b ∷ c ∷ d ∷ e ∷ f ∷ g ∷ h ∷ i ∷ j ∷ []) (q (X 0) (X 1) (X 2) (X 3) (X 4) (X 5) (X 6) (X 7) (X 8) (X 9)) t
+
 -- ---- with equations as hypotheses (Lean's `linear_combination`): a - b is c times what one equation's sides differ by, and d times the other's
+none₁ : (a b c r : ℤ) → a -ℤ b ≡ c *ℤ (r -ℤ r) → a ≡ b
+none₁ a b c r = rw (rep a, rep b, rep c, rep r) (simp diffs (omega arith))
+
+pub combine₁ : {a b l r : ℤ} (c : ℤ) → l ≡ r → a -ℤ b ≡ c *ℤ (l -ℤ r) → a ≡ b
+combine₁ {a} {b} {l} {r} c h e = none₁ a b c r (rw h at e)
+
 none₂ : (a b c r d s : ℤ) → a -ℤ b ≡ c *ℤ (r -ℤ r) +ℤ d *ℤ (s -ℤ s) → a ≡ b
 none₂ a b c r d s = rw (rep a, rep b, rep c, rep r, rep d, rep s) (simp diffs (omega arith))
 

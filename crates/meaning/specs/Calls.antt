@@ -1,16 +1,18 @@
--- Document 01, 'What a call says', W2 and W5: for each call, what it says of a mesh, and one outcome for any tables. Assumes nothing.
+-- Document 01, 'What a call says', W2, W5 and W6: for each call, what it says of a mesh, and one outcome for any tables. Assumes nothing.
 use mathlib.Core.Bool.{Bool, true, false, _&&_}
-use mathlib.Core.List.{List, [], _∷_}
+use mathlib.Core.List.{List}
 use Prim.Native.Nat.{ℕ, zero, suc, _+_, _*_, _%_}
 use lib.Dec.{eqb, leb}
-use lib.IntN.{pos}
+use lib.IntN.{ℤ, pos}
 use lib.ListN.{length}
-use Rattle.lists.specs.Lists.{all, cases}
-use Rattle.meaning.specs.Mesh.{Correction, Mesh}
+use Rattle.lists.specs.Lists.{all, cases, isFound}
+use Rattle.meaning.specs.declared.Told.{Told}
+use Rattle.meaning.specs.Mesh.{Place, Correction, Mesh, correction}
 use Rattle.meaning.specs.Lawful.{faultOf, refusal, compatible}
 use Rattle.meaning.specs.Split.{Way, splitEdges, started, refined, halves}
 use Rattle.meaning.specs.Coarsen.{coarsened, restored}
 use Rattle.meaning.specs.Setting.{corrected, setFault}
+use Rattle.meaning.specs.Asking.{rowHolding, correctionAt}
 use Rattle.meaning.specs.Tables.{Given, Outcome, Room, outcome, answer, nodeForm, rowForm, meshOf, roomOf, flatNodes, flatRows, filled, cleared}
 
 -- ---- of a mesh
@@ -86,6 +88,24 @@ restores n0 m = says (refusal m) m (restored n0 m .end) (restored n0 m .passes)
 unfoldable pub sets : ℕ → Mesh → ℕ → Correction → Reply
 sets n0 m z c = saysOf (setFault n0 m z c .number) (setFault n0 m z c .at) m (corrected m z c) 0
 
+-- ---- a question about a point
+
+-- "After 1 and 3 to 7, refuse as 14 exactly if no triangle holds the point"
+unfoldable pub askNo : Mesh → Place → ℕ
+askNo m P = orElse (refusal m) (unless (isFound (rowHolding m P)) 14 0)
+
+-- what is told, part by part
+abbrev pub toldAs : ℕ → ℤ → ℤ → ℕ → Told
+toldAs k x y c = record { number = k; correction = correction x y; culprit = c }
+
+-- number k, the culprit c; "any refusal gives 0, 0"
+abbrev pub told : ℕ → ℕ → Correction → Told
+told zero c v = record { number = 0; correction = v; culprit = 0 }
+told (suc k) c v = toldAs (suc k) (pos 0) (pos 0) c
+
+unfoldable pub asks : Mesh → Place → Told
+asks m P = told (askNo m P) (culpritOf m (askNo m P)) (correctionAt m P)
+
 -- ---- of tables
 
 -- not 1: "a table length is not a multiple of its row, a room or count breaks the sizes above, or scratch is short"
@@ -135,3 +155,17 @@ restoreOut g n0 = sized g n0 (leaves g (restores n0 (meshOf g)))
 
 unfoldable pub setOut : Given → ℕ → ℕ → Correction → Outcome
 setOut g n0 z c = sized g n0 (leaves g (sets n0 (meshOf g) z c))
+
+-- what a question leaves: what it is told, and every table; it is lent nodes and rows to read alone
+pub record Heard : Type 0 where
+  pub told : Told
+  pub nodes : List ℤ
+  pub rows : List ℕ
+  pub scratch : List ℕ
+
+abbrev pub heard : Told → List ℤ → List ℕ → List ℕ → Heard
+heard a ns rs s = record { told = a; nodes = ns; rows = rs; scratch = s }
+
+-- W6: the correction at the point P
+unfoldable pub askOut : Given → ℕ → Place → Heard
+askOut g n0 P = heard (cases (sizesFit g n0) (asks (meshOf g) P) (told 1 0 (correction (pos 0) (pos 0)))) (g .nodes) (g .rows) (cleared (g .scratch))

@@ -6,14 +6,16 @@ use Prim.Native.Nat.{ℕ}
 use lib.IntN.{pos}
 use lib.ListN.{replicate}
 use Rattle.lists.specs.Search.{lowest, lowestFrom, items, itemsFrom}
-use Rattle.meaning.specs.Mesh.{correction, twiceArea}
+use Rattle.meaning.specs.declared.Told.{Told}
+use Rattle.meaning.specs.Mesh.{place, correction, twiceArea}
 use Rattle.meaning.specs.Lawful.{refusal, compatible, faultOf, firstOutside, firstMisnamed, firstRepeat, firstFlat, firstUnused, firstClash}
 use Rattle.meaning.specs.Split.{newest, allThree, closure, splitEdges, splitAt, split, refined}
 use Rattle.meaning.specs.Good.{pairs, span, G1-4, good}
 use Rattle.meaning.specs.Setting.{corrected, setFault}
+use Rattle.meaning.specs.Asking.{weighted, weights, meanIn, rowHolding, correctionAt}
 use Rattle.meaning.specs.Coarsen.{taken, without, coarsened, goodNodes, pass, restored}
 use Rattle.meaning.specs.Tables.{Given, Outcome, given, outcome, answer, nodeAt, rowAt, meshOf}
-use Rattle.meaning.specs.Calls.{culpritOf, checkNo, refineNo, coarsenNo, checks, refines, coarsens, restores, sets, sizesFit, checkOut, refineOut, coarsenOut, restoreOut, setOut}
+use Rattle.meaning.specs.Calls.{culpritOf, checkNo, refineNo, coarsenNo, checks, refines, coarsens, restores, sets, sizesFit, checkOut, refineOut, coarsenOut, restoreOut, setOut, askNo, told, asks, Heard, heard, askOut}
 
 record Row : Type 0 where
   got : Outcome
@@ -144,3 +146,25 @@ outcomes =
 hand-tables : map (λ r. r .got) outcomes ≡ map (λ r. r .expected) outcomes
 unfolding outcomes wrong lent said blamed square middle grown spare two wide four six outside misnamed repeated beyond turned _is_ lowest lowestFrom items itemsFrom nodeAt rowAt meshOf twiceArea firstOutside firstMisnamed firstRepeat firstFlat firstUnused firstClash faultOf refusal compatible closure splitEdges splitAt split refined pairs span G1-4 good taken without coarsened goodNodes pass restored culpritOf checkNo refineNo coarsenNo checks refines coarsens restores sizesFit checkOut refineOut coarsenOut restoreOut corrected setFault sets setOut
 hand-tables = refl
+
+-- W6: what a question leaves: nodes and rows as they were, past the counts too
+left : Told → List ℕ → List ℕ → ℕ → Heard
+left a ns rs c = heard a (map pos ns) rs (replicate c 0)
+
+-- asked of the square, and told
+questions : List (Heard × Heard)
+questions =
+    -- weights 32, 16, 16: 304/64 and 80/64
+    (askOut (lent spare wide 40 4 2) 4 (place (pos 6) (pos 2)), left (told 0 0 (correction (pos 4) (pos 1))) spare wide 40) ∷
+    (askOut (lent spare wide 40 4 2) 0 (place (pos 9) (pos 2)), left (told 14 0 (correction (pos 0) (pos 0))) spare wide 40) ∷
+    -- 1 comes first, then 3 to 7, whatever the point
+    (askOut (lent outside wide 39 4 2) 4 (place (pos 6) (pos 2)), left (told 1 0 (correction (pos 0) (pos 0))) outside wide 39) ∷
+    (askOut (lent spare wide 40 4 2) 5 (place (pos 6) (pos 2)), left (told 1 0 (correction (pos 0) (pos 0))) spare wide 40) ∷
+    (askOut (lent spare wide 40 6 2) 4 (place (pos 9) (pos 2)), left (told 1 0 (correction (pos 0) (pos 0))) spare wide 40) ∷
+    (askOut (lent outside wide 40 4 2) 4 (place (pos 6) (pos 2)), left (told 3 1 (correction (pos 0) (pos 0))) outside wide 40) ∷
+    (askOut (lent spare turned 40 4 2) 4 (place (pos 9) (pos 2)), left (told 6 1 (correction (pos 0) (pos 0))) spare turned 40) ∷
+    []
+
+hand-questions : map (λ r. r .0) questions ≡ map (λ r. r .1) questions
+unfolding questions left lent square spare two wide outside turned lowest lowestFrom items itemsFrom nodeAt rowAt meshOf twiceArea firstOutside firstMisnamed firstRepeat firstFlat firstUnused faultOf refusal culpritOf sizesFit weighted weights meanIn rowHolding correctionAt askNo asks askOut
+hand-questions = refl

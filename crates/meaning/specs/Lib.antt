@@ -1,10 +1,12 @@
--- Document 01 as definitions. Read Mesh, Lawful, Split, Good, Coarsen, Setting, Tables, Calls in this order; then the hand meshes.
+-- Document 01 as definitions. Read Mesh, Lawful, Rounding, Split, Good, Coarsen, Setting, Asking, Tables, Calls in this order; then the hand meshes.
 pub mod Mesh
 pub mod Lawful
+pub mod Rounding
 pub mod Split
 pub mod Good
 pub mod Coarsen
 pub mod Setting
+pub mod Asking
 pub mod Tables
 pub mod Calls
 pub mod HandCase
@@ -13,4 +15,5 @@ pub mod OwnMeshes
 pub mod QuarterMeshes
 pub mod CulpritMeshes
 pub mod SettingMeshes
+pub mod AskingMeshes
 pub mod HandTables

@@ -3,9 +3,9 @@
 use mathlib.Core.Bool.{Bool, true, false, not, _&&_}
 use mathlib.Core.List.{List, [], _∷_, _++_, map}
 use mathlib.Core.Option.{Option, none, some}
-use Prim.Native.Nat.{ℕ, zero, suc, _+_, _/_, _%_}
+use Prim.Native.Nat.{ℕ, zero, suc, _+_, _%_}
 use lib.Dec.{eqb}
-use lib.IntN.{ℤ, pos, negsuc, _+ℤ_, natAbs}
+use lib.IntN.{ℤ, pos, _+ℤ_, natAbs}
 use lib.Signed.{quotZ}
 use lib.ListN.{length}
 use Rattle.lists.specs.declared.Found.{Found}
@@ -13,6 +13,7 @@ use Rattle.lists.specs.declared.Found.the-variants.{At, Nothing}
 use Rattle.lists.specs.Lists.{any, only, once, first, whereFirst, joined, All}
 use Rattle.meaning.specs.declared.Manner.{Manner}
 use Rattle.meaning.specs.declared.Manner.the-variants.{Newest, AllThree}
+use Rattle.meaning.specs.Rounding.{floor}
 use Rattle.meaning.specs.Mesh.{Place, Correction, Node, Tri, Mesh, Edge, place, correction, node, tri, edge, edges, base, sameEdge, nodeOf, at, mesh}
 
 -- ---- the split edges
@@ -73,14 +74,9 @@ halves m e = even (at m (e .lo) .x +ℤ at m (e .hi) .x) && even (at m (e .lo) .
 abbrev pub midpoint : Mesh → Edge → Place
 midpoint m e = place (half (at m (e .lo) .x +ℤ at m (e .hi) .x)) (half (at m (e .lo) .y +ℤ at m (e .hi) .y))
 
--- half, rounded down: −3 gives −2 (its bounds: `floor-half` in crates/laws/specs/Mean.antt)
-abbrev pub halfDown : ℤ → ℤ
-halfDown (pos n) = pos (n / 2)
-halfDown (negsuc n) = negsuc (n / 2)
-
 -- W5: "the mean of the two ends, rounded down (−3 and 0 give −2)"
 abbrev pub mean : Correction → Correction → Correction
-mean c d = correction (halfDown (c .dx +ℤ d .dx)) (halfDown (c .dy +ℤ d .dy))
+mean c d = correction (floor (c .dx +ℤ d .dx) (pos 2)) (floor (c .dy +ℤ d .dy) (pos 2))
 
 -- the node that a split edge gets
 abbrev pub newNode : Mesh → Edge → Node

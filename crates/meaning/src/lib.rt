@@ -60,3 +60,10 @@ pub struct Answer {
     pub passes: usize,
     pub culprit: usize,
 }
+
+// W6: what a question about a point is told: a number, the correction there, 0 and 0 with any number but 0, and the culprit, as of any call.
+pub struct Told {
+    pub number: u32,
+    pub correction: Correction,
+    pub culprit: usize,
+}

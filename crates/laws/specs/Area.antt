@@ -1,21 +1,21 @@
 -- Laws of the twice-area and of midpoints. Assumes nothing.
 use mathlib.Core.Bool.{Bool, true, false}
-use mathlib.Core.Path.{_≡_, refl, sym, ap, subst₂, _∙_}
+use mathlib.Core.Path.{_≡_, refl, subst₂, _∙_}
 use Prim.Native.Nat.{ℕ, min, max, _+_, _≤_}
 use native.Mathlib.Omega.{arith}
 use lib.Dec.{leb}
-use lib.IntN.{ℤ, pos, negsuc, negℤ, natAbs, _+ℤ_, _-ℤ_, _*ℤ_, +ℤ-comm}
+use lib.IntN.{ℤ, pos, negsuc, negℤ, natAbs, _+ℤ_, _-ℤ_, +ℤ-comm}
 use lib.Signed.{_<ℤ_}
 use borrow.Author.Tests.{leb-true, leb-false}
 use Rattle.whole.specs.Diff.{onℤ, sumℤ}
 use Rattle.whole.specs.Bound.{abs-add}
 use Rattle.whole.specs.Ring.{Expr, _:+_, _:-_, _:*_, neg, ring6, ring8, combine₂}
 use Rattle.meaning.specs.declared.Place.{Place}
-use Rattle.meaning.specs.Mesh.{Mesh, place, at, turn}
+use Rattle.meaning.specs.Mesh.{Mesh, at, turn}
 use Rattle.meaning.specs.Good.{Middle}
 
 -- turn, as an expression of the solver
-abbrev Turn : Expr → Expr → Expr → Expr → Expr → Expr → Expr
+abbrev pub Turn : Expr → Expr → Expr → Expr → Expr → Expr → Expr
 Turn px py qx qy rx ry = (qx :- px) :* (ry :- py) :- (rx :- px) :* (qy :- py)
 
 pub turn-cycle : (P Q R : Place) → turn P Q R ≡ turn Q R P

@@ -1,28 +1,30 @@
 -- What any call leaves in the tables it was lent: 1 exactly if the sizes do not fit, else its number for the mesh; the culprit that the number
 -- names; after 0 the tables hold the new mesh and zeros past it; refused, they are as they were. Assumes nothing.
 use mathlib.Core.Bool.{Bool, true, false, _&&_}
-use mathlib.Core.List.{List, _++_}
+use mathlib.Core.List.{List}
 use mathlib.Core.Logic.{_↔_, _≢_, inl}
 use mathlib.Core.Path.{_≡_, refl, sym, subst, ap, _∙_}
-use Prim.Native.Nat.{ℕ, zero, suc, _+_, _-_, _*_, _/_, _%_, _≤_, _<_}
+use Prim.Native.Nat.{ℕ, zero, suc, _+_, _-_, _*_, _%_, _≤_}
 use native.Mathlib.Omega.{arith}
 use borrow.Author.Tests.{eqb-true, eq-eqb, leb-true, le-leb}
-use lib.IntN.{ℤ, pos}
+use lib.IntN.{pos}
 use lib.ListN.{length, getD, replicate}
 use lib.Seq.{getD-append-add}
 use Rattle.lists.specs.Lists.{cases}
 use Rattle.lists.specs.ListsLaw.{and-left, and-right}
 use Rattle.meaning.specs.declared.Correction.{Correction}
-use Rattle.meaning.specs.Mesh.{Mesh}
+use Rattle.meaning.specs.declared.Place.{Place}
+use Rattle.meaning.specs.Mesh.{Mesh, correction}
 use Rattle.meaning.specs.Tables.{Given, Outcome, nodeForm, rowForm, meshOf, roomOf, flatNodes, flatRows, filled, cleared}
 use Rattle.meaning.specs.Lawful.{Names, names-none, refusal}
 use Rattle.meaning.specs.Split.{Way, refined}
 use Rattle.meaning.specs.Coarsen.{coarsened, restored}
 use Rattle.meaning.specs.Setting.{corrected, setFault, SetNames, names-stored}
-use Rattle.meaning.specs.Calls.{marksFit, culpritOf, saysOf, says, checkNo, refineNo, coarsenNo, refines, coarsens, restores, sets, sizesFit, untouched, done, leaves, sized, checkOut, refineOut, coarsenOut, restoreOut, setOut}
+use Rattle.meaning.specs.Asking.{correctionAt}
+use Rattle.meaning.specs.Calls.{marksFit, culpritOf, saysOf, says, checkNo, refineNo, coarsenNo, refines, coarsens, restores, sets, sizesFit, untouched, done, leaves, sized, checkOut, refineOut, coarsenOut, restoreOut, setOut, askNo, told, asks, Heard, askOut}
 use Rattle.laws.specs.Exact.{unfit}
 use Rattle.laws.specs.Marks.{marks-exact, ones-fit}
-use Rattle.laws.specs.Culprit.{Due, names-exact, culprit-names, culprit-none, check-due, refine-due, coarsen-due, restore-due}
+use Rattle.laws.specs.Culprit.{Due, names-exact, culprit-names, culprit-none, check-due, refine-due, coarsen-due, restore-due, ask-due}
 use Rattle.laws.specs.Setting.{corrected-count, corrected-places, set-names, set-nobody}
 use Rattle.laws.specs.TableMesh.{nodes-count, rows-count, flat-nodes-length, flat-rows-length, tablesAfter, done-mesh, done-nodes, done-rows}
 
@@ -96,7 +98,7 @@ pub data Says (g : Given) (n0 : ℕ) (Of : ℕ → Type 0) : ℕ → Type 0 wher
   of-mesh : (k : ℕ) → Sizes g n0 → Of k → Says g n0 Of k
 
 module _ (g : Given) (n0 k : ℕ) where
-  says-exact : (Of : ℕ → Type 0) → ((j : ℕ) → (k ≡ j) ↔ Of j) → (j : ℕ) → (cases (sizesFit g n0) k 1 ≡ j) ↔ Says g n0 Of j
+  pub says-exact : (Of : ℕ → Type 0) → ((j : ℕ) → (k ≡ j) ↔ Of j) → (j : ℕ) → (cases (sizesFit g n0) k 1 ≡ j) ↔ Says g n0 Of j
   says-exact Of exact j = (λ e. go (sizesFit g n0) refl e, back)
     where
       go : (b : Bool) → sizesFit g n0 ≡ b → cases b k 1 ≡ j → Says g n0 Of j
@@ -107,7 +109,7 @@ module _ (g : Given) (n0 k : ℕ) where
       back (ill-sized n) = rw (sizes-unfit g n0 .1 n)
       back (of-mesh j s h) = rw (sizes-exact g n0 .1 s) (exact j .1 h)
 
-  says-1 : k ≢ 1 → (cases (sizesFit g n0) k 1 ≡ 1) ↔ (¬ Sizes g n0)
+  pub says-1 : k ≢ 1 → (cases (sizesFit g n0) k 1 ≡ 1) ↔ (¬ Sizes g n0)
   says-1 n = (λ e s. n (rw (sizes-exact g n0 .1 s) at e), λ u. rw (sizes-unfit g n0 .1 u))
 
 -- ---- the tables
@@ -262,6 +264,43 @@ said-names g n0 {k} due e f = rw (e, f) (go (sizesFit g n0))
     go : (b : Bool) → Names (meshOf g) (cases b k 1) (cases b (culpritOf (meshOf g) k) 0)
     go true = culprit-names (meshOf g) k due
     go false = names-none 1 (inl (omega arith))
+
+-- W6: a question leaves every table but scratch, and is told 1 where the sizes do not fit, else what it is told of the mesh
+pub record AskLeaves (g : Given) (n0 : ℕ) (P : Place) (o : Heard) : Type 0 where
+  pub told-is : o .told ≡ cases (sizesFit g n0) (asks (meshOf g) P) (told 1 0 (correction (pos 0) (pos 0)))
+  pub ask-number : o .told .number ≡ cases (sizesFit g n0) (askNo (meshOf g) P) 1
+  pub ask-names : Names (meshOf g) (o .told .number) (o .told .culprit)
+  pub nodes-same : o .nodes ≡ g .nodes
+  pub rows-same : o .rows ≡ g .rows
+  pub scratch-zero : o .scratch ≡ cleared (g .scratch)
+
+told-number : (k c : ℕ) (v : Correction) → told k c v .number ≡ k
+told-number zero c v = refl
+told-number (suc k) c v = refl
+
+pub ask-leaves : (g : Given) (n0 : ℕ) (P : Place) → AskLeaves g n0 P (askOut g n0 P)
+unfolding askOut asks
+ask-leaves g n0 P = record {
+  told-is = refl;
+  ask-number = number (sizesFit g n0);
+  ask-names = names (sizesFit g n0) (askNo (meshOf g) P) refl;
+  nodes-same = refl;
+  rows-same = refl;
+  scratch-zero = refl;
+}
+  where
+    m : Mesh
+    m = meshOf g
+
+    number : (b : Bool) → cases b (told (askNo m P) (culpritOf m (askNo m P)) (correctionAt m P)) (told 1 0 (correction (pos 0) (pos 0))) .number ≡ cases b (askNo m P) 1
+    number true = told-number (askNo m P) (culpritOf m (askNo m P)) (correctionAt m P)
+    number false = refl
+
+    names : (b : Bool) (k : ℕ) → askNo m P ≡ k →
+        Names m (cases b (told k (culpritOf m k) (correctionAt m P)) (told 1 0 (correction (pos 0) (pos 0))) .number) (cases b (told k (culpritOf m k) (correctionAt m P)) (told 1 0 (correction (pos 0) (pos 0))) .culprit)
+    names true zero e = names-none 0 (inl (omega arith))
+    names true (suc k) e = subst (λ j. Names m j (culpritOf m j)) e (culprit-names m (askNo m P) (ask-due m P))
+    names false k e = names-none 1 (inl (omega arith))
 
 pub check-names : (g : Given) → Names (meshOf g) (checkOut g .answer .number) (checkOut g .answer .culprit)
 check-names g = let c = check-leaves g in said-names g 0 (check-due (meshOf g)) (c .check-number) (c .check-culprit)

@@ -14,13 +14,15 @@ use lib.ListN.{length}
 use borrow.Author.Tests.{eqb-true, eqb-false, eq-eqb}
 use Rattle.lists.specs.declared.Found.{Found}
 use Rattle.lists.specs.declared.Found.the-variants.{At, Nothing}
-use Rattle.lists.specs.Lists.{all, cases, count}
+use Rattle.lists.specs.Lists.{all, cases, count, isFound}
 use Rattle.meaning.specs.declared.Fault.{Fault}
+use Rattle.meaning.specs.declared.Place.{Place}
 use Rattle.meaning.specs.Mesh.{Mesh, nodeOf, holdsNode, twiceArea}
 use Rattle.meaning.specs.Lawful.{NodeInRange, Named, First, Repeats, Other, Names, names-3, names-4, names-5, names-6, names-7, names-none, firstOutside, firstMisnamed, firstRepeat, firstFlat, firstUnused, rowOf, fault, orLater, from4, faultOf, refusal, compatible}
 use Rattle.meaning.specs.Split.{Way, splitEdges, started, halves, refined}
+use Rattle.meaning.specs.Asking.{rowHolding}
 use Rattle.meaning.specs.Tables.{Room}
-use Rattle.meaning.specs.Calls.{culpritOf, unless, orElse, marksFit, fits, checkNo, refineNo, coarsenNo}
+use Rattle.meaning.specs.Calls.{culpritOf, unless, orElse, marksFit, fits, checkNo, refineNo, coarsenNo, askNo}
 use Rattle.laws.specs.Faults.{first-3, first-4, first-5, first-6, first-7}
 
 -- a chain of numbers, whatever they name
@@ -88,7 +90,7 @@ module _ {m : Mesh} where
 
 -- ---- one culprit
 
-first-one : {end : ℕ} {Faulty Sound : ℕ → Type 0} {y z : ℕ} → ((j : ℕ) → Faulty j → Sound j → ⊥) → First end Faulty Sound y → First end Faulty Sound z → y ≡ z
+pub first-one : {end : ℕ} {Faulty Sound : ℕ → Type 0} {y z : ℕ} → ((j : ℕ) → Faulty j → Sound j → ⊥) → First end Faulty Sound y → First end Faulty Sound z → y ≡ z
 first-one {y = y} {z = z} apart a b = go (decLt y z) (decLt z y)
   where
     go : Dec (y < z) → Dec (z < y) → y ≡ z
@@ -161,6 +163,10 @@ module _ (m : Mesh) where
   pub check-due : Due m (checkNo m)
   unfolding checkNo
   check-due = or-else-due _ (unless-due (compatible m) 10 0 (inr (omega arith)) done-due)
+
+  pub ask-due : (P : Place) → Due m (askNo m P)
+  unfolding askNo
+  ask-due P = or-else-due _ (unless-due (isFound (rowHolding m P)) 14 0 (inr (omega arith)) done-due)
 
   pub restore-due : Due m (refusal m)
   restore-due = inl refl

@@ -222,7 +222,7 @@ used-none ts z e = go (count (holdsNode z) ts) refl
 
 -- ---- each search finds the lowest at fault, or all are sound
 
-first-at : {Faulty Sound : ℕ → Type 0} (f : ℕ → Bool) (end : ℕ) → ((j : ℕ) → j < end → f j ≡ true → Faulty j) → ((j : ℕ) → j < end → f j ≡ false → Sound j) →
+pub first-at : {Faulty Sound : ℕ → Type 0} (f : ℕ → Bool) (end : ℕ) → ((j : ℕ) → j < end → f j ≡ true → Faulty j) → ((j : ℕ) → j < end → f j ≡ false → Sound j) →
     (i : ℕ) → lowest f 0 end ≡ At i → First end Faulty Sound i
 first-at f end faulty sound i e =
     let b = lowest-below f end i e in

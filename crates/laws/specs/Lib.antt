@@ -5,11 +5,16 @@ pub mod Lawful
 pub mod Culprit
 pub mod Numbers
 pub mod Exact
+pub mod Late
 pub mod Check
 pub mod Closure
 pub mod Cut
 pub mod Bisected
+pub mod Floor
 pub mod Mean
+pub mod Weights
+pub mod RowMean
+pub mod Asking
 pub mod Midpoints
 pub mod Source
 pub mod SplitLaw

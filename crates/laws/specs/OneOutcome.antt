@@ -1,5 +1,5 @@
 -- A contract that equates the answer and every table after a call with one function's value admits a single outcome: two runs that were
--- given the same show the same number, counts, passes, culprit and tables. Assumes nothing.
+-- given the same show the same number, counts, passes, culprit and tables; W6: and the same correction. Assumes nothing.
 use mathlib.Core.List.{List}
 use mathlib.Core.Path.{_≡_, sym, ap, _∙_}
 use Prim.Native.Nat.{ℕ}
@@ -8,7 +8,9 @@ use Rattle.meaning.specs.declared.Answer.{Answer}
 use Rattle.meaning.specs.Tables.{Given, Outcome, outcome, answer}
 use Rattle.meaning.specs.Split.{Way}
 use Rattle.meaning.specs.declared.Correction.{Correction}
-use Rattle.meaning.specs.Calls.{checkOut, refineOut, coarsenOut, restoreOut, setOut}
+use Rattle.meaning.specs.declared.Place.{Place}
+use Rattle.meaning.specs.declared.Told.{Told}
+use Rattle.meaning.specs.Calls.{checkOut, refineOut, coarsenOut, restoreOut, setOut, toldAs, Heard, heard, askOut}
 
 -- two runs of a call that was given the same, and that meets its contract in both
 pub one-outcome : {given-to : Outcome} {a b : Answer} {ns ns′ : List ℤ} {rs rs′ s s′ : List ℕ} →
@@ -39,6 +41,17 @@ restore-one g n0 = one-outcome
 pub set-one : (g : Given) (n0 z : ℕ) (d : Correction) {a b : Answer} {ns ns′ : List ℤ} {rs rs′ s s′ : List ℕ} →
     outcome a ns rs s ≡ setOut g n0 z d → outcome b ns′ rs′ s′ ≡ setOut g n0 z d → (a ≡ b) × (ns ≡ ns′) × (rs ≡ rs′) × (s ≡ s′)
 set-one g n0 z d = one-outcome
+
+-- W6: what a question is told, and the tables
+heard-one : {given-to : Heard} {a b : Told} {ns ns′ : List ℤ} {rs rs′ s s′ : List ℕ} → heard a ns rs s ≡ given-to → heard b ns′ rs′ s′ ≡ given-to →
+    (a ≡ b) × (ns ≡ ns′) × (rs ≡ rs′) × (s ≡ s′)
+heard-one p q =
+    let e = p ∙ sym q in
+    (ap (λ (o : Heard). o .told) e, ap (λ (o : Heard). o .nodes) e, ap (λ (o : Heard). o .rows) e, ap (λ (o : Heard). o .scratch) e)
+
+pub ask-one : (g : Given) (n0 : ℕ) (P : Place) {a b : Told} {ns ns′ : List ℤ} {rs rs′ s s′ : List ℕ} →
+    heard a ns rs s ≡ askOut g n0 P → heard b ns′ rs′ s′ ≡ askOut g n0 P → (a ≡ b) × (ns ≡ ns′) × (rs ≡ rs′) × (s ≡ s′)
+ask-one g n0 P = heard-one
 
 -- ---- the exported calls, whose answers come apart: r is the number returned; n, t, p and c are what the references hold after the call
 
@@ -81,3 +94,12 @@ pub exported-set-one : (g : Given) (n0 z : ℕ) (d : Correction) {r r′ c c′ 
     outcome (answer r (g .n) (g .t) 0 c) ns rs s ≡ setOut g n0 z d → outcome (answer r′ (g .n) (g .t) 0 c′) ns′ rs′ s′ ≡ setOut g n0 z d →
     (r ≡ r′) × (c ≡ c′) × (ns ≡ ns′) × (rs ≡ rs′) × (s ≡ s′)
 exported-set-one g n0 z d p q = let (r, n, t, k, c, ns, rs, s) = one-seen p q in (r, c, ns, rs, s)
+
+-- x and y are what the references to dx and dy hold after the call
+pub exported-ask-one : (g : Given) (n0 : ℕ) (P : Place) {r r′ c c′ : ℕ} {x x′ y y′ : ℤ} {ns ns′ : List ℤ} {rs rs′ s s′ : List ℕ} →
+    heard (toldAs r x y c) ns rs s ≡ askOut g n0 P →
+    heard (toldAs r′ x′ y′ c′) ns′ rs′ s′ ≡ askOut g n0 P →
+    (r ≡ r′) × (x ≡ x′) × (y ≡ y′) × (c ≡ c′) × (ns ≡ ns′) × (rs ≡ rs′) × (s ≡ s′)
+exported-ask-one g n0 P p q =
+    let (e, ns, rs, s) = heard-one p q in
+    (ap (λ (a : Told). a .number) e, ap (λ (a : Told). a .correction .dx) e, ap (λ (a : Told). a .correction .dy) e, ap (λ (a : Told). a .culprit) e, ns, rs, s)

@@ -1,6 +1,6 @@
 -- DEMAND 2 OF THE CALLS. Every premise on a call is the equation that its contract ensures, so that what is said here holds of any run of
--- the calls themselves: mesh::check, mesh::refine, mesh::quarter, mesh::coarsen, mesh::set_correction (crates/mesh/src/lib.rt) and job::restore
--- (crates/job/src/lib.rt). What `Answers`, `Holds` and `AsGiven` say of tables stands in crates/laws/specs/CallLaw.antt: `Answers` says of every
+-- the calls themselves: mesh::check, mesh::refine, mesh::quarter, mesh::coarsen, mesh::set_correction, mesh::correction_at (crates/mesh/src/lib.rt;
+-- the last in AskCall) and job::restore (crates/job/src/lib.rt). What `Answers`, `Holds` and `AsGiven` say of tables stands in crates/laws/specs/CallLaw.antt: `Answers` says of every
 -- call which number it gives and, W2, which node or row the culprit is (`Names` in crates/meaning/specs/Lawful.antt). Assumes nothing.
 use mathlib.Core.List.{List, [], _∷_, List·Memᴰ}
 use mathlib.Core.Logic.{_↔_, _≢_, _⊎_}
@@ -15,15 +15,17 @@ use Rattle.meaning.specs.declared.Manner.the-variants.{Newest, AllThree}
 use Rattle.meaning.specs.declared.Tri.{Tri}
 use Rattle.meaning.specs.declared.Correction.{Correction}
 use Rattle.meaning.specs.declared.Node.{Node}
+use Rattle.meaning.specs.declared.Place.{Place}
 use Rattle.meaning.specs.Mesh.{Mesh, Edge, tri, node, nodeOf, origin, edges, base}
 use Rattle.meaning.specs.Lawful.{InBounds, Lawful, Lowest, Names, refusal, rowOf}
 use Rattle.meaning.specs.Split.{Way, startsOf, wayOf, newest, allThree, started, refined}
 use Rattle.meaning.specs.Coarsen.{coarsened, restored}
 use Rattle.meaning.specs.Setting.{SetSays, SetNames, corrected, setFault}
 use Rattle.meaning.specs.Tables.{Given, Outcome, nodeForm, rowForm, nodeAt, placeAt, rowAt, meshOf, roomOf}
-use Rattle.meaning.specs.Calls.{culpritOf, checkNo, refineNo, coarsenNo, checkOut, refineOut, coarsenOut, restoreOut, setOut}
+use Rattle.meaning.specs.Calls.{culpritOf, checkNo, refineNo, coarsenNo, checkOut, refineOut, coarsenOut, restoreOut, setOut, Heard, askOut}
 use Rattle.laws.specs.Lawful.{refusal-lawful, refusal-exact, applies-from-3}
-use Rattle.laws.specs.Check.{CheckSays, unlawful-base, check-exact}
+use Rattle.laws.specs.Late.{unlawful-mesh}
+use Rattle.laws.specs.Check.{CheckSays, check-exact}
 use Rattle.laws.specs.Marks.{WellMarked}
 use Rattle.laws.specs.Cut.{CutLaws}
 use Rattle.laws.specs.Bisected.{bisected-laws}
@@ -33,6 +35,7 @@ use Rattle.laws.specs.Restore.{LooksAt, looks-lawful, restored-fewer, restored-
 use Rattle.laws.specs.Setting.{Corrected, set-exact, set-not-1, set-0, set-13, set-15, set-done}
 use Rattle.laws.specs.TableMesh.{nodes-count, rows-count, tablesAfter}
 use Rattle.laws.specs.CallLaw.{Sizes, sizes-exact, AsGiven, Holds, AnswersBy, Answers, CallLeaves, call-answers, done-holds, check-leaves, refine-leaves, coarsen-leaves, restore-leaves, set-leaves, check-names, refine-names, coarsen-names, restore-names, set-call-names, set-counts, restore-refused}
+use Rattle.demands.specs.AskCall.{AskMade, ask-call}
 use Rattle.demands.specs.InFour.{InFour, marked-in-four}
 
 -- ---- what a user finds
@@ -141,7 +144,7 @@ check-call g o e =
     })
   where
     not-1 : ¬ CheckSays (meshOf g) 1
-    not-1 (unlawful-base k above l) = no-1 (meshOf g) l
+    not-1 (unlawful-mesh k above l) = no-1 (meshOf g) l
 
 -- REFINE, for any way whose cut has the laws of a cut, and that starts with edges of the marked triangles.
 module _ (w : Way) (laws : CutLaws (w .cutting)) (own : (t : Tri) → All (λ e. List·Memᴰ e (edges t)) (w .starts t)) where
@@ -314,6 +317,8 @@ pub record Demand2 : Type 1 where
   pub of-restore : (g : Given) (n0 : ℕ) (o : Outcome) → o ≡ restoreOut g n0 → RestoreMade g n0 o
   -- W5: "A job may set the correction of an added node"
   pub of-set : (g : Given) (n0 z : ℕ) (c : Correction) (o : Outcome) → o ≡ setOut g n0 z c → SetMade g n0 z c o
+  -- W6: "The raster side asks for the correction at a given point."
+  pub of-question : (g : Given) (n0 : ℕ) (P : Place) (o : Heard) → o ≡ askOut g n0 P → AskMade g n0 P o
 
 pub demand2-calls : Demand2
-demand2-calls = record { of-check = check-call; of-refine = manner-call Newest; of-quarter = manner-call AllThree; cut-in-four = quarter-in-four; of-coarsen = coarsen-call; of-restore = restore-call; of-set = set-call }
+demand2-calls = record { of-check = check-call; of-refine = manner-call Newest; of-quarter = manner-call AllThree; cut-in-four = quarter-in-four; of-coarsen = coarsen-call; of-restore = restore-call; of-set = set-call; of-question = ask-call }

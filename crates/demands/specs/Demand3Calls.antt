@@ -1,6 +1,6 @@
 -- DEMAND 3 OF THE CALLS. Every premise on a call is the equation that its contract ensures, so that what is said here holds of any run of
--- the calls themselves: mesh::check, mesh::refine, mesh::quarter, mesh::coarsen, mesh::set_correction (crates/mesh/src/lib.rt) and
--- job::restore (crates/job/src/lib.rt). W1: "Demand 3 then covers sequences that mix both ways." W5: it "now includes in the sequence accepted settings
+-- the calls themselves: mesh::check, mesh::refine, mesh::quarter, mesh::coarsen, mesh::set_correction, mesh::correction_at (crates/mesh/src/lib.rt)
+-- and job::restore (crates/job/src/lib.rt). W1: "Demand 3 then covers sequences that mix both ways." W5: it "now includes in the sequence accepted settings
 -- made with the base's node count, and refused settings, and base rows come back with their corrections." Assumes nothing.
 use mathlib.Core.Bool.{Bool, true, false}
 use mathlib.Core.List.{List}
@@ -14,8 +14,9 @@ use Rattle.lists.specs.Lists.{cases}
 use Rattle.meaning.specs.declared.Correction.{Correction}
 use Rattle.meaning.specs.Split.{Way, bisected}
 use Rattle.meaning.specs.Coarsen.{restored}
-use Rattle.meaning.specs.Tables.{Given, Outcome, given, meshOf, roomOf}
-use Rattle.meaning.specs.Calls.{sizesFit, checkOut, refineOut, coarsenOut, restoreOut, setOut}
+use Rattle.meaning.specs.declared.Place.{Place}
+use Rattle.meaning.specs.Tables.{Given, Outcome, given, meshOf, roomOf, cleared}
+use Rattle.meaning.specs.Calls.{sizesFit, checkOut, refineOut, coarsenOut, restoreOut, setOut, Heard, askOut}
 use Rattle.laws.specs.TableMesh.{tablesAfter}
 use Rattle.growth.specs.Demand3.{Removals, TablesReached, begin, lent, refined-by, coarsened-by, set-by, restored-by, refused-by, checked-by, a-refine, a-coarsen, a-set, a-restore, still, baseAgain, Restores, demand3-tables}
 
@@ -45,6 +46,9 @@ pub data Held (g₀ : Given) : Given → Type 0 where
   -- a refused call of any kind, with whatever counts, n0, marks or correction, and scratch: the counts held stay
   after-refusal : {g : Given} → Held g₀ g → (scratch : List ℕ) (n t : ℕ) (o : Outcome) → Made (given (g .nodes) (g .rows) scratch n t) o → o .answer .number ≢ 0 →
       Held g₀ (still g o)
+  -- W6: a question, answered or refused, with whatever counts, n0 and scratch, about whatever point
+  after-question : {g : Given} → Held g₀ g → (scratch : List ℕ) (n t n0 : ℕ) (P : Place) (o : Heard) → o ≡ askOut (given (g .nodes) (g .rows) scratch n t) n0 P →
+      Held g₀ (given (o .nodes) (o .rows) (o .scratch) (g .n) (g .t))
 
 -- What the user then finds.
 pub record Ends (g₀ g : Given) : Type 0 where
@@ -56,6 +60,8 @@ pub record Ends (g₀ g : Given) : Type 0 where
   pub scratch-alone : sizesFit g (g₀ .n) ≡ leb (4 * (roomOf g₀ .nodes + roomOf g₀ .rows)) (length (g .scratch))
   -- else it ends with the base row for row: node table with its corrections, triangle table, counts, zeros past them, scratch zero
   pub base-again : (o : Outcome) → o ≡ restoreOut g (g₀ .n) → o .answer .number ≡ 0 → o ≡ baseAgain g₀ g
+  -- the mesh in the tables is the base's
+  pub mesh-again : (o : Outcome) → o ≡ restoreOut g (g₀ .n) → o .answer .number ≡ 0 → meshOf (tablesAfter o) ≡ meshOf g₀
   -- after no more passes than there were added nodes
   pub passes-bounded : (o : Outcome) → o ≡ restoreOut g (g₀ .n) → o .answer .number ≡ 0 → o .answer .passes + g₀ .n ≤ g .n
   -- and it reports their true number: so many full passes, each of which removed a node, lead to the base
@@ -64,6 +70,7 @@ pub record Ends (g₀ g : Given) : Type 0 where
 -- ---- the proof: each call's outcome is the definition's, by its contract
 
 held-reached : (g₀ : Given) {g : Given} → Held g₀ g → TablesReached g₀ g
+unfolding askOut
 held-reached g₀ base-held = begin
 held-reached g₀ (scratch-anew h scratch) = lent (held-reached g₀ h) scratch
 held-reached g₀ (after-refine {g = g} h w cuts marks o e z) =
@@ -82,6 +89,8 @@ held-reached g₀ (after-refusal {g = g} h scratch n t o m z) = go m (held-reach
     go (coarsen-made n0 marks e) l = subst (λ x. TablesReached g₀ (still g x)) (sym e) (refused-by l scratch n t (a-coarsen n0 marks) (λ y. z (ap (λ x. x .answer .number) e ∙ y)))
     go (set-made n0 y c e) l = subst (λ x. TablesReached g₀ (still g x)) (sym e) (refused-by l scratch n t (a-set n0 y c) (λ y. z (ap (λ x. x .answer .number) e ∙ y)))
     go (restore-made n0 e) l = subst (λ x. TablesReached g₀ (still g x)) (sym e) (refused-by l scratch n t (a-restore n0) (λ y. z (ap (λ x. x .answer .number) e ∙ y)))
+held-reached g₀ (after-question {g = g} h scratch n t n0 P o e) =
+    subst (λ x. TablesReached g₀ (given (x .nodes) (x .rows) (x .scratch) (g .n) (g .t))) (sym e) (lent (held-reached g₀ h) (cleared scratch))
 
 -- DEMAND 3 OF THE CALLS: the base check, made on g₀, said 0; then any calls; then what is found.
 pub demand3-calls : (g₀ : Given) (c : Outcome) → c ≡ checkOut g₀ → c .answer .number ≡ 0 → {g : Given} → Held g₀ g → Ends g₀ g
@@ -90,6 +99,7 @@ demand3-calls g₀ c ce cz {g} h = record {
   refused-as-1 = λ o e. ap (λ x. x .answer .number) e ∙ R .restore-says;
   scratch-alone = R .sizes-are;
   base-again = λ o e z. e ∙ R .back-to-base (fits (sizesFit g (g₀ .n)) refl o e z);
+  mesh-again = λ o e z. ap (λ x. meshOf (tablesAfter x)) e ∙ R .mesh-back (fits (sizesFit g (g₀ .n)) refl o e z);
   passes-bounded = λ o e z. subst (λ k. k + g₀ .n ≤ g .n) (sym (passes o e z)) (R .passes-bounded);
   passes-true = λ o e z. subst (λ k. Removals (g₀ .n) (meshOf g) k (meshOf g₀)) (sym (passes o e z)) (R .passes-remove);
 }

@@ -1,5 +1,7 @@
 -- What the calls promise, in one statement for each demand: the theorems of the product, and an example that meets their premises.
 pub mod InFour
+pub mod AskCall
 pub mod Demand2Calls
 pub mod Demand3Calls
+pub mod AskAgain
 pub mod Demand3CallsExample

@@ -1,6 +1,6 @@
 -- DEMAND 3: from a lawful base with a compatible labelling, whatever refine, coarsen and set calls did, a full pass removes a node while added
 -- nodes remain, and restore ends with the base, row for row. Of meshes, and of the tables that a caller lends. Assumes nothing.
-use mathlib.Core.Bool.{Bool, true, false}
+use mathlib.Core.Bool.{true}
 use mathlib.Core.List.{List}
 use mathlib.Core.Logic.{_≢_}
 use mathlib.Core.Path.{_≡_, refl, sym, subst, ap, _∙_}
@@ -16,7 +16,7 @@ use Rattle.meaning.specs.Split.{Way, bisected, refined}
 use Rattle.meaning.specs.Coarsen.{coarsened, pass, Restored, restored}
 use Rattle.meaning.specs.Setting.{corrected, setFault}
 use Rattle.meaning.specs.Tables.{Given, Outcome, Room, given, outcome, answer, nodeForm, rowForm, meshOf, roomOf, filled, cleared}
-use Rattle.meaning.specs.Calls.{saysOf, says, checkNo, refineNo, coarsenNo, refines, coarsens, restores, sets, sizesFit, untouched, checkOut, refineOut, coarsenOut, restoreOut, setOut}
+use Rattle.meaning.specs.Calls.{saysOf, says, checkNo, refineNo, coarsenNo, refines, coarsens, restores, sets, sizesFit, checkOut, refineOut, coarsenOut, restoreOut, setOut}
 use Rattle.laws.specs.Lawful.{lawful-refusal}
 use Rattle.laws.specs.Restore.{Passes, none-good, one-pass, pass-fewer, restored-is, restored-passes}
 use Rattle.growth.specs.GrownFrom.{GrownFrom, from-checked}
@@ -24,7 +24,7 @@ use Rattle.growth.specs.Coarsening.{from-coarsened}
 use Rattle.growth.specs.Refining.{from-refine}
 use Rattle.growth.specs.Correcting.{from-set}
 use Rattle.growth.specs.Restoring.{pass-removes, restored-base}
-use Rattle.laws.specs.TableMesh.{nodes-count, rows-count, written, tablesAfter}
+use Rattle.laws.specs.TableMesh.{nodes-count, rows-count, written, tablesAfter, done-mesh}
 use Rattle.laws.specs.CallLaw.{AsGiven, check-leaves, refine-leaves, coarsen-leaves, restore-leaves, set-leaves}
 use Rattle.growth.specs.OnTables.{GrownTables, fit₀, tables-begin, tables-same, tables-refine, tables-coarsen, tables-set, tables-restore, tables-sizes, restore-number, restore-leaves-base, tables-passes, end-here, pass-done, pass-less}
 
@@ -154,6 +154,7 @@ pub record Restores (g₀ g : Given) : Type 0 where
   pub restore-says : restoreOut g (g₀ .n) .answer .number ≡ cases (sizesFit g (g₀ .n)) 0 1
   -- else it leaves the base
   pub back-to-base : sizesFit g (g₀ .n) ≡ true → restoreOut g (g₀ .n) ≡ baseAgain g₀ g
+  pub mesh-back : sizesFit g (g₀ .n) ≡ true → meshOf (tablesAfter (restoreOut g (g₀ .n))) ≡ meshOf g₀
   -- after no more passes than nodes were added
   pub passes-bounded : restored (g₀ .n) (meshOf g) .passes + g₀ .n ≤ g .n
   -- each of which removed a node
@@ -187,6 +188,7 @@ demand3-tables g₀ ok {g} r =
       pass-takes-one = λ more e. rw (pass-done g₀ ok g H e) (refl, pass-less g₀ ok g H more);
       restore-says = restore-number g₀ ok g H;
       back-to-base = λ e. rw (restore-leaves-base g₀ ok g H e, nodes-count g₀, rows-count g₀, w .0, w .1, H .nodes-length, H .rows-kept);
+      mesh-back = λ e. ap (λ o. meshOf (tablesAfter o)) (restore-leaves-base g₀ ok g H e) ∙ done-mesh g (meshOf g₀) (restored (g₀ .n) (meshOf g) .passes);
       passes-bounded = tables-passes g₀ ok g H;
       passes-remove = subst (Removals (g₀ .n) (meshOf g) (restored (g₀ .n) (meshOf g) .passes)) (end-here g₀ ok g H) (removals (restored-is (g₀ .n) (meshOf g)));
     }

@@ -104,11 +104,11 @@ module _ (nodes : List ℤ) (rows s marks : List ℕ) (n0 n t k late : ℕ) (aft
 -- ---- scratch before the call does not matter, but for its length
 
 module _ (nodes : List ℤ) (rows s s′ : List ℕ) (n0 n t : ℕ) (e : length s′ ≡ length s) where
+  pub fits-same : sizesFit (given nodes rows s′ n t) n0 ≡ sizesFit (given nodes rows s n t) n0
+  fits-same = sym (fitting-is nodes rows s′ n0 n t) ∙ ap (λ (k : ℕ). fitting (length nodes) (length rows) k n0 n t) e ∙ fitting-is nodes rows s n0 n t
+
   pub sized-same : (o o′ : Outcome) → o′ ≡ o → sized (given nodes rows s′ n t) n0 o′ ≡ sized (given nodes rows s n t) n0 o
-  sized-same o o′ f =
-      let fits : sizesFit (given nodes rows s′ n t) n0 ≡ sizesFit (given nodes rows s n t) n0 =
-      sym (fitting-is nodes rows s′ n0 n t) ∙ ap (λ (k : ℕ). fitting (length nodes) (length rows) k n0 n t) e ∙ fitting-is nodes rows s n0 n t in
-      rw (fits, f, e)
+  sized-same o o′ f = rw (fits-same, f, e)
 
   pub leaves-same : (r : Reply) → sized (given nodes rows s′ n t) n0 (leaves (given nodes rows s′ n t) r) ≡ sized (given nodes rows s n t) n0 (leaves (given nodes rows s n t) r)
   leaves-same r = sized-same _ _ (go (r .number) (r .after) (r .passes) (r .culprit))
@@ -119,7 +119,7 @@ module _ (nodes : List ℤ) (rows s s′ : List ℕ) (n0 n t : ℕ) (e : length 
 
 -- scratch is s before the call, s₁ before the work, and s₂ at the end; len is its length after the work
 module _ (s s₁ : List ℕ) (p : s₁ ≡ replicate (length s) 0) where
-  cleared-length : length s₁ ≡ length s
+  pub cleared-length : length s₁ ≡ length s
   cleared-length = ap length p ∙ length-replicate (length s) 0
 
   pub zeroed : s₁ ≡ replicate (length s₁) 0

@@ -1,16 +1,14 @@
 -- Midpoints by the tables: which split edge has none, and a table in which they become nodes. Assumes nothing.
 use mathlib.Core.Bool.{Bool, not, _&&_, _||_}
 use mathlib.Core.List.{List}
-use Prim.Native.Nat.{ℕ, _+_, _*_, _≤_}
+use Prim.Native.Nat.{ℕ, _+_, _≤_}
 use lib.Dec.{eqb}
 use lib.IntN.{ℤ, natAbs, _+ℤ_}
-use lib.ListN.{length}
 use Rattle.lists.specs.Lists.{cases}
 use Rattle.meaning.specs.declared.Node.{Node}
 use Rattle.meaning.specs.declared.Place.{Place}
 use Rattle.meaning.specs.declared.Tri.{Tri}
 use Rattle.meaning.specs.Mesh.{place, node}
-use Rattle.meaning.specs.Lawful.{NodeInRange}
 use Rattle.meaning.specs.Split.{even, half, mean}
 use Rattle.meaning.specs.Tables.{nodeAt, placeAt, rowAt}
 use Rattle.tables.specs.Put.{setNode}
@@ -20,17 +18,6 @@ use Rattle.notes.specs.Notes.{noteAt, ownM, ownU, ownV}
 -- x is from −m to m
 pub record Near (m : ℕ) (x : ℤ) : Type 0 where
   pub near : natAbs x ≤ m
-
--- node k is in the table, and in range
-pub record Stands (nodes : List ℤ) (k : ℕ) : Type 0 where
-  pub inside : 4 * k + 4 ≤ length nodes
-  pub range : NodeInRange (nodeAt nodes k)
-
--- so are the corners of a row
-pub record Standing (nodes : List ℤ) (w : Tri) : Type 0 where
-  pub at-p : Stands nodes (w .p)
-  pub at-q : Stands nodes (w .q)
-  pub at-r : Stands nodes (w .r)
 
 -- both sums are even
 unfoldable pub evenBetween : Place → Place → Bool

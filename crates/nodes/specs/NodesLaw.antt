@@ -21,15 +21,17 @@ use Rattle.meaning.specs.declared.Place.{Place}
 use Rattle.meaning.specs.declared.Tri.{Tri}
 use Rattle.meaning.specs.Mesh.{place, correction, node}
 use Rattle.meaning.specs.Lawful.{InRange, InBounds, NodeInRange}
-use Rattle.meaning.specs.Split.{even, half, halfDown, mean}
+use Rattle.meaning.specs.Rounding.{floor}
+use Rattle.meaning.specs.Split.{even, half, mean}
 use Rattle.meaning.specs.Tables.{nodeAt, placeAt, rowAt}
 use Rattle.laws.specs.Mean.{mean-bounds}
+use Rattle.laws.specs.Meshes.{Stands, Standing}
 use Rattle.tables.specs.Put.{setNode}
 use Rattle.tables.specs.PutLaw.{nodes-table}
 use Rattle.notes.specs.declared.Note.{Note}
 use Rattle.notes.specs.Notes.{noteAt, ownM, ownU, ownV}
 use Rattle.notes.specs.Met.{after}
-use Rattle.nodes.specs.Nodes.{Near, Stands, Standing, evenBetween, middleOf, between, oddSplit, oddRow, oddAt, placeEdge, placeThree, placeRow}
+use Rattle.nodes.specs.Nodes.{Near, evenBetween, middleOf, between, oddSplit, oddRow, oddAt, placeEdge, placeThree, placeRow}
 
 -- ---- midpoints
 
@@ -56,11 +58,11 @@ middle-range a b p q = record {
 -- ---- means
 
 -- the code's two ways to a half
-pub half-down-below : (z : ℤ) → ltZ z (pos 0) ≡ true → quotZ (z -ℤ pos 1) (pos 2) ≡ halfDown z
+pub half-down-below : (z : ℤ) → ltZ z (pos 0) ≡ true → quotZ (z -ℤ pos 1) (pos 2) ≡ floor z (pos 2)
 half-down-below (pos n) e = absurd (omega (arith, onℤ, tests))
 half-down-below (negsuc n) e = half-below n
 
-pub half-down-from : (z : ℤ) → ltZ z (pos 0) ≡ false → quotZ z (pos 2) ≡ halfDown z
+pub half-down-from : (z : ℤ) → ltZ z (pos 0) ≡ false → quotZ z (pos 2) ≡ floor z (pos 2)
 half-down-from (pos n) e = refl
 half-down-from (negsuc n) e = absurd (omega (arith, onℤ, tests))
 
@@ -77,7 +79,7 @@ dy-near c b = bounded-near (c .dy) (b .dy-from) (b .dy-to)
 pub sum-near : (x y : ℤ) → Near 32_768 x → Near 32_768 y → Near 65_536 (x +ℤ y)
 sum-near x y a b = record { near = abs-add x y (a .near) (b .near) }
 
-pub mean-made : (c d : Correction) (x y : ℤ) → x ≡ halfDown (c .dx +ℤ d .dx) → y ≡ halfDown (c .dy +ℤ d .dy) → correction x y ≡ mean c d
+pub mean-made : (c d : Correction) (x y : ℤ) → x ≡ floor (c .dx +ℤ d .dx) (pos 2) → y ≡ floor (c .dy +ℤ d .dy) (pos 2) → correction x y ≡ mean c d
 mean-made c d x y p q = rw (p, q)
 
 pub between-made : (a b : Node) (p : Place) (c : Correction) → p ≡ middleOf (a .place) (b .place) → c ≡ mean (a .correction) (b .correction) → node p c ≡ between a b
@@ -94,14 +96,8 @@ between-range a b p q = record {
 
 -- ---- corners
 
-pub range-of : (nodes : List ℤ) (x : ℕ) (a : Place) → a ≡ placeAt nodes x → Stands nodes x → InRange a
-range-of nodes x a e c = subst InRange (sym e) (c .range .place-in)
-
 pub node-range-of : (nodes : List ℤ) (x : ℕ) (a : Node) → a ≡ nodeAt nodes x → Stands nodes x → NodeInRange a
 node-range-of nodes x a e c = subst NodeInRange (sym e) (c .range)
-
-pub standing-of : (nodes : List ℤ) (l : List ℕ) (i : ℕ) (w : Tri) → w ≡ rowAt l i → Standing nodes (rowAt l i) → Standing nodes w
-standing-of nodes l i w e c = subst (Standing nodes) (sym e) c
 
 -- a node in range that is put keeps every corner
 stands-put : (nodes : List ℤ) (k j : ℕ) (a : Node) → NodeInRange a → Stands nodes j → Stands (setNode nodes k a) j

@@ -2,12 +2,10 @@
 use mathlib.Core.Path.{_≡_, refl, sym, _∙_}
 use mathlib.Core.Bool.{Bool, true, false, not, _&&_}
 use mathlib.Core.List.{List}
-use Prim.Native.Nat.{ℕ, _*_, _≤_, _<_}
-use native.Mathlib.Omega.{arith}
+use Prim.Native.Nat.{ℕ, _<_}
 use borrow.Author.Tests.{eqb-true}
 use lib.Dec.{eqb}
 use lib.IntN.{ℤ}
-use lib.ListN.{length}
 use Rattle.lists.specs.Lists.{isFound, all, any, only, once, joined}
 use Rattle.lists.specs.ListsLaw.{and-left, and-right}
 use Rattle.lists.specs.Search.{lowest, items}
@@ -16,21 +14,14 @@ use Rattle.lists.specs.AnyLaw.{any-only, any-not, any-once, any-joined}
 use Rattle.lists.specs.Tally.{bit}
 use Rattle.meaning.specs.declared.Tri.{Tri}
 use Rattle.meaning.specs.Mesh.{Mesh, Edge, nodeOf, edge, edges, base, sameEdge}
-use Rattle.meaning.specs.Lawful.{NodeInRange}
 use Rattle.meaning.specs.Split.{halves}
 use Rattle.meaning.specs.Tables.{nodeAt, rowAt}
 use Rattle.tables.specs.Sized.{Corners}
 use Rattle.notes.specs.declared.Note.{Note}
 use Rattle.notes.specs.Notes.{noteAt}
 use Rattle.notes.specs.Met.{Says}
-use Rattle.nodes.specs.Nodes.{Stands, Standing, oddSplit, oddRow, oddAt}
+use Rattle.nodes.specs.Nodes.{oddSplit, oddRow, oddAt}
 use Rattle.nodes.specs.PlacedLaw.{halves-is}
-
--- the corners of a row that names nodes below n, all in range
-pub standing-at : (nodes : List ℤ) (n : ℕ) (w : Tri) → 4 * n ≤ length nodes → ((k : ℕ) → k < n → NodeInRange (nodeAt nodes k)) → Corners n w → Standing nodes w
-standing-at nodes n w b r c =
-    let on : (k : ℕ) → k < n → Stands nodes k = λ k h. record { inside = omega arith; range = r k h } in
-    record { at-p = on (w .p) (c .p-in); at-q = on (w .q) (c .q-in); at-r = on (w .r) (c .r-in) }
 
 bit-on : (b : Bool) → not (eqb (bit b) 0) ≡ b
 bit-on true = refl

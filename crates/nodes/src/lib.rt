@@ -2,14 +2,16 @@
 ghost use mathlib.Core.Path.{_≡_};
 ghost use Prim.Native.Nat.{ℕ, _+_, _*_, _≤_, _<_};
 ghost use lib.ListN.{length};
-ghost use lib.IntN.{_+ℤ_};
+ghost use lib.IntN.{pos, _+ℤ_};
 ghost use Rattle.lists.specs.Search.{lowest, iter};
 ghost use Rattle.meaning.specs.Lawful.{InRange, InBounds, NodeInRange};
-ghost use Rattle.meaning.specs.Split.{even, half, halfDown, mean};
+ghost use Rattle.meaning.specs.Rounding.{floor};
+ghost use Rattle.meaning.specs.Split.{even, half, mean};
 ghost use Rattle.meaning.specs.Tables.{rowAt};
+ghost use Rattle.laws.specs.Meshes.{Stands, Standing};
 ghost use Rattle.notes.specs.Notes.{Short, noteAt};
 ghost use Rattle.notes.specs.Met.{after};
-ghost use Rattle.nodes.specs.Nodes.{Near, Stands, Standing, evenBetween, middleOf, between, oddSplit, oddAt, placeEdge, placeThree, placeRow};
+ghost use Rattle.nodes.specs.Nodes.{Near, evenBetween, middleOf, between, oddSplit, oddAt, placeEdge, placeThree, placeRow};
 use lists::Found;
 use meaning::Correction;
 use meaning::Node;
@@ -60,7 +62,7 @@ fn middle(a: Place, b: Place) -> Place
 // Half, rounded down: a quotient is rounded toward 0.
 fn half_down(s: i32) -> i32
     requires { ⌜ Near 65_536 s ⌝ }
-    ensures { λ r. ⌜ r ≡ halfDown s ⌝ }
+    ensures { λ r. ⌜ r ≡ floor s (pos 2) ⌝ }
 {
     if s < 0 {
         return (s - 1) / 2;
@@ -70,7 +72,7 @@ fn half_down(s: i32) -> i32
 
 fn mean_of(a: i32, b: i32) -> i32
     requires { ⌜ Near 32_768 a × Near 32_768 b ⌝ }
-    ensures { λ r. ⌜ r ≡ halfDown (a +ℤ b) ⌝ }
+    ensures { λ r. ⌜ r ≡ floor (a +ℤ b) (pos 2) ⌝ }
 {
     half_down(a + b)
 }

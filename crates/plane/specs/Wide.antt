@@ -1,23 +1,29 @@
--- 32-bit numbers in 64 bits: they and their sums fit; equal bits are equal numbers. Assumes nothing.
+-- 32-bit numbers in 64 bits: they, their sums and their differences fit; equal bits are equal numbers. Assumes nothing.
 use mathlib.Core.Path.{_≡_, refl, sym, ap, _∙_}
-use mathlib.Core.Bool.{Bool, true, false, not, _&&_}
-use Prim.Native.Nat.{ℕ, _+_, _≤_, _<_, _^_}
+use mathlib.Core.Bool.{Bool, true, false, _&&_}
+use Prim.Native.Nat.{ℕ, _≤_}
 use native.Mathlib.Omega.{arith}
-use borrow.Author.Tests.{eqb-true, eqb-false, eq-eqb}
+use borrow.Author.Tests.{eqb-true, eqb-false}
 use lib.Dec.{eqb}
-use lib.IntN.{ℤ, pos, natAbs, _+ℤ_}
-use lib.Signed.{leZ, ltZ, mag, natAbs-le}
+use lib.IntN.{ℤ, natAbs, _+ℤ_, _-ℤ_}
+use lib.Signed.{leZ, natAbs-le}
 use mir.Syntax.{w32, w64}
-use mir.Val.{SFits, ofZ, hbits}
-use Rattle.whole.specs.Bound.{abs-add, fits-abs}
+use mir.Val.{SFits, ofZ}
+use Rattle.whole.specs.Bound.{abs-add, abs-sub, fits-abs}
 use Rattle.whole.specs.Diff.{onℤ}
 use Rattle.whole.specs.Tests.{tests, ofZ-inj}
 
 pub fits-wide : (z : ℤ) → SFits w32 z → SFits w64 z
 fits-wide z h = record { sfits = omega (arith, h .sfits) }
 
+pub wide-abs : (z : ℤ) → SFits w32 z → natAbs z ≤ 2_147_483_648
+wide-abs z h = natAbs-le z (h .sfits)
+
 pub wide-sum : (a b : ℤ) → SFits w32 a → SFits w32 b → SFits w64 (a +ℤ b)
-wide-sum a b f g = fits-abs w64 (abs-add a b (natAbs-le a (f .sfits)) (natAbs-le b (g .sfits))) tt
+wide-sum a b f g = fits-abs w64 (abs-add a b (wide-abs a f) (wide-abs b g)) tt
+
+pub wide-less : (a b : ℤ) → SFits w32 a → SFits w32 b → SFits w64 (a -ℤ b)
+wide-less a b f g = fits-abs w64 (abs-sub a b (wide-abs a f) (wide-abs b g)) tt
 
 same-yes : (a b : ℤ) → a ≡ b → leZ a b && leZ b a ≡ true
 same-yes a b e =

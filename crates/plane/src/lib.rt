@@ -4,7 +4,7 @@ ghost use lib.IntN.{_+ℤ_, _-ℤ_, _*ℤ_};
 ghost use Rattle.meaning.specs.Mesh.{turn};
 ghost use Rattle.meaning.specs.Lawful.{InRange, far, outside, tooLong, beyond, nodeOutside};
 ghost use Rattle.meaning.specs.Good.{sameZ, isMiddle};
-ghost use Rattle.plane.specs.Plane.{Short, Spans, flatTri};
+ghost use Rattle.plane.specs.Plane.{Short, Wide, Spans, flatTri};
 use meaning::Correction;
 use meaning::Node;
 use meaning::Place;
@@ -15,25 +15,31 @@ struct Span {
     y: i64,
 }
 
+fn less(a: i32, b: i32) -> i64
+    ensures { λ r. ⌜ r ≡ a -ℤ b ⌝ }
+{
+    (a as i64) - (b as i64)
+}
+
 fn from_to(a: Place, b: Place) -> Span
-    requires { ⌜ InRange a × InRange b ⌝ }
+    requires { ⌜ InRange a ⌝ }
     ensures { λ r. ⌜ Spans a b r ⌝ }
 {
-    let x = (b.x as i64) - (a.x as i64);
-    let y = (b.y as i64) - (a.y as i64);
+    let x = less(b.x, a.x);
+    let y = less(b.y, a.y);
     Span { x, y }
 }
 
 fn cross(u: Span, v: Span) -> i64
-    requires { ⌜ Short u × Short v ⌝ }
+    requires { ⌜ Short u × Wide v ⌝ }
     ensures { λ r. ⌜ r ≡ u .x *ℤ v .y -ℤ v .x *ℤ u .y ⌝ }
 {
     u.x * v.y - v.x * u.y
 }
 
-// Twice the signed area of the triangle a, b, c.
-fn twice_area(a: Place, b: Place, c: Place) -> i64
-    requires { ⌜ InRange a × InRange b × InRange c ⌝ }
+// Twice the signed area of the triangle a, b, c. c may stand anywhere.
+pub fn twice_area(a: Place, b: Place, c: Place) -> i64
+    requires { ⌜ InRange a × InRange b ⌝ }
     ensures { λ r. ⌜ r ≡ turn a b c ⌝ }
 {
     cross(from_to(a, b), from_to(a, c))

@@ -17,7 +17,8 @@ use Rattle.meaning.specs.Calls.{unless, fits}
 use Rattle.tables.specs.Ready.{Ready}
 use Rattle.notes.specs.Notes.{noteAt}
 use Rattle.notes.specs.Met.{after}
-use Rattle.nodes.specs.Nodes.{Standing, oddAt, placeRow}
+use Rattle.laws.specs.Meshes.{Standing}
+use Rattle.nodes.specs.Nodes.{oddAt, placeRow}
 use Rattle.cut.specs.Cutting.{cutAt, addedAt, cutAll, splits}
 use Rattle.refining.specs.declared.Plan.{Plan}
 use Rattle.judging.specs.Judge.{meshIn}

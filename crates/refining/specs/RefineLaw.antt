@@ -12,7 +12,7 @@ use lib.ListN.{length, getD, replicate, length-append, length-map, getD-replicat
 use lib.Seq.{getD-take}
 use Rattle.lists.specs.declared.Found.{Found}
 use Rattle.lists.specs.Lists.{all, cases, isFound}
-use Rattle.lists.specs.ListsLaw.{and-left, and-right, All-getD}
+use Rattle.lists.specs.ListsLaw.{and-left, and-right}
 use Rattle.lists.specs.Search.{lowest, items, iter}
 use Rattle.lists.specs.IterLaw.{length-items, getD-items}
 use Rattle.lists.specs.ItemsLaw.{sumTo}
@@ -21,7 +21,7 @@ use Rattle.meaning.specs.declared.Node.{Node}
 use Rattle.meaning.specs.declared.Answer.{Answer}
 use Rattle.meaning.specs.declared.Fault.{Fault}
 use Rattle.meaning.specs.Mesh.{Mesh, Edge, nodeOf, origin}
-use Rattle.meaning.specs.Lawful.{NodeInRange, Named}
+use Rattle.meaning.specs.Lawful.{Named}
 use Rattle.meaning.specs.Split.{bisected, splitEdges, splitAt, split, Way, wayOf, refined, halves}
 use Rattle.meaning.specs.Tables.{given, outcome, answer, roomOf, meshOf, rowAt, nodeAt, flatNodes, flatRows, filled}
 use Rattle.meaning.specs.Calls.{unless, refineNo, refines, refineOut}
@@ -29,8 +29,9 @@ use Rattle.tables.specs.Sized.{Corners, indexAt}
 use Rattle.tables.specs.Ready.{Ready}
 use Rattle.notes.specs.Notes.{noteAt}
 use Rattle.notes.specs.Met.{after}
-use Rattle.nodes.specs.Nodes.{Standing, oddAt, placeRow}
-use Rattle.nodes.specs.OddLaw.{standing-at, odd-found}
+use Rattle.laws.specs.Meshes.{Standing, meshAt, row-stands}
+use Rattle.nodes.specs.Nodes.{oddAt, placeRow}
+use Rattle.nodes.specs.OddLaw.{odd-found}
 use Rattle.nodes.specs.PlacedLaw.{placed-mesh, rooms}
 use Rattle.close.specs.Drawn.{closedNotes}
 use Rattle.close.specs.EdgeLaw.{lawful-named}
@@ -106,11 +107,9 @@ module _ (how : Manner) (nodes : List ℤ) (rows s₀ marks : List ℕ) (n t : �
   node-same : (k : ℕ) → k < n → nodeOf m k ≡ nodeAt nodes k
   node-same k h = getD-items (nodeAt nodes) n k origin h
 
-  nodes-near : (k : ℕ) → k < n → NodeInRange (nodeAt nodes k)
-  nodes-near k h = subst NodeInRange (node-same k h) (All-getD (R .law .range) k origin (rw nodes-in-table h))
-
   pub rows-standing : (i : ℕ) → i < t → Standing nodes (rowAt rows i)
-  rows-standing i h = standing-at nodes n (rowAt rows i) (R .nodes-fit) nodes-near (corners i h)
+  unfolding meshAt
+  rows-standing = row-stands nodes rows n t (R .law) (R .nodes-fit)
 
   -- s₁ after close, s₂ and k after number
   module _ (s₁ s₂ : List ℕ) (k : ℕ) (e₁ : s₁ ≡ closedNotes how rows t marks s₀) (e₂ : numbers s₂ k ≡ iter (numberRow rows t) 0 t (numbers s₁ 0)) where

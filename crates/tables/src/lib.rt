@@ -57,7 +57,7 @@ pub fn place_at(nodes: &[i32], k: usize) -> Place
 }
 
 // Its correction.
-fn correction_at(nodes: &[i32], k: usize) -> Correction
+pub fn correction_at(nodes: &[i32], k: usize) -> Correction
     requires { ⌜ 4 * k + 4 ≤ length (now nodes) ⌝ }
     ensures { λ c. ⌜ c ≡ nodeAt (now (nodes .entry)) k .correction ⌝ }
 {

@@ -1,4 +1,5 @@
-use Rattle.nodes.specs.NodesLaw.{standing-of, odd-row-is}
+use Rattle.laws.specs.Meshes.{standing-of}
+use Rattle.nodes.specs.NodesLaw.{odd-row-is}
 use borrow.Author.Needs.{needs}
 use Rattle.nodes.proofs.odd_at.Statement.{statement}
 use Rattle.nodes.proofs.odd_at.Tie as tie

@@ -1,4 +1,5 @@
-use Rattle.nodes.specs.NodesLaw.{range-of, odd-is}
+use Rattle.laws.specs.Meshes.{range-of}
+use Rattle.nodes.specs.NodesLaw.{odd-is}
 use borrow.Author.Needs.{needs}
 use Rattle.nodes.proofs.odd_split.Statement.{statement}
 use Rattle.nodes.proofs.odd_split.Tie as tie

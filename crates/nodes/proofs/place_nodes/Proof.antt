@@ -1,5 +1,6 @@
 use Rattle.nodes.specs.NodesLaw.{row-standing}
-use Rattle.nodes.specs.Nodes.{Standing, placeRow}
+use Rattle.laws.specs.Meshes.{Standing}
+use Rattle.nodes.specs.Nodes.{placeRow}
 use Rattle.meaning.specs.Tables.{rowAt}
 use Rattle.lists.specs.IterLaw.{iter-turn, iter-end}
 use Rattle.lists.specs.Search.{iter}

@@ -1,4 +1,5 @@
-use Rattle.nodes.specs.NodesLaw.{standing-of, room-of, row-is}
+use Rattle.laws.specs.Meshes.{standing-of}
+use Rattle.nodes.specs.NodesLaw.{room-of, row-is}
 use borrow.Author.Needs.{needs}
 use Rattle.nodes.proofs.place_row.Statement.{statement}
 use Rattle.nodes.proofs.place_row.Tie as tie

@@ -1,0 +1,4 @@
+pub mod Asking
+pub mod AskingLaw
+pub mod MeanLaw
+pub mod WorkLaw

@@ -3,12 +3,14 @@ ghost use mathlib.Core.Path.{_≡_};
 ghost use lib.ListN.{length, replicate};
 ghost use Rattle.meaning.specs.Tables.{given, outcome};
 ghost use Rattle.meaning.specs.Split.{wayOf, newest, allThree};
-ghost use Rattle.meaning.specs.Calls.{checkOut, refineOut, coarsenOut, setOut};
+ghost use Rattle.meaning.specs.Calls.{checkOut, refineOut, coarsenOut, setOut, heard, askOut};
 ghost use Rattle.mesh.specs.Check.{checkFault};
 use meaning::Answer;
 use meaning::Correction;
 use meaning::Fault;
 use meaning::Manner;
+use meaning::Place;
+use meaning::Told;
 
 mod coarsening; // coarsening.rt: the steps of coarsen
 
@@ -119,6 +121,24 @@ pub fn set_correction(
 {
     tables::clear(scratch);
     let a = setting::work(nodes, rows, scratch, n0, n, t, z, c);
+    tables::clear(scratch);
+    a
+}
+
+// W6: the correction at the point. It writes no table but scratch, which is all zero after.
+pub fn correction_at(
+    nodes: &[i32],
+    rows: &[u32],
+    scratch: &mut [u32],
+    n0: usize,
+    n: usize,
+    t: usize,
+    point: Place,
+) -> Told
+    ensures { λ r. ⌜ heard r (now (nodes .entry)) (now (rows .entry)) (now (scratch .exit)) ≡ askOut (given (now (nodes .entry)) (now (rows .entry)) (now (scratch .entry)) n t) n0 point ⌝ }
+{
+    tables::clear(scratch);
+    let a = asking::work(nodes, rows, scratch, n0, n, t, point);
     tables::clear(scratch);
     a
 }

@@ -8,10 +8,11 @@ use mir.Val.{SFits, toZ, ofZ}
 use mir.Facts.{toZ-ofZ}
 use Rattle.meaning.specs.declared.Answer.{Answer}
 use Rattle.meaning.specs.declared.Correction.{Correction}
-use Rattle.meaning.specs.Mesh.{correction}
+use Rattle.meaning.specs.declared.Told.{Told}
+use Rattle.meaning.specs.Mesh.{place, correction}
 use Rattle.meaning.specs.Split.{Way}
 use Rattle.meaning.specs.Tables.{Given, Outcome, outcome, answer}
-use Rattle.meaning.specs.Calls.{checkOut, refineOut, coarsenOut, setOut}
+use Rattle.meaning.specs.Calls.{checkOut, refineOut, coarsenOut, setOut, toldAs, heard, askOut}
 use Rattle.laws.specs.CallLaw.{AsGiven, check-leaves, refine-no-passes, coarsen-no-passes, set-no-passes, set-counts}
 use Rattle.text.specs.Writing.{wrote}
 use Rattle.reader.specs.declared.Took.{Took}
@@ -51,6 +52,12 @@ module _ (a : Answer) (nodes : List ℤ) (rows scratch : List ℕ) where
   pub set-answer : (g : Given) (n0 z : ℕ) (x y : ℤ) → SFits w32 x → SFits w32 y → outcome a nodes rows scratch ≡ setOut g n0 z (correction (toZ w32 (ofZ w32 x)) (toZ w32 (ofZ w32 y))) →
       outcome (answer (a .number) (g .n) (g .t) 0 (a .culprit)) nodes rows scratch ≡ setOut g n0 z (correction x y)
   set-answer g n0 z x y f h e = as-set g n0 z (correction x y) (rw (toZ-ofZ f, toZ-ofZ h) at e)
+
+-- a question: x and y, dx and dy as the machine holds them
+pub ask-answer : (a : Told) (nodes : List ℤ) (rows scratch : List ℕ) (g : Given) (n0 : ℕ) (x y : ℤ) → SFits w32 x → SFits w32 y → SFits w32 (a .correction .dx) → SFits w32 (a .correction .dy) →
+    heard a nodes rows scratch ≡ askOut g n0 (place (toZ w32 (ofZ w32 x)) (toZ w32 (ofZ w32 y))) →
+    heard (toldAs (a .number) (toZ w32 (ofZ w32 (a .correction .dx))) (toZ w32 (ofZ w32 (a .correction .dy))) (a .culprit)) nodes rows scratch ≡ askOut g n0 (place x y)
+ask-answer a nodes rows scratch g n0 x y f h p q e = rw (toZ-ofZ p, toZ-ofZ q) (rw (toZ-ofZ f, toZ-ofZ h) at e)
 
 -- begin and end take no byte of a piece
 module _ (k : Took) (line : List ℕ) (ns : List ℤ) (rs sc out : List ℕ) where

@@ -6,9 +6,10 @@ mod reading;
 ghost use mathlib.Core.Path.{_≡_};
 ghost use Rattle.meaning.specs.Split.{newest, allThree};
 ghost use Rattle.meaning.specs.Tables.{given, outcome, answer};
-ghost use Rattle.meaning.specs.Calls.{checkOut, refineOut, coarsenOut, restoreOut, setOut};
-ghost use Rattle.meaning.specs.Mesh.{correction};
+ghost use Rattle.meaning.specs.Calls.{checkOut, refineOut, coarsenOut, restoreOut, setOut, toldAs, heard, askOut};
+ghost use Rattle.meaning.specs.Mesh.{place, correction};
 use meaning::Correction;
+use meaning::Place;
 
 // The base check's number.
 #[no_mangle]
@@ -131,4 +132,30 @@ pub extern "C" fn spoutbeetle_set_correction(
     let set = mesh::set_correction(nodes, rows, scratch, n0, n, t, node, Correction { dx, dy });
     *culprit = set.culprit;
     set.number
+}
+
+// Correction_at's number: behind dx and dy the correction at the point x, y, or 0 and 0 with a refusal.
+#[no_mangle]
+pub extern "C" fn spoutbeetle_correction_at(
+    nodes: &[i32],
+    rows: &[u32],
+    scratch: &mut [u32],
+    n0: usize,
+    n: usize,
+    t: usize,
+    x: i32,
+    y: i32,
+    dx: &mut i32,
+    dy: &mut i32,
+    culprit: &mut usize,
+) -> u32
+    ensures { λ r. ⌜ heard (toldAs r (now (dx .exit)) (now (dy .exit)) (now (culprit .exit))) (now (nodes .entry)) (now (rows .entry)) (now (scratch .exit)) ≡ askOut (given (now (nodes .entry)) (now (rows .entry)) (now (scratch .entry)) n t) n0 (place x y) ⌝ }
+{
+    let told = mesh::correction_at(nodes, rows, scratch, n0, n, t, Place { x, y });
+    let told_dx = told.correction.dx;
+    let told_dy = told.correction.dy;
+    *dx = told_dx;
+    *dy = told_dy;
+    *culprit = told.culprit;
+    told.number
 }

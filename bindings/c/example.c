@@ -1,6 +1,7 @@
 /* A square in two halves, with corrections at its corners: where a fine rule is printed, its first row is cut in four, the correction of an added
- * node is set, and the row is refined once more; then the square is restored, corrections and all. Settings of a base node and out of range, and
- * a square with a row too many, are refused, in words. */
+ * node is set, and the row is refined once more; then the square is restored, corrections and all. The correction at a point is asked before the
+ * job, in it and after it. Settings of a base node and out of range, a question about a point outside, and a square with a row too many, are
+ * refused, in words. */
 #include "spoutbeetle.h"
 
 #include <stdio.h>
@@ -48,6 +49,18 @@ static uint32_t set_correction(size_t node, int32_t dx, int32_t dy) {
     return spoutbeetle_set_correction(nodes, NODES, rows, ROWS, scratch, SCRATCH, N0, n, t, node, dx, dy, &culprit);
 }
 
+/* Prints the correction at a point, or why there is none. */
+static void ask(int32_t x, int32_t y) {
+    char point[40];
+    int32_t dx, dy;
+    uint32_t number = spoutbeetle_correction_at(nodes, NODES, rows, ROWS, scratch, SCRATCH, N0, n, t, x, y, &dx, &dy, &culprit);
+    snprintf(point, sizeof point, "at (%d, %d)", (int)x, (int)y);
+    if (number == 0)
+        printf("%s: correction (%d, %d)\n", point, (int)dx, (int)dy);
+    else
+        refused(point, number);
+}
+
 /* A job: what it refines and sets. */
 static void print_fine_rule(void) {
     const uint8_t marks[TC] = {1};
@@ -55,6 +68,8 @@ static void print_fine_rule(void) {
     show(4); /* the mean of nodes 0 and 2: -3 and 0 give -2 */
     done("set node 4", set_correction(4, 9, -9));
     show(4);
+    ask(2, 1); /* in the triangle of nodes 6, 4 and 0 */
+    ask(9, 1);
     refused("set node 3", set_correction(3, 9, -9));
     refused("set node 7", set_correction(7, 9, -9));
     refused("set node 4 to 32,768", set_correction(4, 32768, -9));
@@ -69,12 +84,14 @@ int main(void) {
     memcpy(base_nodes, nodes, sizeof nodes);
     memcpy(base_rows, rows, sizeof rows);
     done("check", check(t));
+    ask(2, 1); /* -14/8 and 40/8 */
     print_fine_rule();
     done("restore", spoutbeetle_restore(nodes, NODES, rows, ROWS, scratch, SCRATCH, N0, &n, &t, &passes, &culprit));
     must(memcmp(base_nodes, nodes, sizeof nodes) == 0 && memcmp(base_rows, rows, sizeof rows) == 0, "the base is back");
     printf("%zu passes, and the base is back, with its corrections:\n", passes);
     for (size_t k = 0; k < n; k++)
         show(k);
+    ask(2, 1); /* as before the job */
 
     memcpy(rows + 3 * t, rows, 3 * sizeof *rows);
     refused("check, row 0 once more", check(t + 1));

@@ -21,7 +21,8 @@ static const struct {
     {NULL, "there is no room for the new nodes or triangles"},
     {NULL, "the labelling is not compatible"},
     [13] = {NULL, "the node to be set belongs to the base"},
-    [15] = {NULL, "the node to be set is not there"},
+    {NULL, "no triangle holds the point"},
+    {NULL, "the node to be set is not there"},
     [17] = {NULL, "the piece is over 512 bytes, or comes after the end"},
 };
 

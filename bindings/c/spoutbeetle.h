@@ -1,11 +1,11 @@
-/* Spoutbeetle: a triangle mesh whose nodes carry corrections, and that can be refined, coarsened and restored, proved.
+/* Spoutbeetle: a triangle mesh whose nodes carry corrections, and that can be refined, coarsened, restored and asked about points, proved.
  *
  * First the calls on a mesh; then the reader, which takes the line program's text in pieces and makes these calls for it.
  *
  * Every call takes any lengths, counts and contents, ends, and returns a number. The caller lends the tables; a table is a pointer and
  * a length in numbers (not bytes). What a call asks of its pointers, and cannot test: each is valid, aligned and not null (also where
- * the length is 0); the tables do not overlap; n, t, passes and culprit, where they are pointers, are valid, aligned, distinct from each
- * other and outside the tables; and nothing else reads or writes any of these during the call. Marks are only read.
+ * the length is 0); the tables do not overlap; n, t, dx, dy, passes and culprit, where they are pointers, are valid, aligned, distinct from each
+ * other and outside the tables; and nothing else writes any of these during the call, or reads one that is not const. What is const is only read.
  *
  *   nodes    four numbers a node: x and y, its place, and dx and dy, the correction that it carries; room NC = nodes_len / 4, at most 1,024
  *   rows     three numbers a triangle, p q r: p is the newest vertex, q-r the refinement edge; room TC = rows_len / 3, at most 2,048
@@ -31,6 +31,7 @@
  *    9  the new counts are above NC or TC
  *   10  the labelling is not compatible (check only)
  *   13  the node to be set is a base node, below n0 (set_correction only)
+ *   14  no triangle holds the point (correction_at only)
  *   15  the node to be set is not below n (set_correction only)
  *   17  a piece over 512 bytes, or any after the end was announced (reader only)
  *
@@ -71,6 +72,18 @@ uint32_t spoutbeetle_coarsen(int32_t *nodes, size_t nodes_len, uint32_t *rows, s
 uint32_t spoutbeetle_set_correction(int32_t *nodes, size_t nodes_len, uint32_t *rows, size_t rows_len, uint32_t *scratch, size_t scratch_len,
                                     size_t n0, size_t n, size_t t, size_t node, int32_t dx, int32_t dy, size_t *culprit);
 
+/* A question about a point: what is the correction at (x, y)? The point may be any. The lowest row whose triangle holds it, sides and corners
+ * included, answers: *dx and *dy are the mean of what its three nodes carry, each weighted by the area that the point makes with the side
+ * opposite, and each part is rounded down from the exact fraction. So it differs from the exact value by less than one unit and never exceeds
+ * it; at a node of that row it is what the node carries. Any refusal gives 0, 0. Nodes and rows are only read, and what *dx and *dy held before
+ * does not matter.
+ *
+ * After a restore that gives back a base, as said there, answers depend on the base and the point alone, whatever was marked or set since the
+ * check: asked on the tables and the counts that it left, with an n0 not above n and scratch enough. */
+uint32_t spoutbeetle_correction_at(const int32_t *nodes, size_t nodes_len, const uint32_t *rows, size_t rows_len, uint32_t *scratch,
+                                   size_t scratch_len, size_t n0, size_t n, size_t t, int32_t x, int32_t y, int32_t *dx, int32_t *dy,
+                                   size_t *culprit);
+
 /* Coarsens while a good node exists. After 0, *n and *t are the new counts and *passes how many passes were made, 0 passes included;
  * after a refusal *passes is 0. What *passes held before does not matter.
  *
@@ -81,7 +94,7 @@ uint32_t spoutbeetle_set_correction(int32_t *nodes, size_t nodes_len, uint32_t *
  *     and the counts that the accepted call before it left (the first: on those of the check);
  *   - this call too has the base's node count as n0, the tables and the counts that the last accepted call left, and scratch enough;
  *   - nothing but these calls wrote to the node table or the triangle table, and their lengths stayed.
- * Refused calls of any kind may stand in between, with whatever counts, n0, marks and scratch; each call may lend another scratch.
+ * Questions, and refused calls of any kind, may stand in between, with whatever counts, n0, marks and scratch; each call may lend another scratch.
  * Only a short scratch can refuse it then, as 1. */
 uint32_t spoutbeetle_restore(int32_t *nodes, size_t nodes_len, uint32_t *rows, size_t rows_len, uint32_t *scratch, size_t scratch_len,
                              size_t n0, size_t *n, size_t *t, size_t *passes, size_t *culprit);

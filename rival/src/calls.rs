@@ -1,4 +1,4 @@
-//! Check, refine, quarter, coarsen, restore and the setting of a correction, on lent tables.
+//! Check, refine, quarter, coarsen, restore, the setting of a correction and the question about a point, on lent tables.
 use std::collections::{HashMap, HashSet};
 use std::ops::RangeInclusive;
 
@@ -10,6 +10,23 @@ pub struct Answer {
     pub t: usize,
     pub passes: usize,
     pub culprit: usize,
+}
+
+/// What a question about a point is told: its number, the correction there, and the node or row at fault.
+#[derive(Clone, Copy, Debug, PartialEq, Eq)]
+pub struct Told {
+    pub number: u32,
+    pub dx: i32,
+    pub dy: i32,
+    pub culprit: usize,
+}
+
+/// A row that holds a point: twice the areas that the point makes with the sides opposite p, q and r, and the corners' dx and dy, each weighted
+/// by them and summed. Over the sum of the areas these are the exact correction.
+pub struct Holder {
+    pub row: usize,
+    pub areas: [i128; 3],
+    pub sums: [i128; 2],
 }
 
 /// The tables that a caller lends, with the counts.
@@ -131,6 +148,11 @@ fn between(a: Node, b: Node) -> Option<Node> {
 
 fn in_range(a: &Node) -> bool {
     a.x.abs() <= FAR && a.y.abs() <= FAR && CORRECTIONS.contains(&a.dx) && CORRECTIONS.contains(&a.dy)
+}
+
+/// Twice the area between three places, whichever way round they stand.
+fn spanned([a, b, c]: [[i128; 2]; 3]) -> i128 {
+    ((b[0] - a[0]) * (c[1] - a[1]) - (c[0] - a[0]) * (b[1] - a[1])).abs()
 }
 
 fn misnames(r: Row, n: usize) -> bool {
@@ -310,6 +332,29 @@ impl Mesh {
             rows: rows.into_iter().flatten().map(|r| r.map(|k| number[k])).collect(),
         })
     }
+
+    /// The rows whose closed triangle holds the point, from the lowest up: those whose area the three areas that it makes with the sides add up to;
+    /// from outside they make more.
+    fn holders(&self, point: [i32; 2]) -> impl Iterator<Item = Holder> + '_ {
+        let point = point.map(i128::from);
+        self.rows.iter().enumerate().filter_map(move |(row, r)| {
+            let corners = r.map(|k| self.nodes[k]);
+            let [p, q, r] = corners.map(|a| [a.x, a.y].map(i128::from));
+            let areas = [[q, r, point], [r, p, point], [p, q, point]].map(spanned);
+            let sum = |part: fn(&Node) -> i64| corners.iter().zip(areas).map(|(a, area)| area * i128::from(part(a))).sum();
+            let filled = areas.iter().sum::<i128>() == spanned([p, q, r]);
+            filled.then(|| Holder { row, areas, sums: [sum(|a| a.dx), sum(|a| a.dy)] })
+        })
+    }
+}
+
+impl Holder {
+    /// "the mean of its three corrections, each weighted by the area the point makes with the side opposite, each part rounded down from the exact
+    /// fraction"
+    pub fn told(&self) -> [i32; 2] {
+        let area: i128 = self.areas.iter().sum();
+        self.sums.map(|sum| sum.div_euclid(area) as i32)
+    }
 }
 
 fn marks_fit(marks: &[u8], count: usize) -> bool {
@@ -332,8 +377,13 @@ fn lawful(g: &mut Tables, n0: usize, marks_fit: bool) -> Result<Mesh, Answer> {
 }
 
 /// All nodes or rows of the tables that the call was given which offend against its number; none where a value to be set does.
-pub fn offenders(given: &Tables, a: Answer) -> Vec<usize> {
-    if a.number < 3 { vec![] } else { given.mesh().offenders(a.number) }
+pub fn offenders(given: &Tables, number: u32) -> Vec<usize> {
+    if number < 3 { vec![] } else { given.mesh().offenders(number) }
+}
+
+/// All rows of the lawful mesh that the tables hold which hold the point, from the lowest up.
+pub fn holders(given: &Tables, point: [i32; 2]) -> Vec<Holder> {
+    given.mesh().holders(point).collect()
 }
 
 pub fn check(g: &mut Tables) -> Answer {
@@ -409,5 +459,20 @@ pub fn set_correction(g: &mut Tables, n0: usize, node: usize, dx: i32, dy: i32) 
             g.store(&m);
             g.done(0)
         }
+    }
+}
+
+/// Request W6: "the lowest row whose closed triangle holds it" tells the correction at the point, which may be any. Nodes and rows are only read.
+pub fn correction_at(g: &mut Tables, n0: usize, point: [i32; 2]) -> Told {
+    let refused = |number, culprit| Told { number, dx: 0, dy: 0, culprit };
+    let m = match lawful(g, n0, true) {
+        Ok(m) => m,
+        Err(a) => return refused(a.number, a.culprit),
+    };
+    g.scratch.fill(0);
+    let lowest = m.holders(point).next();
+    match lowest.map(|row| row.told()) {
+        Some([dx, dy]) => Told { number: 0, dx, dy, culprit: 0 },
+        None => refused(14, 0),
     }
 }

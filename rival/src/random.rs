@@ -126,14 +126,30 @@ pub fn absurd(d: &mut Dice) -> (Vec<(i32, i32)>, Vec<[u32; 3]>) {
     (kept, rows)
 }
 
-/// A mesh: a grid or an absurd one, grown by some refinements of the rival's own, of either way, corrections set on it.
+/// How far out a place may be, either way.
+const FAR: i32 = 1_048_576;
+
+/// Places that are not negative, moved anywhere in the range; half the time they are stretched before, as far as the range allows.
+fn spread(d: &mut Dice, nodes: &mut [(i32, i32)]) {
+    let widest = nodes.iter().map(|p| p.0.max(p.1)).fold(1, i32::max);
+    let by = if d.once_in(2) { 2 * FAR / widest } else { 1 };
+    let room = (2 * FAR - by * widest) as usize;
+    let [right, up] = [0, 1].map(|_| d.below(room + 1) as i32 - FAR);
+    nodes.iter_mut().for_each(|p| *p = (by * p.0 + right, by * p.1 + up));
+}
+
+/// A mesh: a grid or an absurd one, once in three times spread over the range, grown by some refinements of the rival's own, of either way,
+/// corrections set on it.
 pub fn mesh(d: &mut Dice) -> (Tables, usize) {
-    let (nodes, rows) = if d.once_in(3) {
+    let (mut nodes, rows) = if d.once_in(3) {
         let (w, h) = (1 + d.below(3), 1 + d.below(3));
         grid(w, h, 1 << d.below(6))
     } else {
         absurd(d)
     };
+    if d.once_in(3) {
+        spread(d, &mut nodes);
+    }
     let mut g = lend(d, &nodes, &rows);
     let n0 = g.n;
     for _ in 0..d.below(5) {
@@ -158,6 +174,55 @@ pub fn mesh(d: &mut Dice) -> (Tables, usize) {
         *s = d.below(9) as u32;
     }
     (g, n0)
+}
+
+/// A point to be asked about: at a node, on a side or in a triangle, or a step or two from such a one; or far out.
+pub fn point(d: &mut Dice, g: &Tables) -> [i32; 2] {
+    let places: Vec<[i64; 2]> = g.nodes.chunks_exact(4).take(g.n).map(|a| [a[0] as i64, a[1] as i64]).collect();
+    let place = |k: &u32| places.get(*k as usize).copied();
+    let rows: Vec<[[i64; 2]; 3]> = g.rows.chunks_exact(3).take(g.t).filter_map(|r| Some([place(&r[0])?, place(&r[1])?, place(&r[2])?])).collect();
+    if rows.is_empty() || d.once_in(8) {
+        return far_out(d);
+    }
+    let mut corners = rows[d.below(rows.len())];
+    corners.rotate_left(d.below(3));
+    let [p, q, r] = corners;
+    let mut at = match d.below(4) {
+        0 => p,
+        1 => on_side(d, p, q),
+        _ => {
+            let (a, b) = (d.below(64) as i64, d.below(64) as i64);
+            let (a, b) = if a + b > 64 { (64 - a, 64 - b) } else { (a, b) };
+            [0, 1].map(|s| p[s] + ((q[s] - p[s]) * a + (r[s] - p[s]) * b).div_euclid(64))
+        }
+    };
+    if d.once_in(4) {
+        at = at.map(|v| v + d.below(5) as i64 - 2);
+    }
+    at.map(|v| v.clamp(i32::MIN as i64, i32::MAX as i64) as i32)
+}
+
+/// A point of the side from `p` to `q` whose numbers are whole; half the time its middle, if that is one.
+fn on_side(d: &mut Dice, p: [i64; 2], q: [i64; 2]) -> [i64; 2] {
+    let [x, y] = [q[0] - p[0], q[1] - p[1]];
+    let (mut steps, mut rest) = (x.abs(), y.abs());
+    while rest != 0 {
+        (steps, rest) = (rest, steps % rest);
+    }
+    let step = if d.once_in(2) { steps / 2 } else { d.below(steps as usize + 1) as i64 };
+    let steps = steps.max(1);
+    [p[0] + x / steps * step, p[1] + y / steps * step]
+}
+
+/// Anything in the range or a step past it, any two numbers, or the ends of 32 bits.
+fn far_out(d: &mut Dice) -> [i32; 2] {
+    let kind = d.below(4);
+    [0, 1].map(|_| match kind {
+        0 => d.below(2 * FAR as usize + 3) as i32 - FAR - 1,
+        1 => [-FAR - 1, FAR + 1, 0][d.below(3)],
+        2 => d.next() as i32,
+        _ => [i32::MIN, i32::MAX][d.below(2)],
+    })
 }
 
 /// Damage of one kind or another, now and then none.

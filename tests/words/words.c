@@ -37,6 +37,11 @@ static uint32_t set_correction(size_t node, int32_t dx, int32_t dy) {
     return spoutbeetle_set_correction(nodes, 4 * NC, rows, 3 * TC, scratch, SCRATCH, 4, n, t, node, dx, dy, &culprit);
 }
 
+static uint32_t correction_at(int32_t x, int32_t y) {
+    int32_t dx, dy;
+    return spoutbeetle_correction_at(nodes, 4 * NC, rows, 3 * TC, scratch, SCRATCH, 4, n, t, x, y, &dx, &dy, &culprit);
+}
+
 static void say(const char *call, uint32_t number) {
     char text[160];
     spoutbeetle_words(number, culprit, text, sizeof text);
@@ -74,6 +79,8 @@ static void say_calls(void) {
     say("set_correction, node 4 of four", set_correction(4, 5, -6));
     (void)refine(t);
     say("set_correction, an added node", set_correction(4, 32767, -32768));
+    say("correction_at, a corner of the square", correction_at(8, 8));
+    say("correction_at, a step past it", correction_at(9, 8));
 }
 
 /* The reader's refusals. */

@@ -1,7 +1,8 @@
 //! A square in two halves, with corrections at its corners: where a fine rule is printed, its first row is cut in four, the correction of an added
-//! node is set, and the row is refined once more; then the square is restored, corrections and all. Settings of a base node and out of range, and
-//! a square with a row too many, are refused, in words.
-use spoutbeetle::{check, quarter, refine, restore, set_correction, Answer, Node, Refusal, Tables};
+//! node is set, and the row is refined once more; then the square is restored, corrections and all. The correction at a point is asked before the
+//! job, in it and after it. Settings of a base node and out of range, a question about a point outside, and a square with a row too many, are
+//! refused, in words.
+use spoutbeetle::{check, correction_at, quarter, refine, restore, set_correction, Answer, Correction, Node, Refusal, Tables, View};
 
 const NC: usize = 16;
 const TC: usize = 32;
@@ -32,6 +33,16 @@ impl Sheet {
         Ok(a)
     }
 
+    /// Prints the correction at a point, or why there is none.
+    fn ask(&mut self, x: i32, y: i32) {
+        let nodes = Node::numbers(&self.nodes);
+        let g = View { nodes, rows: &self.rows, scratch: &mut self.scratch, n: self.n, t: self.t };
+        match correction_at(g, 4, x, y) {
+            Ok(Correction { dx, dy }) => println!("at ({x}, {y}): correction ({dx}, {dy})"),
+            Err(refusal) => println!("at ({x}, {y}): {refusal}"),
+        }
+    }
+
     fn show(&self, k: usize) {
         let Node { x, y, dx, dy } = self.nodes[k];
         println!("node {k}: place ({x}, {y}), correction ({dx}, {dy})");
@@ -54,6 +65,8 @@ fn print_fine_rule(sheet: &mut Sheet) -> Result<(), Refusal> {
     sheet.show(4); // the mean of nodes 0 and 2: -3 and 0 give -2
     done("set node 4", sheet.call(|g| set_correction(g, 4, 4, 9, -9))?);
     sheet.show(4);
+    sheet.ask(2, 1); // in the triangle of nodes 6, 4 and 0
+    sheet.ask(9, 1);
     refused("set node 3", sheet.call(|g| set_correction(g, 4, 3, 9, -9)));
     refused("set node 7", sheet.call(|g| set_correction(g, 4, 7, 9, -9)));
     refused("set node 4 to 32,768", sheet.call(|g| set_correction(g, 4, 4, 32_768, -9)));
@@ -65,6 +78,7 @@ fn print_fine_rule(sheet: &mut Sheet) -> Result<(), Refusal> {
 fn main() -> Result<(), Refusal> {
     let mut sheet = Sheet::square();
     done("check", sheet.call(check)?);
+    sheet.ask(2, 1); // -14/8 and 40/8
     print_fine_rule(&mut sheet)?;
     let a = sheet.call(|g| restore(g, 4))?;
     done("restore", a);
@@ -72,6 +86,7 @@ fn main() -> Result<(), Refusal> {
     assert!(sheet.nodes == base.nodes && sheet.rows == base.rows, "the base is back");
     println!("{} passes, and the base is back, with its corrections:", a.passes);
     (0..sheet.n).for_each(|k| sheet.show(k));
+    sheet.ask(2, 1); // as before the job
 
     sheet.rows.copy_within(0..3, 6);
     sheet.t = 3;

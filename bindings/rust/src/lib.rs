@@ -27,6 +27,13 @@ impl fmt::Display for Answer {
     }
 }
 
+/// The correction at a point.
+#[derive(Clone, Copy, Debug, Default, PartialEq, Eq, Hash)]
+pub struct Correction {
+    pub dx: i32,
+    pub dy: i32,
+}
+
 /// The tables that a call works on, four numbers a node ([`Node::table`] makes one of nodes), three a row, and scratch of at least 4 (NC + TC)
 /// numbers; and the counts.
 pub struct Tables<'a> {
@@ -35,6 +42,21 @@ pub struct Tables<'a> {
     pub scratch: &'a mut [u32],
     pub n: usize,
     pub t: usize,
+}
+
+/// The tables as a question takes them: nodes ([`Node::numbers`]) and rows are only read.
+pub struct View<'a> {
+    pub nodes: &'a [i32],
+    pub rows: &'a [u32],
+    pub scratch: &'a mut [u32],
+    pub n: usize,
+    pub t: usize,
+}
+
+impl<'a> From<Tables<'a>> for View<'a> {
+    fn from(g: Tables<'a>) -> View<'a> {
+        View { nodes: g.nodes, rows: g.rows, scratch: g.scratch, n: g.n, t: g.t }
+    }
 }
 
 // SAFETY, in every call below: the pointers and lengths are those of live, distinct slices and numbers, which is all that a call asks.
@@ -81,6 +103,19 @@ pub fn set_correction(g: Tables, n0: usize, node: usize, dx: i32, dy: i32) -> Re
     said(number, culprit, Answer { n: g.n, t: g.t, passes: 0 })
 }
 
+/// A question about a point, which may be any: what is the correction there? The lowest row whose triangle holds it, sides and corners included,
+/// answers the mean of what its three nodes carry, each weighted by the area that the point makes with the side opposite, and each part rounded
+/// down from the exact fraction. Where no triangle holds the point it is refused with [`Refusal::Outside`]. `n0` is the base's node count.
+///
+/// After a restore that gives back a base, answers depend on the base and the point alone: spoutbeetle.h has it in full.
+pub fn correction_at(g: View, n0: usize, x: i32, y: i32) -> Result<Correction, Refusal> {
+    let (mut dx, mut dy, mut culprit) = (0, 0, 0);
+    let number = unsafe {
+        ffi::spoutbeetle_correction_at(g.nodes.as_ptr(), g.nodes.len(), g.rows.as_ptr(), g.rows.len(), g.scratch.as_mut_ptr(), g.scratch.len(), n0, g.n, g.t, x, y, &mut dx, &mut dy, &mut culprit)
+    };
+    said(number, culprit, Correction { dx, dy })
+}
+
 /// Coarsens while a good node exists. `n0` is the base's node count. It gives back a base that the check admitted, row for row with its
 /// corrections, if since then all accepted calls had the base's node count and worked on what the accepted call before left: spoutbeetle.h has it in full.
 pub fn restore(g: Tables, n0: usize) -> Result<Answer, Refusal> {
@@ -91,6 +126,6 @@ pub fn restore(g: Tables, n0: usize) -> Result<Answer, Refusal> {
     said(number, culprit, Answer { n, t, passes })
 }
 
-fn said(number: u32, culprit: usize, answer: Answer) -> Result<Answer, Refusal> {
+fn said<A>(number: u32, culprit: usize, answer: A) -> Result<A, Refusal> {
     Refusal::of(number, culprit).map_or(Ok(answer), Err)
 }

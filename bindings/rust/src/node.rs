@@ -31,6 +31,12 @@ impl Node {
         unsafe { std::slice::from_raw_parts_mut(nodes.as_mut_ptr().cast(), length) }
     }
 
+    /// As `table`, to be read.
+    pub fn numbers(nodes: &[Node]) -> &[i32] {
+        // SAFETY: as above.
+        unsafe { std::slice::from_raw_parts(nodes.as_ptr().cast(), 4 * nodes.len()) }
+    }
+
     /// The nodes that a table holds; numbers behind the last whole node are left out.
     pub fn of(table: &[i32]) -> &[Node] {
         // SAFETY: as above.

@@ -32,6 +32,8 @@ pub enum Refusal {
     NotCompatible,
     /// 13: the node to be set is a base node, below n0 (set_correction only).
     BaseNode,
+    /// 14: no triangle holds the point (correction_at only).
+    Outside,
     /// 15: the node to be set is not below n (set_correction only).
     NoSuchNode,
     /// 17: the piece is over 512 bytes, or comes after the end was announced (reader only).
@@ -56,6 +58,7 @@ impl Refusal {
             9 => Refusal::NoRoom,
             10 => Refusal::NotCompatible,
             13 => Refusal::BaseNode,
+            14 => Refusal::Outside,
             15 => Refusal::NoSuchNode,
             17 => Refusal::Piece,
             _ => Refusal::Unknown { number },
@@ -76,6 +79,7 @@ impl Refusal {
             Refusal::NoRoom => 9,
             Refusal::NotCompatible => 10,
             Refusal::BaseNode => 13,
+            Refusal::Outside => 14,
             Refusal::NoSuchNode => 15,
             Refusal::Piece => 17,
             Refusal::Unknown { number } => number,
@@ -115,6 +119,7 @@ impl fmt::Display for Refusal {
             Refusal::NoRoom => f.write_str("there is no room for the new nodes or triangles")?,
             Refusal::NotCompatible => f.write_str("the labelling is not compatible")?,
             Refusal::BaseNode => f.write_str("the node to be set belongs to the base")?,
+            Refusal::Outside => f.write_str("no triangle holds the point")?,
             Refusal::NoSuchNode => f.write_str("the node to be set is not there")?,
             Refusal::Piece => f.write_str("the piece is over 512 bytes, or comes after the end")?,
             Refusal::Unknown { .. } => f.write_str("no call gives this number")?,

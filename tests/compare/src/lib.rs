@@ -2,11 +2,12 @@
 //! the reader are in `reader`.
 pub mod meshes;
 pub mod panel;
+pub mod questions;
 pub mod reader;
 pub mod text_times;
 
-use rival::calls::{self, Answer, Tables};
-use spoutbeetle::ffi;
+use rival::calls::{self, Tables};
+use spoutbeetle::{ffi, Refusal};
 
 /// A call with what it is given besides the tables.
 #[derive(Clone, Debug)]
@@ -18,6 +19,20 @@ pub enum Call {
     Restore(usize),
     /// The base's node count, the node, and its correction.
     Set(usize, usize, [i32; 2]),
+    /// The base's node count, and the point that is asked about.
+    Ask(usize, [i32; 2]),
+}
+
+/// What a call says: its number, the counts after it, the passes it made, the correction it told, and the node or row at fault.
+#[derive(Clone, Copy, Debug, PartialEq, Eq)]
+pub struct Answer {
+    pub number: u32,
+    pub n: usize,
+    pub t: usize,
+    pub passes: usize,
+    /// Told by a question; 0, 0 by the other calls.
+    pub told: [i32; 2],
+    pub culprit: usize,
 }
 
 impl Call {
@@ -29,13 +44,14 @@ impl Call {
             Call::Coarsen(..) => "coarsen",
             Call::Restore(..) => "restore",
             Call::Set(..) => "set_correction",
+            Call::Ask(..) => "correction_at",
         }
     }
 }
 
-/// By the exported calls. What is only written, passes and culprit, holds sevens before.
+/// By the exported calls. What is only written, passes, the correction told and culprit, holds sevens before.
 pub fn proved(call: &Call, g: &mut Tables) -> Answer {
-    let (mut n, mut t, mut passes, mut culprit) = (g.n, g.t, 0, 7777);
+    let (mut n, mut t, mut passes, mut told, mut culprit) = (g.n, g.t, 0, [0, 0], 7777);
     let (nodes, nodes_len) = (g.nodes.as_mut_ptr(), g.nodes.len());
     let (rows, rows_len) = (g.rows.as_mut_ptr(), g.rows.len());
     let (scratch, scratch_len) = (g.scratch.as_mut_ptr(), g.scratch.len());
@@ -56,41 +72,54 @@ pub fn proved(call: &Call, g: &mut Tables) -> Answer {
             Call::Set(n0, node, [dx, dy]) => {
                 ffi::spoutbeetle_set_correction(nodes, nodes_len, rows, rows_len, scratch, scratch_len, *n0, n, t, *node, *dx, *dy, &mut culprit)
             }
+            Call::Ask(n0, [x, y]) => {
+                told = [7777, 7777];
+                let [dx, dy] = &mut told;
+                ffi::spoutbeetle_correction_at(nodes, nodes_len, rows, rows_len, scratch, scratch_len, *n0, n, t, *x, *y, dx, dy, &mut culprit)
+            }
         }
     };
     (g.n, g.t) = (n, t);
-    Answer { number, n, t, passes, culprit }
+    Answer { number, n, t, passes, told, culprit }
 }
 
 /// By the Rust wrapper, whose refusal leaves the counts to the caller.
 pub fn wrapped(call: &Call, g: &mut Tables) -> Answer {
-    let lent = spoutbeetle::Tables { nodes: &mut g.nodes, rows: &mut g.rows, scratch: &mut g.scratch, n: g.n, t: g.t };
+    let (n, t) = (g.n, g.t);
+    let lent = spoutbeetle::Tables { nodes: &mut g.nodes, rows: &mut g.rows, scratch: &mut g.scratch, n, t };
+    let counted = |a: spoutbeetle::Answer| Answer { number: 0, n: a.n, t: a.t, passes: a.passes, told: [0, 0], culprit: 0 };
     let said = match call {
-        Call::Check => spoutbeetle::check(lent),
-        Call::Refine(n0, marks) => spoutbeetle::refine(lent, *n0, marks),
-        Call::Quarter(n0, marks) => spoutbeetle::quarter(lent, *n0, marks),
-        Call::Coarsen(n0, marks) => spoutbeetle::coarsen(lent, *n0, marks),
-        Call::Restore(n0) => spoutbeetle::restore(lent, *n0),
-        Call::Set(n0, node, [dx, dy]) => spoutbeetle::set_correction(lent, *n0, *node, *dx, *dy),
-    };
-    match said {
-        Ok(a) => {
-            (g.n, g.t) = (a.n, a.t);
-            Answer { number: 0, n: a.n, t: a.t, passes: a.passes, culprit: 0 }
+        Call::Check => spoutbeetle::check(lent).map(counted),
+        Call::Refine(n0, marks) => spoutbeetle::refine(lent, *n0, marks).map(counted),
+        Call::Quarter(n0, marks) => spoutbeetle::quarter(lent, *n0, marks).map(counted),
+        Call::Coarsen(n0, marks) => spoutbeetle::coarsen(lent, *n0, marks).map(counted),
+        Call::Restore(n0) => spoutbeetle::restore(lent, *n0).map(counted),
+        Call::Set(n0, node, [dx, dy]) => spoutbeetle::set_correction(lent, *n0, *node, *dx, *dy).map(counted),
+        Call::Ask(n0, [x, y]) => {
+            let told = |c: spoutbeetle::Correction| Answer { number: 0, n, t, passes: 0, told: [c.dx, c.dy], culprit: 0 };
+            spoutbeetle::correction_at(lent.into(), *n0, *x, *y).map(told)
         }
-        Err(r) => Answer { number: r.number(), n: g.n, t: g.t, passes: 0, culprit: r.node().or(r.triangle()).unwrap_or(0) },
-    }
+    };
+    let refused = |r: Refusal| Answer { number: r.number(), n, t, passes: 0, told: [0, 0], culprit: r.node().or(r.triangle()).unwrap_or(0) };
+    let a = said.unwrap_or_else(refused);
+    (g.n, g.t) = (a.n, a.t);
+    a
 }
 
 pub fn rival(call: &Call, g: &mut Tables) -> Answer {
-    match call {
+    let counted = match call {
         Call::Check => calls::check(g),
         Call::Refine(n0, marks) => calls::refine(g, *n0, marks),
         Call::Quarter(n0, marks) => calls::quarter(g, *n0, marks),
         Call::Coarsen(n0, marks) => calls::coarsen(g, *n0, marks),
         Call::Restore(n0) => calls::restore(g, *n0),
         Call::Set(n0, node, [dx, dy]) => calls::set_correction(g, *n0, *node, *dx, *dy),
-    }
+        Call::Ask(n0, point) => {
+            let a = calls::correction_at(g, *n0, *point);
+            return Answer { number: a.number, n: g.n, t: g.t, passes: 0, told: [a.dx, a.dy], culprit: a.culprit };
+        }
+    };
+    Answer { number: counted.number, n: counted.n, t: counted.t, passes: counted.passes, told: [0, 0], culprit: counted.culprit }
 }
 
 /// What the call says, and the tables that it leaves.
@@ -121,7 +150,8 @@ fn smaller(call: &Call, given: &Tables) -> Tables {
     least
 }
 
-/// What all three say and leave, every table entry compared. Where they differ, the tables are made smaller and shown, and the run fails.
+/// What all three say and leave, every table entry compared. Where they differ, the tables are made smaller and shown, and the run fails. It
+/// fails too where a question changes a node or a row, or leaves scratch that is not zero.
 pub fn agreed(seed: u64, call: &Call, given: &Tables) -> (Answer, Tables) {
     if differ(call, given) {
         let least = smaller(call, given);
@@ -129,5 +159,10 @@ pub fn agreed(seed: u64, call: &Call, given: &Tables) -> (Answer, Tables) {
         println!("seed {seed}: they differ on {call:?}\nexported {ours:?}\nwrapper {wrapper:?}\nrival {theirs:?}\nsmallest tables found {least:?}");
         std::process::exit(1);
     }
-    made(call, given, rival)
+    let (said, left) = made(call, given, rival);
+    if matches!(call, Call::Ask(..)) {
+        let only_read = left.nodes == given.nodes && left.rows == given.rows;
+        assert!(only_read && left.scratch.iter().all(|&s| s == 0), "seed {seed}: {call:?} left {left:?} of {given:?}");
+    }
+    (said, left)
 }

@@ -1,17 +1,19 @@
 //! Drives the proved library, by its exported calls and by the wrapper, and the rival with the same random calls and compares answers and
 //! every table entry. Usage: compare COUNT [SEED]. The first difference is made smaller by taking rows away, shown with its seed, and the
 //! run fails. A run in which a call never gave one of the numbers that it may answer, or one of 3 to 7 never with a culprit above 0 or
-//! never with several at fault, fails too: it is to be longer. A setting must have drawn 3 by what is stored and by the value to be set.
-use compare::{agreed, Call};
-use rival::calls::{offenders, Answer, Tables};
-use rival::random::{any_correction, damage, mesh, Dice};
+//! never with several at fault, fails too: it is to be longer. A setting must have drawn 3 by what is stored and by the value to be set, and
+//! questions must have been of every kind of compare::questions.
+use compare::questions::{kinds, KINDS};
+use compare::{agreed, Answer, Call};
+use rival::calls::{offenders, Tables};
+use rival::random::{any_correction, damage, mesh, point, Dice};
 use std::collections::BTreeMap;
 
 /// Settings whose value is out of range, while all that is stored is in range.
 const BY_VALUE: &str = "set_correction, by the value to be set,";
 
 /// The calls, and the numbers that documents 01 and 02 list for each; quarter's are refine's.
-const NUMBERS: [(&str, &[u32]); 7] = [
+const NUMBERS: [(&str, &[u32]); 8] = [
     ("check", &[0, 1, 3, 4, 5, 6, 7, 10]),
     ("refine", &[0, 1, 2, 3, 4, 5, 6, 7, 8, 9]),
     ("quarter", &[0, 1, 2, 3, 4, 5, 6, 7, 8, 9]),
@@ -19,6 +21,7 @@ const NUMBERS: [(&str, &[u32]); 7] = [
     ("restore", &[0, 1, 3, 4, 5, 6, 7]),
     ("set_correction", &[0, 1, 3, 4, 5, 6, 7, 13, 15]),
     (BY_VALUE, &[3]),
+    ("correction_at", &[0, 1, 3, 4, 5, 6, 7, 14]),
 ];
 
 /// A base node, an added one, or one that is not there.
@@ -44,25 +47,27 @@ fn random_call(d: &mut Dice, g: &Tables, base: usize) -> Call {
         m
     };
     let (refining, coarsening) = (marks(g.t, 3), marks(g.n, 1));
-    match d.below(6) {
+    match d.below(8) {
         0 => Call::Check,
         1 => Call::Refine(n0, refining),
         2 => Call::Quarter(n0, refining),
         3 if d.once_in(2) => Call::Coarsen(n0, coarsening),
         3 => Call::Coarsen(n0, coarsening.iter().map(|&b| if d.once_in(3) { 0 } else { b }).collect()),
         4 => Call::Restore(n0),
-        _ => {
+        5 => {
             let node = random_node(d, g.n, n0);
             Call::Set(n0, node, any_correction(d))
         }
+        _ => Call::Ask(n0, point(d, g)),
     }
 }
 
-/// The call as it is counted: a setting that its value alone refuses stands for itself.
-fn counted_as(call: &Call, said: Answer, at_fault: &[usize]) -> &'static str {
+/// The call as it is counted: a setting that its value alone refuses stands for itself, and a question is counted with its kinds too.
+fn counted_as(call: &Call, given: &Tables, said: Answer, at_fault: &[usize]) -> Vec<&'static str> {
     match call {
-        Call::Set(..) if said.number == 3 && at_fault.is_empty() => BY_VALUE,
-        _ => call.name(),
+        Call::Set(..) if said.number == 3 && at_fault.is_empty() => vec![BY_VALUE],
+        Call::Ask(_, point) => [vec![call.name()], kinds(given, *point, said.number)].concat(),
+        _ => vec![call.name()],
     }
 }
 
@@ -81,17 +86,19 @@ fn compare_one(seed: u64, seen: &mut BTreeMap<(&str, u32), Times>) {
     damage(&mut d, &mut given);
     let call = random_call(&mut d, &given, base);
     let (said, _) = agreed(seed, &call, &given);
-    let at_fault = offenders(&given, said);
-    let times = seen.entry((counted_as(&call, said, &at_fault), said.number)).or_default();
-    times.given += 1;
-    times.above += (said.culprit > 0) as u64;
-    times.several += (at_fault.len() > 1) as u64;
+    let at_fault = offenders(&given, said.number);
+    for name in counted_as(&call, &given, said, &at_fault) {
+        let times = seen.entry((name, said.number)).or_default();
+        times.given += 1;
+        times.above += (said.culprit > 0) as u64;
+        times.several += (at_fault.len() > 1) as u64;
+    }
 }
 
 /// What the calls said, and what of it was never seen.
 fn tell(seen: &BTreeMap<(&str, u32), Times>) -> Vec<String> {
     let mut missed = vec![];
-    for (kind, numbers) in NUMBERS {
+    for (kind, numbers) in NUMBERS.into_iter().chain(KINDS) {
         let told = numbers.iter().map(|&k| match seen.get(&(kind, k)) {
             Some(times) if (3..=7).contains(&k) => {
                 missed.extend((times.above == 0).then(|| format!("{kind} {k} with a culprit above 0")));
@@ -120,5 +127,6 @@ fn main() {
         println!("compare: {count} calls from seed {first} agree, but were never answered: {}", missed.join(", "));
         std::process::exit(1);
     }
-    println!("compare: {count} calls from seed {first} agree; every number was given, 3 to 7 with culprits above 0 and with several at fault");
+    let came = "every number was given, 3 to 7 with culprits above 0 and with several at fault, and every kind of question came";
+    println!("compare: {count} calls from seed {first} agree; {came}");
 }

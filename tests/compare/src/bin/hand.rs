@@ -1,8 +1,9 @@
-//! Document 01's hand meshes, those of requests W1 and W5, and every refusal with its culprit, run through the proved library, by its exported
+//! Document 01's hand meshes, those of requests W1, W5 and W6, and every refusal with its culprit, run through the proved library, by its exported
 //! calls and by the wrapper, and through the rival. Usage: hand.
-//! Entries past the counts and scratch hold sevens before each call: after 0 they are zero, after a refusal the tables are as they were.
-use compare::{proved, rival as other, wrapped, Call};
-use rival::calls::{Answer, Tables};
+//! Entries past the counts and scratch hold sevens before each call: after 0 they are zero, after a refusal, a check or a question the tables are
+//! as they were.
+use compare::{proved, rival as other, wrapped, Answer, Call};
+use rival::calls::Tables;
 use rival::random::grid;
 
 /// Places of nodes, which carry no correction, and rows.
@@ -154,7 +155,27 @@ const BESIDE: Carrying = (&[C.0[0], C.0[1], C.0[2], C.0[3], [4, 5, -2, 2]], CASE
 /// Node 1 is out of range by its correction, node 2 by its place, node 3 by both.
 const ASTRAY: Carrying = (&[[0, 0, 0, 0], [8, 0, 0, 32768], [1048577, 8, 0, 0], [0, 1048577, -32769, 0]], S.1);
 
-/// A call, what it is given, and what 01, W1, W2 or W5 says of it.
+/// S with corrections. At (x, y) row 0 tells dx (4 (x - y) - 3 (8 - x)) / 8 and dy (7 (8 - x) - 2 y) / 8, and row 1, where y is above x, dx
+/// (y - x - 3 (8 - y)) / 8 and dy (y - x + 7 (8 - y) - 2 x) / 8, both rounded down.
+const Q: Carrying = (&[[0, 0, -3, 7], [8, 0, 4, 0], [8, 8, 0, -2], [0, 8, 1, 1]], S.1);
+/// Q, row 0 refined; and then node 4 set.
+const Q_ONCE: Carrying = (&[Q.0[0], Q.0[1], Q.0[2], Q.0[3], [4, 4, -2, 2]], CASE_2.1);
+const Q_SET: Carrying = (&[Q.0[0], Q.0[1], Q.0[2], Q.0[3], [4, 4, 9, -9]], CASE_2.1);
+/// One triangle.
+const HALF: Carrying = (&[[0, 0, -3, 7], [8, 0, 4, 0], [0, 8, 1, 1]], SMALL.1);
+/// How far out a place may be.
+const FAR: i32 = 1048576;
+/// The largest square, whose corners carry either end of the range by turns; all of them one end; and a sliver along its diagonal.
+const BIG: Carrying = (&[[-FAR, -FAR, 32767, -32768], [FAR, -FAR, -32768, 32767], [FAR, FAR, 32767, -32768], [-FAR, FAR, -32768, 32767]], S.1);
+const EVEN: Carrying = (&[BIG.0[0], [FAR, -FAR, 32767, -32768], BIG.0[2], [-FAR, FAR, 32767, -32768]], S.1);
+const SLIVER: Carrying = (&[[-FAR, -FAR, -3, 4], [FAR, FAR, 0, -1], [FAR - 1, FAR, 100, 100]], SMALL.1);
+/// Two triangles at one place; the same, the other row lower; one over the other's corner; and one with its first node in the other.
+const ALIKE: Carrying = (&[[0, 0, 1, 2], [8, 0, 1, 2], [0, 8, 1, 2], [0, 0, -9, 9], [8, 0, -9, 9], [0, 8, -9, 9]], &[[0, 1, 2], [3, 4, 5]]);
+const OTHER_LOWER: Carrying = (ALIKE.0, &[[3, 4, 5], [0, 1, 2]]);
+const LARGER: Carrying = (&[ALIKE.0[0], ALIKE.0[1], ALIKE.0[2], [0, 0, -9, 9], [16, 0, -9, 9], [0, 16, -9, 9]], ALIKE.1);
+const INSIDE: Carrying = (&[ALIKE.0[0], ALIKE.0[1], ALIKE.0[2], [2, 2, -9, 9], [12, 2, -9, 9], [2, 12, -9, 9]], ALIKE.1);
+
+/// A call, what it is given, and what 01, W1, W2, W5 or W6 says of it.
 struct Case {
     name: &'static str,
     given: Tables,
@@ -162,6 +183,7 @@ struct Case {
     number: u32,
     after: Held,
     passes: usize,
+    told: [i32; 2],
     culprit: usize,
 }
 
@@ -194,12 +216,17 @@ fn lent(mesh: impl Into<Held>, nc: usize, tc: usize) -> Tables {
 
 /// A call that is done and leaves this mesh.
 fn done(name: &'static str, given: impl Into<Held>, call: Call, after: impl Into<Held>, passes: usize) -> Case {
-    Case { name, given: lent(given, 20, 30), call, number: 0, after: after.into(), passes, culprit: 0 }
+    Case { name, given: lent(given, 20, 30), call, number: 0, after: after.into(), passes, told: [0, 0], culprit: 0 }
 }
 
 /// A call that is refused and names nobody.
 fn refused(name: &'static str, given: Tables, call: Call, number: u32) -> Case {
-    Case { name, given, call, number, after: EMPTY.into(), passes: 0, culprit: 0 }
+    Case { name, given, call, number, after: EMPTY.into(), passes: 0, told: [0, 0], culprit: 0 }
+}
+
+/// A question about a point that is answered.
+fn asked(name: &'static str, given: Tables, n0: usize, point: [i32; 2], told: [i32; 2]) -> Case {
+    Case { name, given, call: Call::Ask(n0, point), number: 0, after: EMPTY.into(), passes: 0, told, culprit: 0 }
 }
 
 /// Marks: 1 at the places listed, 0 elsewhere.
@@ -323,6 +350,111 @@ fn means() -> Vec<Case> {
     ends.map(case).into()
 }
 
+/// A question: its name, the mesh, the point, and what is told.
+type Asked = (&'static str, Carrying, [i32; 2], [i32; 2]);
+
+/// Asked in tables with room to spare.
+fn in_tables((name, mesh, point, told): Asked) -> Case {
+    asked(name, lent(mesh, 20, 30), mesh.0.len(), point, told)
+}
+
+/// Request W6 on small meshes: points inside, on sides and on corners, rounded down.
+fn questions() -> Vec<Case> {
+    let asked_about: [Asked; 35] = [
+        ("W6, in row 0, 3/8 and 17/8", Q, [5, 2], [0, 2]),
+        ("W6, in row 0, 21/8 and 5/8", Q, [7, 1], [2, 0]),
+        ("W6, in row 0, -14/8 and 40/8", Q, [2, 1], [-2, 5]),
+        ("W6, in row 0, 1/8 and -5/8", Q, [7, 6], [0, -1]),
+        ("W6, in row 1, -6/8 and 20/8", Q, [2, 5], [-1, 2]),
+        ("W6, in row 1, 3/8 and 11/8", Q, [1, 7], [0, 1]),
+        ("W6, in row 1, -2/8 and -4/8", Q, [6, 7], [-1, -1]),
+        ("W6, on the side below, -3/8 and 35/8", Q, [3, 0], [-1, 4]),
+        ("W6, on the right side, 12/8 and -10/8", Q, [8, 5], [1, -2]),
+        ("W6, on the left side, -12/8 and 38/8", Q, [0, 3], [-2, 4]),
+        ("W6, on the side above, 3/8 and -7/8", Q, [5, 8], [0, -1]),
+        ("W6, on the shared side, -3/2 and 5/2", Q, [4, 4], [-2, 2]),
+        ("W6, on the shared side, -21/8 and 47/8", Q, [1, 1], [-3, 5]),
+        ("W6, on the shared side, -6/8 and 2/8", Q, [6, 6], [-1, 0]),
+        ("W6, at node 0", Q, [0, 0], [-3, 7]),
+        ("W6, at node 1", Q, [8, 0], [4, 0]),
+        ("W6, at node 2", Q, [8, 8], [0, -2]),
+        ("W6, at node 3", Q, [0, 8], [1, 1]),
+        ("W6, refined, -60/32 and 156/32", Q_ONCE, [2, 1], [-2, 4]),
+        ("W6, at an added node", Q_ONCE, [4, 4], [-2, 2]),
+        ("W6, beside a node that was set, 28/32 and 68/32", Q_SET, [2, 1], [0, 2]),
+        ("W6, at a node that was set", Q_SET, [4, 4], [9, -9]),
+        ("W6, on the longest side of one triangle, 5/2 and 1/2", HALF, [4, 4], [2, 0]),
+        ("W6, by a corner of the smallest triangle", (&[[0, 0, 5, -6], [1, 0, 0, 0], [0, 1, 0, 0]], SMALL.1), [0, 0], [5, -6]),
+        ("W6, by rows that coincide", ALIKE, [2, 2], [1, 2]),
+        ("W6, at nodes that coincide", ALIKE, [8, 0], [1, 2]),
+        ("W6, by rows that coincide, the other lower", OTHER_LOWER, [2, 2], [-9, 9]),
+        ("W6, at nodes that coincide, the other lower", OTHER_LOWER, [8, 0], [-9, 9]),
+        ("W6, by a row over a corner, in both", LARGER, [4, 4], [1, 2]),
+        ("W6, by a row over a corner, in the larger", LARGER, [4, 5], [-9, 9]),
+        ("W6, by a row over a corner, at its node", LARGER, [16, 0], [-9, 9]),
+        ("W6, at a node in a lower row", INSIDE, [2, 2], [1, 2]),
+        ("W6, at a node in no lower row", INSIDE, [12, 2], [-9, 9]),
+        ("W6, on the lower row's side, in the other", INSIDE, [4, 4], [1, 2]),
+        ("W6, a step past it", INSIDE, [5, 4], [-9, 9]),
+    ];
+    let others = [asked("W6, in full tables", lent(Q, 4, 2), 4, [5, 2], [0, 2]), asked("W6, with no base node", lent(Q, 20, 30), 0, [5, 2], [0, 2])];
+    asked_about.into_iter().map(in_tables).chain(others).collect()
+}
+
+/// Request W6 on the largest meshes. On BIG a step along a side changes dx and dy by 65,535 / 2,097,152.
+fn largest_questions() -> Vec<Case> {
+    let asked_about: [Asked; 16] = [
+        ("W6, the middle", BIG, [0, 0], [32767, -32768]),
+        ("W6, right of the middle", BIG, [1, 0], [32766, -32768]),
+        ("W6, above the middle", BIG, [0, 1], [32766, -32768]),
+        ("W6, the middle of row 0, -1/2", BIG, [FAR / 2, -FAR / 2], [-1, -1]),
+        ("W6, the middle of a side, -1/2", BIG, [0, -FAR], [-1, -1]),
+        ("W6, a unit from node 0", BIG, [1 - FAR, -FAR], [32766, -32768]),
+        ("W6, a unit from node 1", BIG, [FAR, 1 - FAR], [-32768, 32766]),
+        ("W6, at node 0 of the largest", BIG, [-FAR, -FAR], [32767, -32768]),
+        ("W6, at node 1 of the largest", BIG, [FAR, -FAR], [-32768, 32767]),
+        ("W6, at node 2 of the largest", BIG, [FAR, FAR], [32767, -32768]),
+        ("W6, at node 3 of the largest", BIG, [-FAR, FAR], [-32768, 32767]),
+        ("W6, one end everywhere, row 0", EVEN, [654321, -123457], [32767, -32768]),
+        ("W6, one end everywhere, row 1", EVEN, [-123457, 654321], [32767, -32768]),
+        ("W6, one end everywhere, on the shared side", EVEN, [-7, -7], [32767, -32768]),
+        ("W6, on a sliver, -3/2 and 3/2", SLIVER, [0, 0], [-2, 1]),
+        ("W6, at the end of a sliver", SLIVER, [FAR - 1, FAR], [100, 100]),
+    ];
+    // node k carries k and -k; the first row is (1, 33, 0), the last (1022, 990, 1023)
+    let (nodes, rows) = grid(31, 31, 8);
+    let many = || lent(Held { nodes: nodes.iter().zip(0..).flat_map(|(p, k)| [p.0, p.1, k, -k]).collect(), rows: rows.concat() }, 1024, 2048);
+    let others = [
+        asked("W6, the first row of many, 69/8", many(), 1024, [5, 2], [8, -9]),
+        asked("W6, the last row of many, 8114/8", many(), 1024, [242, 246], [1014, -1015]),
+        refused("14, no row of many", many(), Call::Ask(1024, [249, 248]), 14),
+    ];
+    asked_about.into_iter().map(in_tables).chain(others).collect()
+}
+
+/// 14: a step outside, beyond a corner on a side's line, and as far out as a point can be.
+fn number_14() -> Vec<Case> {
+    const LOW: i32 = i32::MIN;
+    const HIGH: i32 = i32::MAX;
+    let ends = [[LOW, LOW], [LOW, HIGH], [HIGH, LOW], [HIGH, HIGH], [0, LOW], [HIGH, 0]];
+    let outside = |name: &'static str, mesh: Carrying, points: &[[i32; 2]]| -> Vec<Case> {
+        points.iter().map(|&point| refused(name, lent(mesh, 20, 30), Call::Ask(mesh.0.len(), point), 14)).collect()
+    };
+    let empty: Carrying = (&[], &[]);
+    let all = [
+        outside("14, a step outside", Q, &[[9, 4], [-1, 4], [4, -1], [4, 9], [9, 8], [8, 9], [-1, 0], [0, -1], [9, 9], [-1, -1]]),
+        outside("14, a step past the longest side", HALF, &[[4, 5], [5, 4], [1, 8], [8, 1]]),
+        outside("14, on a side's line", HALF, &[[9, -1], [-1, 9], [9, 0], [0, 9], [-1, 0], [0, -1], [16, -8]]),
+        outside("14, beside a sliver", SLIVER, &[[-1, 0], [0, -1], [FAR - 2, FAR]]),
+        outside("14, a step outside the largest", BIG, &[[FAR + 1, 0], [-FAR - 1, FAR], [0, -FAR - 1], [FAR, FAR + 1]]),
+        outside("14, as far out as can be", Q, &ends),
+        outside("14, as far out as can be, the largest", BIG, &ends),
+        outside("14, as far out as can be, a sliver", SLIVER, &ends),
+        outside("14, the empty mesh", empty, &[[0, 0], ends[0], ends[3]]),
+    ];
+    all.into_iter().flatten().collect()
+}
+
 /// 2: another length, and a byte above 1.
 fn number_2() -> Vec<Case> {
     let s = || lent(S, 20, 30);
@@ -359,12 +491,12 @@ fn numbers_8_to_10() -> Vec<Case> {
     ]
 }
 
-/// Every call but the check takes n0; all answer 3 to 7 alike, and name the same culprit.
+/// Every call but the check takes n0; all answer 3 to 7 alike, and name the same culprit: a question too, be the point in a row or outside.
 fn by_all_calls(name: &'static str, given: Tables, number: u32, culprit: usize) -> Vec<Case> {
     let (nodes, rows) = (vec![0; given.n], vec![0; given.t]);
-    [Call::Check, Call::Refine(0, rows.clone()), Call::Quarter(0, rows), Call::Coarsen(0, nodes), Call::Restore(0), Call::Set(0, 0, [1, -1])]
-        .map(|call| Case { culprit, ..refused(name, given.clone(), call, number) })
-        .into()
+    let marked = [Call::Refine(0, rows.clone()), Call::Quarter(0, rows), Call::Coarsen(0, nodes)];
+    let others = [Call::Check, Call::Restore(0), Call::Set(0, 0, [1, -1]), Call::Ask(0, [4, 2]), Call::Ask(0, [i32::MIN, i32::MAX])];
+    marked.into_iter().chain(others).map(|call| Case { culprit, ..refused(name, given.clone(), call, number) }).collect()
 }
 
 /// Each of 3 to 7, and who is named.
@@ -453,11 +585,13 @@ fn number_1() -> Vec<Case> {
         ("1, scratch one short", |g| g.scratch.truncate(4 * 50 - 1)),
         ("1 before 4", |g| (g.rows[5], g.scratch) = (4, vec![])),
     ];
-    let mut all: Vec<Case> = [refine(S, 5, &[0]), quarter(S, 5, &[0]), full_pass(S, 5), Call::Restore(5), Call::Set(5, 4, [0, 0])]
-        .map(|call| refused("1, n0 above n", lent(S, 20, 30), call, 1))
-        .into();
+    let with = |n0: usize| {
+        let marked = [refine(S, n0, &[0]), quarter(S, n0, &[0]), full_pass(S, n0)];
+        marked.into_iter().chain([Call::Restore(n0), Call::Set(n0, 4, [40000, 0]), Call::Ask(n0, [4, 2]), Call::Ask(n0, [9, 2])])
+    };
+    let mut all: Vec<Case> = with(5).map(|call| refused("1, n0 above n", lent(S, 20, 30), call, 1)).collect();
     for (name, spoil) in reasons {
-        for call in [Call::Check, refine(S, 4, &[0]), quarter(S, 4, &[0]), full_pass(S, 4), Call::Restore(4), Call::Set(4, 4, [40000, 0])] {
+        for call in with(4).chain([Call::Check]) {
             let mut given = lent(S, 20, 30);
             spoil(&mut given);
             all.push(refused(name, given, call, 1));
@@ -521,7 +655,7 @@ fn settings_refused() -> Vec<Case> {
 fn expected(case: &Case) -> (Answer, Tables) {
     let given = &case.given;
     let mut after = match case.number {
-        0 if !matches!(case.call, Call::Check) => {
+        0 if !matches!(case.call, Call::Check | Call::Ask(..)) => {
             let after = Held { nodes: case.after.nodes.clone(), rows: case.after.rows.clone() };
             let mut g = lent(after, given.nodes.len() / 4, given.rows.len() / 3);
             g.nodes[4 * g.n..].fill(0);
@@ -531,7 +665,7 @@ fn expected(case: &Case) -> (Answer, Tables) {
         _ => given.clone(),
     };
     after.scratch = vec![0; given.scratch.len()];
-    (Answer { number: case.number, n: after.n, t: after.t, passes: case.passes, culprit: case.culprit }, after)
+    (Answer { number: case.number, n: after.n, t: after.t, passes: case.passes, told: case.told, culprit: case.culprit }, after)
 }
 
 /// Runs the case; says what is wrong, if anything.
@@ -547,9 +681,10 @@ fn fault(case: &Case, by: fn(&Call, &mut Tables) -> Answer) -> Option<String> {
 }
 
 fn main() {
-    let done = [hand_meshes(), quarter_meshes(), range_ends(), corrections(), means()];
-    let refused = [number_1(), number_2(), numbers_3_to_7(), lowest_culprits(), last_culprits(), numbers_8_to_10(), stored_out(), settings_refused()];
-    let cases: Vec<Case> = done.into_iter().chain(refused).flatten().collect();
+    let done = [hand_meshes(), quarter_meshes(), range_ends(), corrections(), means(), questions(), largest_questions()];
+    let unlawful = [number_1(), number_2(), numbers_3_to_7(), lowest_culprits(), last_culprits(), stored_out()];
+    let refused = [numbers_8_to_10(), settings_refused(), number_14()];
+    let cases: Vec<Case> = done.into_iter().chain(unlawful).chain(refused).flatten().collect();
     let faults: Vec<String> = cases.iter().flat_map(|c| [fault(c, proved), fault(c, wrapped), fault(c, other)]).flatten().collect();
     for f in &faults {
         println!("hand: {f}");

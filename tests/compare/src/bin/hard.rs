@@ -1,10 +1,10 @@
 //! Drives the proved library and the rival with meshes made to be hard for a search of neighbours: fans round any node, double fans, dense
-//! meshes and shuffled grids, as they are, grown, spoilt, and in tables of odd lengths. Each goes through all six calls; answers and every table
+//! meshes and shuffled grids, as they are, grown, spoilt, and in tables of odd lengths. Each goes through all seven calls; answers and every table
 //! entry are compared. Usage: hard COUNT [SEED]. A run in which a kind of mesh never met one of the outcomes below fails too: it is to be longer.
 use compare::meshes::{dense, double_fan, fan, shuffled, Mesh};
 use compare::{agreed, made, rival, Call};
 use rival::calls::{quarter, refine, Tables};
-use rival::random::{correction, grid, lend, Dice};
+use rival::random::{correction, grid, lend, point, Dice};
 use std::collections::{BTreeMap, HashSet};
 
 const SHAPES: [&str; 4] = ["fans", "double fans", "dense meshes", "grids"];
@@ -24,13 +24,14 @@ enum State {
 
 /// The calls, and the outcomes that each must have met with every shape: "changed" is 0 with other counts than before, "5 far" names a row whose
 /// edge another holds that stands 500 rows lower or more, "held" is a restore that leaves more nodes since a row holds a split edge.
-const OUTCOMES: [(&str, &[&str]); 6] = [
+const OUTCOMES: [(&str, &[&str]); 7] = [
     ("check", &["0", "1", "5", "5 far", "10"]),
     ("refine", &["changed", "1", "5", "5 far", "9"]),
     ("quarter", &["changed", "1", "5", "5 far", "9"]),
     ("coarsen", &["changed", "1", "5", "5 far"]),
     ("restore", &["changed", "held", "1", "5", "5 far"]),
     ("set_correction", &["0", "1", "5", "5 far", "13", "15"]),
+    ("correction_at", &["0", "1", "5", "5 far", "14"]),
 ];
 const FAR: usize = 500;
 
@@ -147,16 +148,16 @@ fn spoil(d: &mut Dice, g: &mut Tables, state: State) -> Option<(usize, usize)> {
     }
 }
 
-/// The six calls, with the base's node count or, once in four, any.
-fn calls(d: &mut Dice, g: &Tables, base: usize) -> [Call; 6] {
+/// The seven calls, with the base's node count or, once in four, any.
+fn calls(d: &mut Dice, g: &Tables, base: usize) -> [Call; 7] {
     let n0 = if d.once_in(4) { d.below(g.n + 1) } else { base };
     let (rows, more_rows, nodes) = (marks(d, g.t), marks(d, g.t), marks(d, g.n));
     let node = [d.below(g.n), n0 + d.below(g.n - n0), g.n][d.below(3)];
-    let set = Call::Set(n0, node, correction(d));
-    [Call::Check, Call::Refine(n0, rows), Call::Quarter(n0, more_rows), Call::Coarsen(n0, nodes), Call::Restore(n0), set]
+    let (set, ask) = (Call::Set(n0, node, correction(d)), Call::Ask(n0, point(d, g)));
+    [Call::Check, Call::Refine(n0, rows), Call::Quarter(n0, more_rows), Call::Coarsen(n0, nodes), Call::Restore(n0), set, ask]
 }
 
-/// One mesh through all six calls; what they say is held against what was done to the mesh, and counted.
+/// One mesh through all seven calls; what they say is held against what was done to the mesh, and counted.
 fn compare_one(seed: u64, seen: &mut BTreeMap<(&str, &str, String), u64>) {
     let mut d = Dice::new(seed);
     let shape = SHAPES[seed as usize % SHAPES.len()];
@@ -210,5 +211,5 @@ fn main() {
         std::process::exit(1);
     }
     let fives: u64 = seen.iter().filter(|((_, _, outcome), _)| outcome == "5").map(|(_, times)| times).sum();
-    println!("hard: {count} meshes from seed {first}, {} calls agree, {fives} of them said 5 and named the row; every outcome was met", 6 * count);
+    println!("hard: {count} meshes from seed {first}, {} calls agree, {fives} of them said 5 and named the row; every outcome was met", 7 * count);
 }

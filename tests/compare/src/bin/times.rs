@@ -5,8 +5,8 @@
 //!   times counted   the instructions that the proved library takes for each call, counted by callgrind
 //!   times once      each call made once by the proved library, for the former
 use compare::meshes::{any_order, copies, dense, double_fan, fan, fitting, full, grown, shuffled, tables, widen, Marked, Mesh};
-use compare::{made, proved, rival as other, Call};
-use rival::calls::{Answer, Tables};
+use compare::{made, proved, rival as other, Answer, Call};
+use rival::calls::{holders, Tables};
 use rival::random::{grid, Dice};
 use std::collections::HashMap;
 use std::process::Command;
@@ -61,32 +61,68 @@ fn added(name: &str, call: Marked, every: usize, n: usize) -> Case {
     case(name, filling, g)
 }
 
+/// A question about a point that this row answers, or that no row holds: past all nodes by a step.
+fn question(g: &Tables, row: Option<usize>) -> Call {
+    let place = |k: usize| [g.nodes[4 * k], g.nodes[4 * k + 1]];
+    let point = match row {
+        Some(i) => {
+            let corners = [0, 1, 2].map(|s| place(g.rows[3 * i + s] as usize));
+            [0, 1].map(|s| corners.iter().map(|corner| corner[s]).sum::<i32>().div_euclid(3))
+        }
+        None => [0, 1].map(|s| (0..g.n).map(|k| place(k)[s]).fold(0, i32::max) + 1),
+    };
+    assert_eq!(answering(g, point), row, "the row that answers");
+    Call::Ask(g.n, point)
+}
+
+/// The row that answers a question about the point.
+fn answering(g: &Tables, point: [i32; 2]) -> Option<usize> {
+    holders(g, point).first().map(|lowest| lowest.row)
+}
+
+/// A question on the grid that is checked: the first row answers, the last, or none.
+fn asked(name: &str, row: fn(&Tables) -> Option<usize>, n: usize) -> Case {
+    let g = checked(n).given;
+    case(name, question(&g, row(&g)), g)
+}
+
 /// The call made on so many copies of its mesh at once. Each must come out as the one does.
 fn copied(one: &Case, count: usize) -> Case {
-    let (n0, call) = match &one.call {
-        Call::Check => (0, Call::Check),
-        Call::Refine(n0, marks) => (*n0, Call::Refine(n0 * count, marks.repeat(count))),
-        Call::Quarter(n0, marks) => (*n0, Call::Quarter(n0 * count, marks.repeat(count))),
-        Call::Coarsen(n0, marks) => (*n0, Call::Coarsen(n0 * count, marks.repeat(count))),
-        Call::Restore(n0) => (*n0, Call::Restore(n0 * count)),
-        // the first copy's node
-        Call::Set(n0, node, value) => (*n0, Call::Set(n0 * count, n0 * count + node - n0, *value)),
+    let n0 = match one.call {
+        Call::Check => 0,
+        Call::Refine(n0, _) | Call::Quarter(n0, _) | Call::Coarsen(n0, _) | Call::Restore(n0) | Call::Set(n0, ..) | Call::Ask(n0, _) => n0,
     };
-    let all = Case { name: format!("{}, {count} copies of the first", one.name), call, given: copies(&one.given, n0, count) };
+    let given = copies(&one.given, n0, count);
+    let call = match &one.call {
+        Call::Check => Call::Check,
+        Call::Refine(_, marks) => Call::Refine(n0 * count, marks.repeat(count)),
+        Call::Quarter(_, marks) => Call::Quarter(n0 * count, marks.repeat(count)),
+        Call::Coarsen(_, marks) => Call::Coarsen(n0 * count, marks.repeat(count)),
+        Call::Restore(_) => Call::Restore(n0 * count),
+        // the first copy's node
+        Call::Set(_, node, value) => Call::Set(n0 * count, n0 * count + node - n0, *value),
+        // the first copy's first row, the last one's last, or none
+        Call::Ask(_, point) => question(&given, answering(&one.given, *point).map(|row| if row == 0 { 0 } else { given.t - 1 })),
+    };
+    let all = Case { name: format!("{}, {count} copies of the first", one.name), call, given };
     let [a, said] = [one, &all].map(|case| made(&case.call, &case.given, other).0);
-    assert_eq!((said.number, said.n, said.t, said.passes), (0, count * a.n, count * a.t, a.passes), "{}", all.name);
+    assert_eq!((said.number, said.n, said.t, said.passes), (a.number, count * a.n, count * a.t, a.passes), "{}", all.name);
     all
 }
 
-/// Every call in its family: a grid is checked; a square that was grown is refined, cut in four, coarsened and restored, and a node of it is set.
+/// Every call in its family: a grid is checked, and asked about points; a square that was grown is refined, cut in four, coarsened and restored,
+/// and a node of it is set.
 fn families() -> Vec<Case> {
-    let families: [fn(usize) -> Case; 6] = [
+    let families: [fn(usize) -> Case; 9] = [
         checked,
         |n| added("refine", Call::Refine, 3, n),
         |n| added("quarter", Call::Quarter, 9, n),
         |n| case("one full pass", Call::Coarsen(4, vec![1; n]), grown(n)),
         |n| case("restore", Call::Restore(4), grown(n)),
         |n| case("set_correction", Call::Set(4, n - 1, [-3, 5]), grown(n)),
+        |n| asked("correction_at by the first row", |_| Some(0), n),
+        |n| asked("correction_at by the last row", |g| Some(g.t - 1), n),
+        |n| asked("correction_at by none", |_| None, n),
     ];
     let members = |family: &fn(usize) -> Case| {
         let sized = SIZES.map(family);
@@ -121,6 +157,11 @@ fn bad() -> Vec<Case> {
         ("a grid shuffled", shuffled(d, &grid(31, 31, 8))),
     ];
     let mut cases: Vec<_> = checked.iter().map(|(what, mesh)| case(&format!("check, {what}"), Call::Check, largest(mesh))).collect();
+    let asked = |(what, mesh): &(&str, Mesh)| {
+        let g = largest(mesh);
+        case(&format!("correction_at by none, {what}"), question(&g, None), g)
+    };
+    cases.extend(checked.iter().map(asked));
     cases.push(case("set_correction, a full table", Call::Set(1023, 1023, [-3, 5]), largest(&full())));
     cases.extend(there_and_back("a fan, its hub numbered highest", Call::Refine, &fan(511, 511)));
     cases.extend(there_and_back("a fan, its hub numbered highest", Call::Quarter, &fan(341, 341)));
@@ -205,10 +246,11 @@ fn shares(case: &Case) -> [f64; 2] {
     [case.given.n.max(a.n) as f64, case.given.t.max(a.t) as f64]
 }
 
-/// The row of the table. Both programs must have said 0, and left the same tables.
+/// The row of the table. Both programs must have said 0, or 14 where no row answers, and left the same tables.
 fn row(case: &Case, cost: &Cost) -> String {
     let (a, left) = made(&case.call, &case.given, proved);
-    assert!(a.number == 0 && (a, left) == made(&case.call, &case.given, other), "{}", case.name);
+    let outside = matches!(case.call, Call::Ask(_, point) if answering(&case.given, point).is_none());
+    assert!(a.number == if outside { 14 } else { 0 } && (a, left) == made(&case.call, &case.given, other), "{}", case.name);
     let (g, time) = (&case.given, |ns: f64| format!("{:.1?}", Duration::from_nanos(ns as u64)));
     let each = shares(case).map(|share| format!("{:.0}", cost.ours / share)).join(" | ");
     let measured = match cost.theirs {

@@ -1,9 +1,11 @@
 //! Random walks over the proved library: a base whose nodes carry corrections, a thousand accepted and refused calls that mix both ways to refine
-//! with coarsen and settings, then restore, which must give back the base row for row, corrections and all, with no more passes than nodes were
-//! added. Usage: walks COUNT [SEED]. A run in which no setting was accepted, or none refused as 3, 13 or 15, fails: it is to be longer.
-use compare::{proved, Call};
-use rival::calls::{Answer, Tables};
-use rival::random::{any_correction, grid, lend, Dice};
+//! with coarsen, settings and questions, then restore, which must give back the base row for row, corrections and all, with no more passes than
+//! nodes were added. Some points are asked about before the walk, now and then on it, and after it, when the answers must be the first ones again.
+//! Usage: walks COUNT [SEED]. A run in which no setting was accepted, or none refused as 3, 13 or 15, no point was in a row or none outside, or
+//! no answer on the way was another, fails: it is to be longer.
+use compare::{agreed, proved, Answer, Call};
+use rival::calls::Tables;
+use rival::random::{any_correction, grid, lend, point, Dice};
 use spoutbeetle::Node;
 
 /// What a walk made of its calls.
@@ -16,8 +18,20 @@ struct Told {
     refused: usize,
     /// Settings refused as 3, 13 and 15.
     settings_refused: [usize; 3],
+    questions: Questions,
     passes: usize,
 }
+
+/// Questions on the way: how many told a correction, how many were refused as 14, and how many told another than the base does.
+#[derive(Default)]
+struct Questions {
+    told: usize,
+    outside: usize,
+    other: usize,
+}
+
+/// How many points each walk asks about.
+const POINTS: usize = 40;
 
 /// The numbers that refuse a setting on a lawful mesh.
 const REFUSE_A_SETTING: [u32; 3] = [3, 13, 15];
@@ -49,6 +63,24 @@ fn refused(seed: u64, call: &Call, a: Answer, told: &mut Told) {
     assert_eq!(a.culprit, named, "seed {seed}: {call:?} said {a:?}");
 }
 
+/// A question about a point, which leaves nodes and rows as they are: its number, and the correction told.
+fn ask(seed: u64, g: &mut Tables, n0: usize, point: [i32; 2]) -> (u32, [i32; 2]) {
+    let (a, left) = agreed(seed, &Call::Ask(n0, point), g);
+    *g = left;
+    (a.number, a.told)
+}
+
+/// A question on the way is counted, beside what the base answered.
+fn answered(seed: u64, answer: (u32, [i32; 2]), by_base: (u32, [i32; 2]), told: &mut Questions) {
+    match answer.0 {
+        0 => told.told += 1,
+        14 => told.outside += 1,
+        number => panic!("seed {seed}: a question was refused as {number}"),
+    }
+    assert_eq!(answer.0, by_base.0, "seed {seed}: a point moved out of the mesh or into it");
+    told.other += (answer != by_base) as usize;
+}
+
 fn walk(seed: u64) -> Told {
     let mut d = Dice::new(seed);
     let (w, h) = (1 + d.below(4), 1 + d.below(4));
@@ -60,8 +92,14 @@ fn walk(seed: u64) -> Told {
     let base = g.clone();
     let n0 = base.n;
     assert_eq!(proved(&Call::Check, &mut g).number, 0, "seed {seed}: the base is admitted");
+    let points: Vec<_> = (0..POINTS).map(|_| point(&mut d, &base)).collect();
+    let by_base: Vec<_> = points.iter().map(|&p| ask(seed, &mut g, n0, p)).collect();
     let mut told = Told::default();
     for _ in 0..1000 {
+        if d.once_in(16) {
+            let (k, any) = (d.below(POINTS), d.below(g.n + 1));
+            answered(seed, ask(seed, &mut g, any, points[k]), by_base[k], &mut told.questions);
+        }
         let call = random_call(&mut d, &g, n0);
         let (called_with, kind) = match &call {
             Call::Refine(k, _) => (*k, &mut told.refined),
@@ -85,6 +123,8 @@ fn walk(seed: u64) -> Told {
     assert_eq!((a.number, a.n, a.t), (0, n0, base.t), "seed {seed}");
     assert!(a.passes <= added, "seed {seed}: {} passes for {added} nodes", a.passes);
     assert!(same(&g, &base), "seed {seed}: restore did not give back the base");
+    let again: Vec<_> = points.iter().map(|&p| ask(seed, &mut g, n0, p)).collect();
+    assert_eq!(again, by_base, "seed {seed}: the base back again answers otherwise");
     told.passes = a.passes;
     told
 }
@@ -106,7 +146,9 @@ fn main() {
     let accepted = format!("{} refine, {} quarter, {} coarsen and {} settings", sum(|w| w.refined), sum(|w| w.quartered), sum(|w| w.coarsened), sum(|w| w.set));
     let settings = [0, 1, 2].map(|k| told.iter().map(|w| w.settings_refused[k]).sum::<usize>());
     println!("walks: settings refused as {REFUSE_A_SETTING:?}: {settings:?}");
-    if settings.contains(&0) || sum(|w| w.set) == 0 {
+    let [answered, other, outside] = [sum(|w| w.questions.told), sum(|w| w.questions.other), sum(|w| w.questions.outside)];
+    println!("walks: questions on the way: {answered} told a correction, {other} of these another than the base does; {outside} refused as 14");
+    if settings.contains(&0) || [answered, other, outside].contains(&0) || sum(|w| w.set) == 0 {
         println!("walks: {count} from seed {first} end with the base, but one of these never came");
         std::process::exit(1);
     }

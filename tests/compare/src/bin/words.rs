@@ -1,7 +1,7 @@
 //! The words of the Rust wrapper: for every number and some culprits; and of a call that draws each refusal. tests/words/words.out has what
 //! is written.
 use spoutbeetle::reader::{State, OUT, PIECE};
-use spoutbeetle::{check, coarsen, quarter, refine, restore, set_correction, Answer, Node, Refusal, Tables};
+use spoutbeetle::{check, coarsen, correction_at, quarter, refine, restore, set_correction, Answer, Node, Refusal, Tables};
 
 /// The tables of a mesh, to be spoilt.
 struct Sheet {
@@ -63,11 +63,23 @@ fn words(spoil: Spoil, made: Made) -> String {
     }
 }
 
+/// The words of what is said, whatever an accepted call says.
+fn words_of<A>(said: Result<A, Refusal>) -> String {
+    said.map_or_else(|refusal| refusal.to_string(), |_| words(|_| (), check))
+}
+
 /// The words of a number with each culprit; those of 0 are an answer's.
 fn say_number(number: u32) {
     for culprit in [0, 17, 4294967295] {
         let text = Refusal::of(number, culprit).map_or(words(|_| (), check), |refusal| refusal.to_string());
         println!("{number}, {culprit}: {text}");
+    }
+}
+
+/// Questions about points.
+fn say_questions() {
+    for (name, x, y) in [("correction_at, a corner of the square", 8, 8), ("correction_at, a step past it", 9, 8)] {
+        println!("{name}: {}", words_of(correction_at(lent(&mut square()).into(), 4, x, y)));
     }
 }
 
@@ -82,7 +94,7 @@ fn say_reader() {
         ("take, an empty piece after the end", state.take(&[], &mut out)),
     ];
     for (name, said) in said {
-        println!("{name}: {}", said.map_or_else(|refusal| refusal.to_string(), |_| words(|_| (), check)));
+        println!("{name}: {}", words_of(said));
     }
 }
 
@@ -91,5 +103,6 @@ fn main() {
     for (name, spoil, made) in CALLS {
         println!("{name}: {}", words(spoil, made));
     }
+    say_questions();
     say_reader();
 }

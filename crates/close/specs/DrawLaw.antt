@@ -19,8 +19,8 @@ use Rattle.meaning.specs.declared.Manner.{Manner}
 use Rattle.meaning.specs.declared.Manner.the-variants.{Newest, AllThree}
 use Rattle.meaning.specs.Tables.{rowAt}
 use Rattle.tables.specs.Arrow.{arrowAt}
-use Rattle.tables.specs.Sized.{indexAt}
-use Rattle.tables.specs.Ready.{Ready, ready-kept}
+use Rattle.neighbours.specs.Sized.{indexAt}
+use Rattle.neighbours.specs.Ready.{Ready, ready-kept}
 use Rattle.close.specs.Drawn.{onFound, acrossRow, zeros, drawn, draws, drawAcross, drawSides, drawFrom, whenMarked, drawMarked, startNote, noteStart, closedNotes}
 
 -- a note that is put

@@ -4,7 +4,7 @@ ghost use mathlib.Core.Path.{_≡_};
 ghost use Prim.Native.Nat.{_*_, _≤_, _<_};
 ghost use lib.ListN.{length};
 ghost use Rattle.lists.specs.Search.{iter};
-ghost use Rattle.tables.specs.Ready.{Ready};
+ghost use Rattle.neighbours.specs.Ready.{Ready};
 ghost use Rattle.close.specs.Drawn.{acrossRow, draws, drawAcross, drawSides, drawFrom, drawMarked, startNote, noteStart, closedNotes};
 use lists::Found;
 use meaning::Manner;
@@ -18,7 +18,7 @@ fn across(rows: &[u32], scratch: &[u32], nc: usize, t: usize, i: usize) -> Found
     ensures { λ r. ⌜ r ≡ acrossRow (now (rows .entry)) t i ⌝ }
 {
     let w = tables::row_at(rows, i);
-    tables::find_edge(rows, scratch, nc, t, w.r, w.q)
+    neighbours::find_edge(rows, scratch, nc, t, w.r, w.q)
 }
 
 // Row i is split, and so is the row across its refinement edge, and so on, up to one that was split before.
@@ -50,7 +50,7 @@ fn draw_across(rows: &[u32], scratch: &mut [u32], nc: usize, t: usize, x: u32, y
     requires { ⌜ Ready (now scratch) nc (now rows) t ⌝ }
     ensures { λ _. ⌜ now (scratch .exit) ≡ drawAcross (now (rows .entry)) t x y (now (scratch .entry)) ⌝ }
 {
-    match tables::find_edge(rows, scratch, nc, t, y, x) {
+    match neighbours::find_edge(rows, scratch, nc, t, y, x) {
         Found::At(j) => {
             draw(rows, scratch, nc, t, j);
         }

@@ -14,7 +14,7 @@ use Rattle.meaning.specs.Split.{Cut, cut, bisected}
 use Rattle.meaning.specs.Tables.{rowAt}
 use Rattle.tables.specs.Put.{setRow}
 use Rattle.tables.specs.PutLaw.{rows-table}
-use Rattle.tables.specs.Ready.{Ready, ready-fewer}
+use Rattle.neighbours.specs.Ready.{Ready, ready-fewer}
 use Rattle.notes.specs.Notes.{midsAt}
 use Rattle.notes.specs.NotesLaw.{note-bits}
 use Rattle.notes.specs.AgreeLaw.{mids-agree}

@@ -6,7 +6,7 @@ ghost use lib.ListN.{length};
 ghost use Rattle.lists.specs.Search.{items, iter};
 ghost use Rattle.lists.specs.ItemsLaw.{sumTo};
 ghost use Rattle.meaning.specs.Tables.{rowAt};
-ghost use Rattle.tables.specs.Ready.{Ready};
+ghost use Rattle.neighbours.specs.Ready.{Ready};
 ghost use Rattle.notes.specs.Notes.{Short};
 ghost use Rattle.cut.specs.Cutting.{cutBy, children, append, placed, cutAt, addedAt, putCut, cutAll, splitsOf, splits};
 use meaning::Mids;

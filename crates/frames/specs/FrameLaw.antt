@@ -18,7 +18,8 @@ use Rattle.text.specs.Writing.{Wrote, wrote, writes}
 use Rattle.protocol.specs.declared.Session.{Session}
 use Rattle.frames.specs.declared.Answered.{Answered}
 use Rattle.protocol.specs.Frames.{Held, held, session, admits, takes, addNode, addRow, called, sessionAfter, frame, lineStep}
-use Rattle.frames.specs.Answered.{Lent, lent, writing, whole, Whole, whole-is, lineLent}
+use Rattle.fitting.specs.Lent.{Lent, writing, whole, Whole, whole-is, lineLent}
+use Rattle.frames.specs.Answered.{lent}
 use Rattle.admit.specs.AdmitLaw.{node-room, row-room, rest-is}
 
 abbrev answered : Session → ℕ → Answered

@@ -1,6 +1,3 @@
--- What the code relies on: laws of the definitions in crates/protocol, in the form of its needs; that what a line leaves fits the
--- program, and what its answer's last digits name.
+-- What the code relies on: laws of the definitions in crates/protocol, in the form of its needs.
 pub mod Answered
 pub mod FrameLaw
-pub mod Stays
-pub mod ReadOff

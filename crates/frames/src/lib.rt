@@ -3,7 +3,8 @@ ghost use mathlib.Core.Path.{_≡_};
 ghost use mathlib.Core.Bool.{true};
 ghost use lib.ListN.{length};
 ghost use Rattle.protocol.specs.Frames as f;
-ghost use Rattle.frames.specs.Answered as l;
+ghost use Rattle.fitting.specs.Lent as l;
+ghost use Rattle.frames.specs.Answered.{lent};
 use protocol::Session;
 use text::read;
 use text::write;
@@ -26,7 +27,7 @@ fn frame(
 ) -> Answered
     requires { ⌜ l.Whole (length (now nodes)) (length (now rows)) (length (now scratch)) (length (now out)) session ⌝ }
     requires { ⌜ f.admits session kind (now fields) ≡ true ⌝ }
-    ensures { λ r. ⌜ l.lent r (now (nodes .exit)) (now (rows .exit)) (now (scratch .exit)) (now (out .exit)) ≡ l.writing (now (out .entry)) (f.frame (f.held (now (nodes .entry)) (now (rows .entry)) (now (scratch .entry)) session) kind (now (fields .entry))) ⌝ }
+    ensures { λ r. ⌜ lent r (now (nodes .exit)) (now (rows .exit)) (now (scratch .exit)) (now (out .exit)) ≡ l.writing (now (out .entry)) (f.frame (f.held (now (nodes .entry)) (now (rows .entry)) (now (scratch .entry)) session) kind (now (fields .entry))) ⌝ }
 {
     if kind == 1 {
         tables::put_node(nodes, session.n, read::node_in(fields));
@@ -86,7 +87,7 @@ fn plain_line(
     out: &mut [u8],
 ) -> Answered
     requires { ⌜ l.Whole (length (now nodes)) (length (now rows)) (length (now scratch)) (length (now out)) session ⌝ }
-    ensures { λ r. ⌜ l.lent r (now (nodes .exit)) (now (rows .exit)) (now (scratch .exit)) (now (out .exit)) ≡ l.writing (now (out .entry)) (f.lineStep (f.held (now (nodes .entry)) (now (rows .entry)) (now (scratch .entry)) session) (now (line .entry))) ⌝ }
+    ensures { λ r. ⌜ lent r (now (nodes .exit)) (now (rows .exit)) (now (scratch .exit)) (now (out .exit)) ≡ l.writing (now (out .entry)) (f.lineStep (f.held (now (nodes .entry)) (now (rows .entry)) (now (scratch .entry)) session) (now (line .entry))) ⌝ }
 {
     if !admit::takes(session, line) {
         return Answered {
@@ -108,7 +109,7 @@ pub fn line(
     session: Session,
     out: &mut [u8],
 ) -> Answered
-    ensures { λ r. ⌜ l.lent r (now (nodes .exit)) (now (rows .exit)) (now (scratch .exit)) (now (out .exit)) ≡ l.lineLent (f.held (now (nodes .entry)) (now (rows .entry)) (now (scratch .entry)) session) (now (line .entry)) (now (out .entry)) ⌝ }
+    ensures { λ r. ⌜ lent r (now (nodes .exit)) (now (rows .exit)) (now (scratch .exit)) (now (out .exit)) ≡ l.lineLent (f.held (now (nodes .entry)) (now (rows .entry)) (now (scratch .entry)) session) (now (line .entry)) (now (out .entry)) ⌝ }
 {
     if !whole(nodes.len(), rows.len(), scratch.len(), out.len(), session) {
         return Answered {

@@ -10,8 +10,8 @@ ghost use Prim.Native.Nat.{ℕ, _+_, _*_, _≤_, _<_};
 ghost use lib.ListN.{length, getD, take, replicate};
 ghost use Rattle.meaning.specs.Lawful.{Lawful};
 ghost use Rattle.laws.specs.Meshes.{meshAt};
-ghost use Rattle.tables.specs.Sized.{Sized, indexAt};
-ghost use Rattle.tables.specs.Ready.{Ready};
+ghost use Rattle.neighbours.specs.Sized.{Sized, indexAt};
+ghost use Rattle.neighbours.specs.Ready.{Ready};
 ghost use Rattle.good.specs.Rival.{judged};
 
 // For a lawful mesh all of whose rows are in the index: each node's number and whether it is good, at nc and on.

@@ -5,7 +5,7 @@ ghost use lib.ListN.{length, set};
 ghost use Rattle.lists.specs.Loops.{noted};
 ghost use Rattle.meaning.specs.Good.{span, G3, G4};
 ghost use Rattle.laws.specs.Meshes.{meshAt, rowsAlone, Fair};
-ghost use Rattle.tables.specs.Ready.{Ready};
+ghost use Rattle.neighbours.specs.Ready.{Ready};
 ghost use Rattle.round.specs.Round.{Around};
 ghost use Rattle.round.specs.Pair.{edgeOf};
 ghost use Rattle.good.specs.Sign.{pairNo, signOn, signOf, signFrom, fresh};
@@ -31,8 +31,8 @@ fn g4(rows: &[u32], scratch: &[u32], nc: usize, t: usize, z: u32, e: Ends) -> bo
     requires { ⌜ edgeOf e ≡ span (rowsAlone (now rows) t) z ⌝ }
     ensures { λ r. ⌜ r ≡ G4 (rowsAlone (now (rows .entry)) t) z ⌝ }
 {
-    let f = tables::find_edge(rows, scratch, nc, t, e.lo, e.hi);
-    let g = tables::find_edge(rows, scratch, nc, t, e.hi, e.lo);
+    let f = neighbours::find_edge(rows, scratch, nc, t, e.lo, e.hi);
+    let g = neighbours::find_edge(rows, scratch, nc, t, e.hi, e.lo);
     !(tables::is_found(f) | tables::is_found(g))
 }
 

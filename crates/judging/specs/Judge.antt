@@ -18,8 +18,8 @@ use Rattle.meaning.specs.Tables.{Given, given, meshOf, rowAt, nodeAt}
 use Rattle.meaning.specs.Calls.{marksFit, sizesFit}
 use Rattle.laws.specs.Lawful.{refusal-lawful}
 use Rattle.laws.specs.CallLaw.{Sizes, sizes-exact}
-use Rattle.tables.specs.Sized.{Sized, indexAt}
-use Rattle.tables.specs.Ready.{Ready}
+use Rattle.neighbours.specs.Sized.{Sized, indexAt}
+use Rattle.neighbours.specs.Ready.{Ready}
 use Rattle.lawful.specs.FaultLaw.{Judged}
 use Rattle.judging.specs.Sizes.{fitting, fitting-is}
 

@@ -9,8 +9,8 @@ use Rattle.lists.specs.declared.Found.{Found}
 use Rattle.lists.specs.declared.Found.the-variants.{At, Nothing}
 use Rattle.meaning.specs.declared.Fault.{Fault}
 use Rattle.meaning.specs.Lawful.{fault, orLater}
-use Rattle.tables.specs.Sized.{Sized, indexAt}
-use Rattle.tables.specs.Ready.{Ready}
+use Rattle.neighbours.specs.Sized.{Sized, indexAt}
+use Rattle.neighbours.specs.Ready.{Ready}
 
 -- what is known of scratch after the judge: no note is left, and after number 0 the index holds the first t rows
 pub record Judged (f : Fault) (s : List ℕ) (nc : ℕ) (rows : List ℕ) (t : ℕ) : Type 0 where

@@ -2,5 +2,4 @@ pub mod Tests
 pub mod TestsLaw
 pub mod MarkLaw
 pub mod MeshLaw
-pub mod ClashLaw
 pub mod FaultLaw

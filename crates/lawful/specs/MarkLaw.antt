@@ -17,7 +17,7 @@ use Rattle.lists.specs.MarksLaw.{mark-read, marks-or, marks-read, zeros-at}
 use Rattle.meaning.specs.Mesh.{holdsNode}
 use Rattle.meaning.specs.Lawful.{unused}
 use Rattle.meaning.specs.Tables.{rowAt}
-use Rattle.tables.specs.Sized.{Corners}
+use Rattle.neighbours.specs.Sized.{Corners}
 use Rattle.lawful.specs.Tests.{misnamedAt, markStep, blankAt}
 use Rattle.lawful.specs.TestsLaw.{corners-at}
 

@@ -1,15 +1,12 @@
 -- Document 01's tests of one node or one row, by its number in the tables. Assumes nothing.
-use mathlib.Core.Bool.{Bool, false, not, _&&_, _||_}
+use mathlib.Core.Bool.{Bool, _||_}
 use mathlib.Core.List.{List}
 use Prim.Native.Nat.{ℕ}
 use lib.Dec.{eqb}
 use lib.IntN.{ℤ}
 use lib.ListN.{getD, set}
-use Rattle.lists.specs.declared.Found.{Found}
-use Rattle.lists.specs.declared.Found.the-variants.{At, Nothing}
 use Rattle.lists.specs.Lists.{isFound}
 use Rattle.lists.specs.Search.{lowest, items}
-use Rattle.meaning.specs.declared.Tri.{Tri}
 use Rattle.meaning.specs.declared.Fault.{Fault}
 use Rattle.meaning.specs.Lawful.{nodeOutside, misnamed, unused, fault, orLater}
 use Rattle.meaning.specs.Tables.{nodeAt, placeAt, rowAt}
@@ -43,17 +40,6 @@ markStep l i s = set (set (set s (rowAt l i .p) 1) (rowAt l i .q) 1) (rowAt l i 
 
 unfoldable pub blankAt : List ℕ → ℕ → Bool
 blankAt s z = eqb (getD s z 0) 0
-
--- 10: u holds r→q of w, and not as its own q→r
-unfoldable pub clashWith : Tri → Tri → Bool
-clashWith w u = not (eqb (w .r) (u .q) && eqb (w .q) (u .r))
-
-abbrev pub clashFound : List ℕ → Tri → Found → Bool
-clashFound l w (At j) = clashWith w (rowAt l j)
-clashFound l w Nothing = false
-
-unfoldable pub clashAt : List ℕ → ℕ → ℕ → Bool
-clashAt l t i = clashFound l (rowAt l i) (lowest (arrowAt l (rowAt l i .r) (rowAt l i .q)) 0 t)
 
 -- ---- the chain, by number
 

@@ -16,8 +16,8 @@ use Rattle.meaning.specs.Lawful.{InRange, Named}
 use Rattle.meaning.specs.Tables.{nodeAt, placeAt, rowAt}
 use Rattle.laws.specs.Faults.{node-exact, named-yes}
 use Rattle.tables.specs.Arrow.{arrowAt}
-use Rattle.tables.specs.Sized.{Corners}
-use Rattle.lawful.specs.Tests.{outsideAt, misnamedAt, markStep, clashWith, clashAt}
+use Rattle.neighbours.specs.Sized.{Corners}
+use Rattle.lawful.specs.Tests.{outsideAt, misnamedAt, markStep}
 
 -- ---- 4 said no: three nodes below n, all different
 
@@ -82,17 +82,3 @@ marked-row w l s s₁ s₂ s₃ i e a b c = rw (← e, ← a, ← b) c
 
 pub notes-kept : (k : ℕ) (s₀ s s′ : List ℕ) → take k s′ ≡ take k s → take k s ≡ take k s₀ → take k s′ ≡ take k s₀
 notes-kept k s₀ s s′ e f = e ∙ f
-
--- ---- 10: a row that was found
-
-pub met-row : (f : ℕ → Bool) (r : Found) (t j len : ℕ) → r ≡ lowest f 0 t → r ≡ At j → 3 * t ≤ len → 3 * j + 3 ≤ len
-met-row f r t j len e g h = let b = lowest-below f t j (sym e ∙ g) in omega arith
-
-module _ (l : List ℕ) (w : Tri) (f : Found) (t i : ℕ) (a : w ≡ rowAt l i) (b : f ≡ lowest (arrowAt l (w .r) (w .q)) 0 t) where
-  pub clash-found : (u : Tri) (j : ℕ) (r : Bool) → f ≡ At j → u ≡ rowAt l j → r ≡ clashWith w u → r ≡ clashAt l t i
-  unfolding clashAt
-  clash-found u j r g e h = h ∙ rw (← a, ← b, g, e)
-
-  pub clash-none : f ≡ Nothing → false ≡ clashAt l t i
-  unfolding clashAt
-  clash-none g = rw (← a, ← b, g)

@@ -1,4 +1,4 @@
-// The judge of a mesh: document 01's numbers 3 to 7 and 10, each with the lowest node or row at fault.
+// The judge of a mesh: document 01's numbers 3 to 7, each with the lowest node or row at fault.
 ghost use mathlib.Core.Path.{_≡_};
 ghost use mathlib.Core.Bool.{false};
 ghost use Prim.Native.Nat.{_+_, _*_, _/_, _≤_, _<_};
@@ -8,9 +8,9 @@ ghost use Rattle.lists.specs.declared.Found.the-variants.{Nothing};
 ghost use Rattle.lists.specs.Search.{lowest, items, iter};
 ghost use Rattle.meaning.specs.Lawful.{misnamed, unused, faultOf};
 ghost use Rattle.meaning.specs.Tables.{rowAt, given, meshOf};
-ghost use Rattle.tables.specs.Sized.{Sized, indexAt};
-ghost use Rattle.tables.specs.Ready.{Ready};
-ghost use Rattle.lawful.specs.Tests.{outsideAt, misnamedAt, arrowBelow, repeatAt, flatAt, markStep, blankAt, clashWith, clashAt, laterBy};
+ghost use Rattle.neighbours.specs.Sized.{Sized, indexAt};
+ghost use Rattle.neighbours.specs.Ready.{Ready};
+ghost use Rattle.lawful.specs.Tests.{outsideAt, misnamedAt, arrowBelow, repeatAt, flatAt, markStep, blankAt, laterBy};
 ghost use Rattle.lawful.specs.FaultLaw.{Judged};
 use lists::Found;
 use meaning::Fault;
@@ -80,7 +80,7 @@ fn edge_below(rows: &[u32], scratch: &[u32], nc: usize, i: usize, x: u32, y: u32
     requires { ⌜ Ready (now scratch) nc (now rows) i ⌝ }
     ensures { λ r. ⌜ r ≡ arrowBelow (now (rows .entry)) i x y ⌝ }
 {
-    tables::is_found(tables::find_edge(rows, scratch, nc, i, x, y))
+    tables::is_found(neighbours::find_edge(rows, scratch, nc, i, x, y))
 }
 
 fn repeat_at(rows: &[u32], scratch: &[u32], nc: usize, i: usize) -> bool
@@ -109,7 +109,7 @@ fn first_repeat(rows: &[u32], scratch: &mut [u32], nc: usize, n: usize, t: usize
         if repeat_at(rows, scratch, nc, i) {
             return Found::At(i);
         }
-        tables::add_row(rows, scratch, nc, i);
+        neighbours::add_row(rows, scratch, nc, i);
         i += 1;
     }
     Found::Nothing
@@ -217,44 +217,6 @@ fn first_unused(rows: &[u32], scratch: &mut [u32], n: usize, t: usize) -> Found
     let f = first_blank(scratch, n);
     tables::clear_front(scratch, n);
     f
-}
-
-// ---- 10: the refinement edge of a row is in another row, and not as that one's refinement edge
-
-fn clash_with(w: Tri, u: Tri) -> bool
-    ensures { λ r. ⌜ r ≡ clashWith w u ⌝ }
-{
-    !((w.r == u.q) & (w.q == u.r))
-}
-
-fn clash_at(rows: &[u32], scratch: &[u32], nc: usize, t: usize, i: usize) -> bool
-    requires { ⌜ 3 * i + 3 ≤ length (now rows) ⌝ }
-    requires { ⌜ 3 * t ≤ length (now rows) ⌝ }
-    requires { ⌜ Ready (now scratch) nc (now rows) t ⌝ }
-    ensures { λ r. ⌜ r ≡ clashAt (now (rows .entry)) t i ⌝ }
-{
-    let w = tables::row_at(rows, i);
-    let f = tables::find_edge(rows, scratch, nc, t, w.r, w.q);
-    if let Found::At(j) = f {
-        return clash_with(w, tables::row_at(rows, j));
-    }
-    false
-}
-
-// For a mesh that draws none of 3 to 7.
-pub fn first_clash(rows: &[u32], scratch: &[u32], nc: usize, t: usize) -> Found
-    requires { ⌜ 3 * t ≤ length (now rows) ⌝ }
-    requires { ⌜ Ready (now scratch) nc (now rows) t ⌝ }
-    ensures { λ r. ⌜ r ≡ lowest (clashAt (now (rows .entry)) t) 0 t ⌝ }
-{
-    let mut i = 0;
-    while i < t {
-        if clash_at(rows, scratch, nc, t, i) {
-            return Found::At(i);
-        }
-        i += 1;
-    }
-    Found::Nothing
 }
 
 // ---- 3 to 7

@@ -4,37 +4,18 @@ ghost use lib.ListN.{length, replicate};
 ghost use Rattle.meaning.specs.Tables.{given, outcome};
 ghost use Rattle.meaning.specs.Split.{wayOf, newest, allThree};
 ghost use Rattle.meaning.specs.Calls.{checkOut, refineOut, coarsenOut, setOut, heard, askOut};
-ghost use Rattle.mesh.specs.Check.{checkFault};
 use meaning::Answer;
 use meaning::Correction;
-use meaning::Fault;
 use meaning::Manner;
 use meaning::Place;
 use meaning::Told;
-
-mod coarsening; // coarsening.rt: the steps of coarsen
-
-// The lowest number that applies, and where, or 0 at 0; no marks are given, and none are wanted. Scratch is all zero before.
-fn check_fault(nodes: &[i32], rows: &[u32], scratch: &mut [u32], n: usize, t: usize) -> Fault
-    requires { ⌜ now scratch ≡ replicate (length (now scratch)) 0 ⌝ }
-    ensures { λ r. ⌜ r ≡ checkFault (given (now (nodes .entry)) (now (rows .entry)) (now (scratch .entry)) n t) ⌝ }
-{
-    let f = judging::judge(nodes, rows, scratch, b"", 0, 0, n, t);
-    if f.number != 0 {
-        return f;
-    }
-    if tables::is_found(lawful::first_clash(rows, scratch, nodes.len() / 4, t)) {
-        return Fault { number: 10, at: 0 };
-    }
-    Fault { number: 0, at: 0 }
-}
 
 // The base check. It writes no table but scratch, which is all zero after.
 pub fn check(nodes: &mut [i32], rows: &mut [u32], scratch: &mut [u32], n: usize, t: usize) -> Answer
     ensures { λ r. ⌜ outcome r (now (nodes .exit)) (now (rows .exit)) (now (scratch .exit)) ≡ checkOut (given (now (nodes .entry)) (now (rows .entry)) (now (scratch .entry)) n t) ⌝ }
 {
     tables::clear(scratch);
-    let f = check_fault(nodes, rows, scratch, n, t);
+    let f = checking::work(nodes, rows, scratch, n, t);
     tables::clear(scratch);
     judging::said(f, n, t)
 }

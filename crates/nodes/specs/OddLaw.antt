@@ -16,7 +16,7 @@ use Rattle.meaning.specs.declared.Tri.{Tri}
 use Rattle.meaning.specs.Mesh.{Mesh, Edge, nodeOf, edge, edges, base, sameEdge}
 use Rattle.meaning.specs.Split.{halves}
 use Rattle.meaning.specs.Tables.{nodeAt, rowAt}
-use Rattle.tables.specs.Sized.{Corners}
+use Rattle.neighbours.specs.Sized.{Corners}
 use Rattle.notes.specs.declared.Note.{Note}
 use Rattle.notes.specs.Notes.{noteAt}
 use Rattle.notes.specs.Met.{Says}

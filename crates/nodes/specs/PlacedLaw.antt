@@ -20,7 +20,7 @@ use Rattle.meaning.specs.Mesh.{Mesh, Edge, nodeOf, edge, base, origin}
 use Rattle.meaning.specs.Split.{Cutting, halves, newNode, splitAt}
 use Rattle.meaning.specs.Tables.{nodeAt, placeAt, rowAt}
 use Rattle.laws.specs.Mean.{mean-swap}
-use Rattle.tables.specs.Sized.{Corners}
+use Rattle.neighbours.specs.Sized.{Corners}
 use Rattle.tables.specs.Put.{setNode}
 use Rattle.tables.specs.PutLaw.{nodes-table}
 use Rattle.notes.specs.declared.Note.{Note}

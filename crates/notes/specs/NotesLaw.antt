@@ -14,7 +14,7 @@ use Rattle.lists.specs.SearchLaw.{lowest-below}
 use Rattle.meaning.specs.declared.Tri.{Tri}
 use Rattle.meaning.specs.Tables.{rowAt}
 use Rattle.tables.specs.Arrow.{arrowAt}
-use Rattle.tables.specs.Ready.{Ready, ready-sized, ready-rows}
+use Rattle.neighbours.specs.Ready.{Ready, ready-sized, ready-rows}
 use Rattle.notes.specs.Notes.{Note, note, packed, unpacked, Bits, Tight, noteAt, ownM, ownU, ownV, onArrow, ownOn, across, midFor, mids, midsAt}
 
 note-path : (x : Note) (a b c d e f k : ℕ) → a ≡ x .m → b ≡ x .u → c ≡ x .v → d ≡ x .fm → e ≡ x .fu → f ≡ x .fv → k ≡ x .before → note a b c d e f k ≡ x

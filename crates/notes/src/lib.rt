@@ -3,7 +3,7 @@
 ghost use mathlib.Core.Path.{_≡_};
 ghost use Prim.Native.Nat.{_+_, _*_, _≤_, _<_};
 ghost use lib.ListN.{length};
-ghost use Rattle.tables.specs.Ready.{Ready};
+ghost use Rattle.neighbours.specs.Ready.{Ready};
 ghost use Rattle.notes.specs.Notes.{Tight, Short, packed, unpacked, noteAt, ownM, ownU, ownV, onArrow, ownOn, splitOn, across, midFor, midsAt};
 use lists::Found;
 use meaning::Mids;
@@ -116,7 +116,7 @@ fn across(rows: &[u32], scratch: &[u32], nc: usize, n: u32, i: usize, x: u32, y:
     requires { ⌜ 3 * i + 3 ≤ length (now rows) ⌝ }
     ensures { λ r. ⌜ r ≡ across n (now (rows .entry)) (now (scratch .entry)) i x y ⌝ }
 {
-    match tables::find_edge(rows, scratch, nc, i, y, x) {
+    match neighbours::find_edge(rows, scratch, nc, i, y, x) {
         Found::At(j) => own_on(n, tables::row_at(rows, j), note_at(scratch, j), y, x),
         Found::Nothing => 0,
     }

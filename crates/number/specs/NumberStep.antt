@@ -17,7 +17,7 @@ use Rattle.lists.specs.SearchLaw.{lowest-below}
 use Rattle.meaning.specs.declared.Tri.{Tri}
 use Rattle.meaning.specs.Tables.{rowAt}
 use Rattle.tables.specs.Arrow.{arrowAt}
-use Rattle.tables.specs.Ready.{Ready, ready-sized, ready-put}
+use Rattle.neighbours.specs.Ready.{Ready, ready-sized, ready-put}
 use Rattle.notes.specs.declared.Note.{Note}
 use Rattle.notes.specs.Notes.{note, noteAt, packed, Tight, onArrow, splitOn}
 use Rattle.notes.specs.NotesLaw.{note-bits}

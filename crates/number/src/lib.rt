@@ -5,7 +5,7 @@ ghost use mathlib.Core.Path.{_≡_};
 ghost use Prim.Native.Nat.{_+_, _*_, _≤_, _<_};
 ghost use lib.ListN.{length};
 ghost use Rattle.lists.specs.Search.{iter};
-ghost use Rattle.tables.specs.Ready.{Ready};
+ghost use Rattle.neighbours.specs.Ready.{Ready};
 ghost use Rattle.notes.specs.Notes.{Tight};
 ghost use Rattle.number.specs.Numbered.{either, metBy, metOn, noteOf, numbers, numberRow};
 use lists::Found;
@@ -53,7 +53,7 @@ fn met_on(
     requires { ⌜ Ready (now scratch) nc (now rows) t ⌝ }
     ensures { λ r. ⌜ r ≡ metOn (now (rows .entry)) t (now (scratch .entry)) i own x y ⌝ }
 {
-    match tables::find_edge(rows, scratch, nc, t, y, x) {
+    match neighbours::find_edge(rows, scratch, nc, t, y, x) {
         Found::At(j) => {
             let w = tables::row_at(rows, j);
             let c = notes::note_at(scratch, j);

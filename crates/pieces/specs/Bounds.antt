@@ -12,8 +12,8 @@ use Rattle.text.specs.Lines.{ffLine}
 use Rattle.text.specs.Writing.{Wrote, wrote, writes, writes-at, writes-length}
 use Rattle.protocol.specs.Frames.{Held, held, session, lineStep}
 use Rattle.protocol.specs.Program.{opening, closing}
-use Rattle.frames.specs.Answered.{Lent, whole, whole-is, lineLent}
-use Rattle.frames.specs.Stays.{line-fine}
+use Rattle.fitting.specs.Lent.{Lent, whole, whole-is, lineLent}
+use Rattle.fitting.specs.Stays.{line-fine}
 use Rattle.pieces.specs.Reader.{Reader, reader, unfinished, Taken, unchanged, fitting, lineRead, byteRead, oneMore, further, untimely, takeOut, beginOut, endOut}
 use Rattle.pieces.specs.Fits.{fits-is}
 

@@ -20,7 +20,7 @@ use Rattle.text.specs.Digits.{bytes, isDigit, worth, number, listed, signed, un
 use Rattle.text.specs.Lines.{correctionIn, nodeIn, rowIn, answerLine, nodeLine, rowLine, allLines}
 use Rattle.text.specs.Writing.{writes}
 use Rattle.protocol.specs.Frames.{held, session, refinesIn, wellFormed, listsBelow, admits, takes, addNode, addRow, marksOf, called, sessionAfter, frame, lineStep}
-use Rattle.frames.specs.Answered.{whole, lineLent}
+use Rattle.fitting.specs.Lent.{whole, lineLent}
 use Rattle.pieces.specs.Reader.{unfinished, Reader, reader, Taken, fits, longer, wiped, lineRead, byteRead, further, untimely, takeOut, beginOut, endOut}
 use Rattle.pieces.specs.Turns.{Turn, piece, announce, Had, hadOf}
 

@@ -6,7 +6,7 @@ use borrow.Author.Tests.{eqb-true, leb-true}
 use lib.Dec.{eqb, leb}
 use Rattle.lists.specs.ListsLaw.{and-left, and-right}
 use Rattle.protocol.specs.declared.Session.{Session}
-use Rattle.frames.specs.Answered.{Whole, whole, whole-is}
+use Rattle.fitting.specs.Lent.{Whole, whole, whole-is}
 use Rattle.pieces.specs.Reader.{fits}
 
 pub record Fits (ll nl rl sl ol k : ℕ) (s : Session) : Type 0 where

@@ -11,7 +11,7 @@ use lib.Seq.{take-append-seam, drop-at}
 use Rattle.text.specs.Writing.{Wrote, wrote, writes, writes-front, writes-length}
 use Rattle.protocol.specs.Frames.{Held}
 use Rattle.protocol.specs.Program.{closing, Stands}
-use Rattle.frames.specs.Answered.{WholeHeld}
+use Rattle.fitting.specs.Lent.{WholeHeld}
 use Rattle.pieces.specs.Reader.{Taken, unchanged, takeOut}
 use Rattle.pieces.specs.Parts.{take-some}
 use Rattle.pieces.specs.Turns.{Caller, goesOn, handed, waiting, over}

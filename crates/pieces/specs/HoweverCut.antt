@@ -13,7 +13,7 @@ use Rattle.lists.specs.Lists.{cases}
 use Rattle.text.specs.Writing.{wrote, writes}
 use Rattle.protocol.specs.Frames.{Held, session}
 use Rattle.protocol.specs.Program.{start, opening, closing, program, Stands, stands}
-use Rattle.frames.specs.Answered.{WholeHeld}
+use Rattle.fitting.specs.Lent.{WholeHeld}
 use Rattle.pieces.specs.Reader.{Taken, tells, unchanged, fits, takeOut, beginOut, endOut}
 use Rattle.pieces.specs.Fits.{fits-is}
 use Rattle.pieces.specs.Turns.{Turn, piece, announce, Caller, goesOn, turned, turns, textOf, announced, Had, had, hadOf, waiting, over, ofText}

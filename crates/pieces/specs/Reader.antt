@@ -11,7 +11,7 @@ use Rattle.text.specs.Writing.{Wrote, wrote, writes}
 use Rattle.protocol.specs.declared.Session.{Session}
 use Rattle.protocol.specs.Frames.{Held, held, session}
 use Rattle.protocol.specs.Program.{start, opening, closing}
-use Rattle.frames.specs.Answered.{Lent, whole, lineLent}
+use Rattle.fitting.specs.Lent.{Lent, whole, lineLent}
 
 -- ---- what is carried from piece to piece, and what a call answers
 

@@ -14,8 +14,8 @@ use Rattle.text.specs.Lines.{ffLine}
 use Rattle.text.specs.Writing.{wrote, writes, writes-at}
 use Rattle.protocol.specs.Frames.{Held, lineStep}
 use Rattle.protocol.specs.Program.{closing, Stands, stands}
-use Rattle.frames.specs.Answered.{writing, WholeHeld, is-whole, lineLent}
-use Rattle.frames.specs.Stays.{line-fine}
+use Rattle.fitting.specs.Lent.{writing, WholeHeld, is-whole, lineLent}
+use Rattle.fitting.specs.Stays.{line-fine}
 use Rattle.pieces.specs.Reader.{Taken, tells, unchanged, fits, fitting, lineRead, byteRead, further, untimely, takeOut, endOut}
 use Rattle.pieces.specs.Parts.{further-stops}
 use Rattle.pieces.specs.Refused.{take-long, take-ended, end-ended}

@@ -20,7 +20,8 @@ use Rattle.protocol.specs.declared.Session.{Session}
 use Rattle.protocol.specs.Frames.{held, session}
 use Rattle.protocol.specs.Program.{opening, closing}
 use Rattle.frames.specs.declared.Answered.{Answered}
-use Rattle.frames.specs.Answered.{lent, lineLent, whole}
+use Rattle.frames.specs.Answered.{lent}
+use Rattle.fitting.specs.Lent.{lineLent, whole}
 use Rattle.reader.specs.declared.Carried.{Carried}
 use Rattle.reader.specs.declared.Heard.{Heard}
 use Rattle.reader.specs.declared.Took.{Took}

@@ -14,7 +14,7 @@ use Rattle.meaning.specs.Mesh.{Mesh, Edge}
 use Rattle.meaning.specs.Split.{splitEdges, started, wayOf, refined, halves}
 use Rattle.meaning.specs.Tables.{rowAt, nodeAt, flatNodes, flatRows, filled}
 use Rattle.meaning.specs.Calls.{unless, fits}
-use Rattle.tables.specs.Ready.{Ready}
+use Rattle.neighbours.specs.Ready.{Ready}
 use Rattle.notes.specs.Notes.{noteAt}
 use Rattle.notes.specs.Met.{after}
 use Rattle.laws.specs.Meshes.{Standing}

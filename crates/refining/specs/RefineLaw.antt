@@ -25,8 +25,8 @@ use Rattle.meaning.specs.Lawful.{Named}
 use Rattle.meaning.specs.Split.{bisected, splitEdges, splitAt, split, Way, wayOf, refined, halves}
 use Rattle.meaning.specs.Tables.{given, outcome, answer, roomOf, meshOf, rowAt, nodeAt, flatNodes, flatRows, filled}
 use Rattle.meaning.specs.Calls.{unless, refineNo, refines, refineOut}
-use Rattle.tables.specs.Sized.{Corners, indexAt}
-use Rattle.tables.specs.Ready.{Ready}
+use Rattle.neighbours.specs.Sized.{Corners, indexAt}
+use Rattle.neighbours.specs.Ready.{Ready}
 use Rattle.notes.specs.Notes.{noteAt}
 use Rattle.notes.specs.Met.{after}
 use Rattle.laws.specs.Meshes.{Standing, meshAt, row-stands}

@@ -19,8 +19,8 @@ use Rattle.lists.specs.MarksLaw.{mark-read, marks-or, marks-read, zeros-at}
 use Rattle.lists.specs.ChainLaw.{Chain, linked, linked-length, linked-other, linked-drop, chain-start, chain-link}
 use Rattle.meaning.specs.Tables.{rowAt}
 use Rattle.laws.specs.Meshes.{Fair}
-use Rattle.tables.specs.Sized.{Sized, indexAt}
-use Rattle.tables.specs.Ready.{Ready, ready-kept}
+use Rattle.neighbours.specs.Sized.{Sized, indexAt}
+use Rattle.neighbours.specs.Ready.{Ready, ready-kept}
 use Rattle.round.specs.Round.{older, Around, olderStep, linkStep}
 
 -- ---- marks

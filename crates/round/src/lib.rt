@@ -14,8 +14,8 @@ ghost use lib.ListN.{length, take, replicate};
 ghost use Rattle.lists.specs.ChainLaw.{linked};
 ghost use Rattle.meaning.specs.Good.{span, G1, G2};
 ghost use Rattle.laws.specs.Meshes.{rowsAlone, Fair};
-ghost use Rattle.tables.specs.Sized.{Sized, indexAt};
-ghost use Rattle.tables.specs.Ready.{Ready};
+ghost use Rattle.neighbours.specs.Sized.{Sized, indexAt};
+ghost use Rattle.neighbours.specs.Ready.{Ready};
 ghost use Rattle.round.specs.Round.{Around, nextOf, roundBy, twoOrFour, Within};
 ghost use Rattle.round.specs.Pair.{edgeOf};
 

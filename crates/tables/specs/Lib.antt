@@ -1,12 +1,3 @@
 pub mod Arrow
-pub mod Sized
 pub mod Put
 pub mod PutLaw
-pub mod FoundLaw
-pub mod Slots
-pub mod SlotsLaw
-pub mod Ready
-pub mod Walk
-pub mod Join
-pub mod IndexCase
-pub mod Turns

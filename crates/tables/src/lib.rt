@@ -1,25 +1,20 @@
-// Reading and writing the tables that a caller lends, and the neighbour search. Scratch, as every call uses it: the numbers below
-// `indexAt` are notes of the running call; from there on stands the index of the search, which only this crate reads and writes.
+// Reading and writing the tables that a caller lends: rows, nodes and notes.
 ghost use mathlib.Core.Path.{_≡_};
 ghost use mathlib.Core.List.{_++_};
 ghost use Prim.Native.Nat.{_+_, _*_, _≤_, _<_};
-ghost use lib.ListN.{length, take, drop, replicate, getD, set};
+ghost use lib.ListN.{length, drop, replicate, getD, set};
 ghost use Rattle.lists.specs.Lists.{isFound};
 ghost use lib.IntN.{pos};
-ghost use Rattle.lists.specs.Search.{lowest, items};
+ghost use Rattle.lists.specs.Search.{items};
 ghost use Rattle.meaning.specs.Mesh.{arrow, holdsArrow};
 ghost use Rattle.meaning.specs.Tables.{rowAt, nodeAt, placeAt, flatRows, flatNodes, filled};
 ghost use Rattle.tables.specs.Arrow.{arrowAt};
 ghost use Rattle.tables.specs.Put.{setRow, setNode};
-ghost use Rattle.tables.specs.Sized.{indexAt, Corners};
-ghost use Rattle.tables.specs.Ready.{Ready};
 use lists::Found;
 use meaning::Correction;
 use meaning::Node;
 use meaning::Place;
 use meaning::Tri;
-
-mod index; // index.rt: the index of the neighbour search
 
 // ---- rows and nodes
 
@@ -166,7 +161,7 @@ pub fn clear_front(scratch: &mut [u32], k: usize)
     }
 }
 
-// ---- the neighbour search
+// ---- what a search gave
 
 pub fn is_found(f: Found) -> bool
     ensures { λ r. ⌜ r ≡ isFound f ⌝ }
@@ -177,6 +172,8 @@ pub fn is_found(f: Found) -> bool
     }
 }
 
+// ---- directed edges
+
 // The row has the directed edge x→y.
 pub fn has_edge(w: Tri, x: u32, y: u32) -> bool
     ensures { λ r. ⌜ r ≡ holdsArrow (arrow x y) w ⌝ }
@@ -184,40 +181,10 @@ pub fn has_edge(w: Tri, x: u32, y: u32) -> bool
     (x == w.p) & (y == w.q) | (x == w.q) & (y == w.r) | (x == w.r) & (y == w.p)
 }
 
-fn edge_at(rows: &[u32], x: u32, y: u32, i: usize) -> bool
+// Row i has it.
+pub fn edge_at(rows: &[u32], x: u32, y: u32, i: usize) -> bool
     requires { ⌜ 3 * i + 3 ≤ length (now rows) ⌝ }
     ensures { λ r. ⌜ r ≡ arrowAt (now (rows .entry)) x y i ⌝ }
 {
     has_edge(row_at(rows, i), x, y)
-}
-
-// The lowest of the first t rows that holds x→y. The index of these rows stands in scratch.
-pub fn find_edge(rows: &[u32], scratch: &[u32], nc: usize, t: usize, x: u32, y: u32) -> Found
-    requires { ⌜ Ready (now scratch) nc (now rows) t ⌝ }
-    ensures { λ r. ⌜ r ≡ lowest (arrowAt (now (rows .entry)) x y) 0 t ⌝ }
-{
-    if x as usize >= nc {
-        return Found::Nothing;
-    }
-    if y as usize >= nc {
-        return Found::Nothing;
-    }
-    let v = index::rarer(rows, scratch, nc, x, y);
-    index::walk(rows, scratch, nc, t, x, y, v)
-}
-
-// Row i joins the index, which holds the rows below it. No note changes. Where rows that were cut off are still in, it is made anew.
-pub fn add_row(rows: &[u32], scratch: &mut [u32], nc: usize, i: usize)
-    requires { ⌜ 3 * i + 3 ≤ length (now rows) ⌝ }
-    requires { ⌜ Corners nc (rowAt (now rows) i) ⌝ }
-    requires { ⌜ Ready (now scratch) nc (now rows) i ⌝ }
-    ensures notes { λ _. ⌜ take (indexAt nc (length (now (rows .entry)))) (now (scratch .exit)) ≡ take (indexAt nc (length (now (rows .entry)))) (now (scratch .entry)) ⌝ }
-    ensures ready { λ _. ⌜ Ready (now (scratch .exit)) nc (now (rows .entry)) (i + 1) ⌝ }
-{
-    if index::is_free(rows, scratch, nc, 3 * i) {
-        index::join_slots(rows, scratch, nc, 3 * i, 3 * i + 3);
-        return;
-    }
-    index::clear_index(rows, scratch, nc);
-    index::join_slots(rows, scratch, nc, 0, 3 * i + 3);
 }

@@ -1,6 +1,6 @@
 use Rattle.close.specs.DrawLaw.{zeros-less, draw-on, draw-out, draw-stop, across-below, ready-note}
 use Rattle.close.specs.Drawn.{draws, zeros}
-use Rattle.tables.specs.Ready.{Ready}
+use Rattle.neighbours.specs.Ready.{Ready}
 use lib.ListN.{length}
 use Prim.Native.Nat.{_<_}
 use mathlib.Core.Path.{_≡_}

@@ -1,6 +1,6 @@
 use Rattle.close.specs.DrawLaw.{ready-marked}
 use Rattle.close.specs.Drawn.{drawMarked}
-use Rattle.tables.specs.Ready.{Ready}
+use Rattle.neighbours.specs.Ready.{Ready}
 use Rattle.lists.specs.IterLaw.{looping}
 use Rattle.lists.specs.Search.{iter}
 use lib.ListN.{length}

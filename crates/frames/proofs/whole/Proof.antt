@@ -1,4 +1,4 @@
-use Rattle.frames.specs.Answered.{whole}
+use Rattle.fitting.specs.Lent.{whole}
 use borrow.Author.Needs.{needs}
 use Rattle.frames.proofs.whole.Statement.{statement}
 use Rattle.frames.proofs.whole.Tie as tie

@@ -4,8 +4,8 @@ use Prim.Native.Nat.{_≤_, _-_}
 use lib.ListN.{length, take}
 use Rattle.lists.specs.Search.{lowest}
 use Rattle.lists.specs.SearchLaw.{searching, lowest-on, at-some}
-use Rattle.tables.specs.Sized.{indexAt}
-use Rattle.tables.specs.Ready.{Ready, ready-end}
+use Rattle.neighbours.specs.Sized.{indexAt}
+use Rattle.neighbours.specs.Ready.{Ready, ready-end}
 use Rattle.lawful.specs.Tests.{repeatAt}
 use Rattle.lawful.specs.TestsLaw.{corners-at}
 use borrow.Author.Needs.{needs}

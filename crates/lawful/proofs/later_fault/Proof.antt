@@ -1,4 +1,4 @@
-use Rattle.tables.specs.Ready.{ready-start}
+use Rattle.neighbours.specs.Ready.{ready-start}
 use Rattle.lawful.specs.FaultLaw.{chain, judged-late, judged-last, judged-right, front-zero}
 use Rattle.lawful.specs.Tests.{laterBy}
 use borrow.Author.Needs.{needs}

@@ -1,4 +1,4 @@
-use Rattle.mesh.specs.Coarsen.{coarsened-call}
+use Rattle.coarsening.specs.Coarsen.{coarsened-call}
 use Rattle.judging.specs.Leaving.{zeroed}
 use borrow.Author.Needs.{needs}
 use Rattle.mesh.proofs.coarsen.Statement.{statement}

@@ -1,6 +1,6 @@
 use Rattle.number.specs.NumberStep.{count-next, ready-next}
 use Rattle.number.specs.Numbered.{numbers, numberRow}
-use Rattle.tables.specs.Ready.{Ready}
+use Rattle.neighbours.specs.Ready.{Ready}
 use Rattle.lists.specs.IterLaw.{looping}
 use Rattle.lists.specs.Search.{iter}
 use lib.ListN.{length}

@@ -1,0 +1,67 @@
+// What stands in the way of the base check: 1 to 7, then 10.
+ghost use mathlib.Core.Path.{_≡_};
+ghost use Prim.Native.Nat.{_+_, _*_, _≤_};
+ghost use lib.ListN.{length, replicate};
+ghost use Rattle.lists.specs.Search.{lowest};
+ghost use Rattle.meaning.specs.Tables.{given};
+ghost use Rattle.neighbours.specs.Ready.{Ready};
+ghost use Rattle.checking.specs.Clash.{clashWith, clashAt};
+ghost use Rattle.checking.specs.Check.{checkFault};
+use lists::Found;
+use meaning::Fault;
+use meaning::Tri;
+
+// ---- 10: the refinement edge of a row is in another row, and not as that one's refinement edge
+
+fn clash_with(w: Tri, u: Tri) -> bool
+    ensures { λ r. ⌜ r ≡ clashWith w u ⌝ }
+{
+    !((w.r == u.q) & (w.q == u.r))
+}
+
+fn clash_at(rows: &[u32], scratch: &[u32], nc: usize, t: usize, i: usize) -> bool
+    requires { ⌜ 3 * i + 3 ≤ length (now rows) ⌝ }
+    requires { ⌜ 3 * t ≤ length (now rows) ⌝ }
+    requires { ⌜ Ready (now scratch) nc (now rows) t ⌝ }
+    ensures { λ r. ⌜ r ≡ clashAt (now (rows .entry)) t i ⌝ }
+{
+    let w = tables::row_at(rows, i);
+    let f = neighbours::find_edge(rows, scratch, nc, t, w.r, w.q);
+    if let Found::At(j) = f {
+        return clash_with(w, tables::row_at(rows, j));
+    }
+    false
+}
+
+// For a mesh that draws none of 3 to 7.
+fn first_clash(rows: &[u32], scratch: &[u32], nc: usize, t: usize) -> Found
+    requires { ⌜ 3 * t ≤ length (now rows) ⌝ }
+    requires { ⌜ Ready (now scratch) nc (now rows) t ⌝ }
+    ensures { λ r. ⌜ r ≡ lowest (clashAt (now (rows .entry)) t) 0 t ⌝ }
+{
+    let mut i = 0;
+    while i < t {
+        if clash_at(rows, scratch, nc, t, i) {
+            return Found::At(i);
+        }
+        i += 1;
+    }
+    Found::Nothing
+}
+
+// ---- the lowest number
+
+// The lowest number that applies, and where, or 0 at 0; no marks are given, and none are wanted. Scratch is all zero before.
+pub fn work(nodes: &[i32], rows: &[u32], scratch: &mut [u32], n: usize, t: usize) -> Fault
+    requires { ⌜ now scratch ≡ replicate (length (now scratch)) 0 ⌝ }
+    ensures { λ r. ⌜ r ≡ checkFault (given (now (nodes .entry)) (now (rows .entry)) (now (scratch .entry)) n t) ⌝ }
+{
+    let f = judging::judge(nodes, rows, scratch, b"", 0, 0, n, t);
+    if f.number != 0 {
+        return f;
+    }
+    if tables::is_found(first_clash(rows, scratch, nodes.len() / 4, t)) {
+        return Fault { number: 10, at: 0 };
+    }
+    Fault { number: 0, at: 0 }
+}

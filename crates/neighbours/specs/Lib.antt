@@ -1,0 +1,9 @@
+pub mod Sized
+pub mod FoundLaw
+pub mod Slots
+pub mod SlotsLaw
+pub mod Ready
+pub mod Walk
+pub mod Join
+pub mod IndexCase
+pub mod Turns

@@ -1,4 +1,3 @@
 pub mod Asking
 pub mod AskingLaw
-pub mod MeanLaw
 pub mod WorkLaw

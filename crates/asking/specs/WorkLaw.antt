@@ -31,7 +31,8 @@ use Rattle.laws.specs.Meshes.{Standing, meshAt, mesh-is, node-is, place-is, row
 use Rattle.laws.specs.Weights.{weights-sum}
 use Rattle.judging.specs.Judge.{early, Admitted}
 use Rattle.judging.specs.Leaving.{orLate, first-of, verdict, fits-same, cleared-length}
-use Rattle.asking.specs.Asking.{sideOf, weightsIn, holdsIn, holdsAt, sumOf, meanOf, correctionOf, refusedBy, Balanced}
+use Rattle.weighing.specs.Weighing.{sumOf, meanOf, Balanced}
+use Rattle.asking.specs.Asking.{sideOf, weightsIn, holdsIn, holdsAt, correctionOf, refusedBy}
 
 -- ---- what is told, by what stands in the way
 

@@ -1,22 +1,20 @@
 // W6: the correction at a point: the lowest row that holds it, and the mean of the corrections at its corners.
 ghost use mathlib.Core.Path.{_≡_};
 ghost use Prim.Native.Nat.{ℕ, _+_, _*_, _≤_, _<_};
-ghost use lib.IntN.{pos, natAbs, _*ℤ_};
-ghost use lib.Signed.{_<ℤ_};
 ghost use lib.ListN.{length, replicate};
 ghost use Rattle.lists.specs.Search.{lowest};
-ghost use Rattle.meaning.specs.Lawful.{InBounds};
-ghost use Rattle.meaning.specs.Rounding.{floor};
 ghost use Rattle.meaning.specs.Tables.{given, rowAt};
 ghost use Rattle.meaning.specs.Calls.{askOut};
 ghost use Rattle.laws.specs.Meshes.{Stands, Standing};
-ghost use Rattle.asking.specs.Asking.{sideOf, weightsIn, holdsIn, holdsAt, sumOf, weighed, meanOf, means, correctionOf, refusedBy, Balanced, Part, Weighable};
+ghost use Rattle.weighing.specs.Weighing.{Balanced};
+ghost use Rattle.asking.specs.Asking.{sideOf, weightsIn, holdsIn, holdsAt, correctionOf, refusedBy};
 use lists::Found;
 use meaning::Correction;
 use meaning::Fault;
 use meaning::Place;
 use meaning::Told;
 use meaning::Tri;
+use weighing::Weights;
 
 // ---- the row that holds the point
 
@@ -69,15 +67,9 @@ fn row_holding(nodes: &[i32], rows: &[u32], t: usize, point: Place) -> Found
     Found::Nothing
 }
 
-// ---- the mean
+// ---- its mean
 
 // The weight of each corner: twice the area that the point makes with the side opposite.
-struct Weights {
-    p: i64,
-    q: i64,
-    r: i64,
-}
-
 fn weights_of(nodes: &[i32], w: Tri, point: Place) -> Weights
     requires { ⌜ Standing (now nodes) w ⌝ }
     ensures { λ v. ⌜ v ≡ weightsIn (now (nodes .entry)) w point ⌝ }
@@ -86,56 +78,6 @@ fn weights_of(nodes: &[i32], w: Tri, point: Place) -> Weights
     let q = side(nodes, w.r, w.p, point);
     let r = side(nodes, w.p, w.q, point);
     Weights { p, q, r }
-}
-
-fn sum_of(v: Weights) -> i64
-    requires { ⌜ Balanced v ⌝ }
-    ensures { λ r. ⌜ r ≡ sumOf v ⌝ }
-{
-    v.p + v.q + v.r
-}
-
-fn times(v: i64, x: i32) -> i64
-    requires { ⌜ (natAbs v ≤ 8_796_093_022_208) × Part x ⌝ }
-    ensures { λ r. ⌜ r ≡ v *ℤ x ⌝ }
-{
-    v * (x as i64)
-}
-
-// The values a, b and c at the corners p, q and r.
-fn weighed(v: Weights, a: i32, b: i32, c: i32) -> i64
-    requires { ⌜ Weighable v a b c ⌝ }
-    ensures { λ r. ⌜ r ≡ weighed v a b c ⌝ }
-{
-    times(v.p, a) + times(v.q, b) + times(v.r, c)
-}
-
-// s / d, rounded down: a quotient is rounded toward 0.
-fn floor(s: i64, d: i64) -> i64
-    requires { ⌜ (pos 0 <ℤ d) × (natAbs s ≤ 864_691_128_455_135_232) ⌝ }
-    ensures { λ r. ⌜ r ≡ floor s d ⌝ }
-{
-    let q = s / d;
-    if s % d < 0 {
-        return q - 1;
-    }
-    q
-}
-
-fn mean_of(v: Weights, a: i32, b: i32, c: i32) -> i32
-    requires { ⌜ Weighable v a b c ⌝ }
-    ensures { λ r. ⌜ r ≡ meanOf v a b c ⌝ }
-{
-    floor(weighed(v, a, b, c), sum_of(v)) as i32
-}
-
-fn mean(v: Weights, a: Correction, b: Correction, c: Correction) -> Correction
-    requires { ⌜ Balanced v × InBounds a × InBounds b × InBounds c ⌝ }
-    ensures { λ r. ⌜ r ≡ means v a b c ⌝ }
-{
-    let dx = mean_of(v, a.dx, b.dx, c.dx);
-    let dy = mean_of(v, a.dy, b.dy, c.dy);
-    Correction { dx, dy }
 }
 
 // Of the corrections at the corners. The products fit only where the row holds the point.
@@ -148,7 +90,7 @@ fn correction_in(nodes: &[i32], w: Tri, point: Place) -> Correction
     let a = tables::correction_at(nodes, w.p as usize);
     let b = tables::correction_at(nodes, w.q as usize);
     let c = tables::correction_at(nodes, w.r as usize);
-    mean(v, a, b, c)
+    weighing::mean(v, a, b, c)
 }
 
 // ---- the question

@@ -3,7 +3,7 @@ use mathlib.Core.Bool.{Bool, true, false}
 use mathlib.Core.List.{List·Memᴰ}
 use mathlib.Core.Logic.{_↔_, _≢_}
 use mathlib.Core.Path.{_≡_, refl, sym, subst, _∙_}
-use Prim.Native.Nat.{ℕ, zero}
+use Prim.Native.Nat.{ℕ}
 use native.Mathlib.Omega.{arith}
 use lib.IntN.{pos}
 use Rattle.lists.specs.Lists.{cases}

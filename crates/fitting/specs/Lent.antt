@@ -1,6 +1,6 @@
 -- What stands in the tables and the buffer that are lent, after a line; and the sizes that the code relies on. Assumes nothing.
 use mathlib.Core.Path.{_≡_}
-use mathlib.Core.Bool.{Bool, true, false, _&&_}
+use mathlib.Core.Bool.{Bool, true, _&&_}
 use mathlib.Core.List.{List, []}
 use Prim.Native.Nat.{ℕ, _≤_}
 use borrow.Author.Tests.{eqb-true, eq-eqb, leb-true, le-leb}

@@ -1,21 +1,19 @@
 -- What the tests tell, in the form of needs. Assumes nothing.
-use mathlib.Core.Path.{_≡_, refl, sym, ap, _∙_}
-use mathlib.Core.Bool.{Bool, false}
+use mathlib.Core.Path.{_≡_, refl, ap, _∙_}
+use mathlib.Core.Bool.{false}
 use mathlib.Core.List.{List}
 use Prim.Native.Nat.{ℕ, _+_, _*_, _≤_, _<_}
 use native.Mathlib.Omega.{arith}
 use lib.IntN.{ℤ}
 use lib.ListN.{length, take, set, length-set}
-use Rattle.lists.specs.declared.Found.{Found}
-use Rattle.lists.specs.declared.Found.the-variants.{At, Nothing}
+use Rattle.lists.specs.declared.Found.the-variants.{Nothing}
 use Rattle.lists.specs.Search.{lowest}
-use Rattle.lists.specs.SearchLaw.{lowest-nothing, lowest-below}
+use Rattle.lists.specs.SearchLaw.{lowest-nothing}
 use Rattle.meaning.specs.declared.Place.{Place}
 use Rattle.meaning.specs.declared.Tri.{Tri}
 use Rattle.meaning.specs.Lawful.{InRange, Named}
 use Rattle.meaning.specs.Tables.{nodeAt, placeAt, rowAt}
 use Rattle.laws.specs.Faults.{node-exact, named-yes}
-use Rattle.tables.specs.Arrow.{arrowAt}
 use Rattle.neighbours.specs.Sized.{Corners}
 use Rattle.lawful.specs.Tests.{outsideAt, misnamedAt, markStep}
 

@@ -23,7 +23,7 @@ use Rattle.meaning.specs.declared.Place.{Place}
 use Rattle.meaning.specs.declared.Told.{Told}
 use Rattle.meaning.specs.declared.Tri.{Tri}
 use Rattle.meaning.specs.Mesh.{Mesh, tri, arrow, arrows, correction, origin, holdsNode, nodeOf, at, turn, twiceArea}
-use Rattle.meaning.specs.Lawful.{InBounds, Named, Lawful, Lowest, First, Names, rowOf, refusal}
+use Rattle.meaning.specs.Lawful.{InBounds, Named, Lawful, Lowest, First, Names, rowOf}
 use Rattle.meaning.specs.Rounding.{Floor}
 use Rattle.meaning.specs.Asking.{HoldsPoint, holdsPoint, weightP, weightQ, weightR, weighted, meanIn, RowHolds, Covered, rowHolding, dxOf, dyOf, correctionIn, correctionBy, correctionAt}
 use Rattle.meaning.specs.Calls.{culpritOf, askNo, toldAs, told, asks}

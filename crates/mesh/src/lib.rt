@@ -1,6 +1,5 @@
 // The calls on a mesh in tables that the caller lends.
 ghost use mathlib.Core.Path.{_≡_};
-ghost use lib.ListN.{length, replicate};
 ghost use Rattle.meaning.specs.Tables.{given, outcome};
 ghost use Rattle.meaning.specs.Split.{wayOf, newest, allThree};
 ghost use Rattle.meaning.specs.Calls.{checkOut, refineOut, coarsenOut, setOut, heard, askOut};

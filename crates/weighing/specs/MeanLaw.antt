@@ -20,8 +20,8 @@ use Rattle.meaning.specs.Lawful.{InBounds}
 use Rattle.meaning.specs.Rounding.{floor}
 use Rattle.laws.specs.Floor.{floor-is, floor-greatest, floor-least, floor-quot}
 use Rattle.laws.specs.Weights.{mean-not-below, mean-not-above}
-use Rattle.asking.specs.declared.Weights.{Weights}
-use Rattle.asking.specs.Asking.{sumOf, weighed, meanOf, Balanced, Part, Weighable}
+use Rattle.weighing.specs.declared.Weights.{Weights}
+use Rattle.weighing.specs.Weighing.{sumOf, weighed, meanOf, Balanced, Part, Weighable}
 
 -- ---- bounds
 

@@ -2,9 +2,9 @@ use mathlib.Core.Path.{ap₂, _∙_}
 use mir.Facts.{toZ-ofZ}
 use borrow.Author.Needs.{needs, sfits-of}
 use Rattle.meaning.specs.Mesh.{correction}
-use Rattle.asking.specs.MeanLaw.{dx-fits, dy-fits, dx-weighable, dy-weighable}
-use Rattle.asking.proofs.mean.Statement.{statement}
-use Rattle.asking.proofs.mean.Tie as tie
+use Rattle.weighing.specs.MeanLaw.{dx-fits, dy-fits, dx-weighable, dy-weighable}
+use Rattle.weighing.proofs.mean.Statement.{statement}
+use Rattle.weighing.proofs.mean.Tie as tie
 
 mean-of-requires : tie.Need-mean-of-requires
 mean-of-requires c κs = search (needs, dx-weighable)

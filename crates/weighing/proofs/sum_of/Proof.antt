@@ -1,7 +1,7 @@
 use borrow.Author.Needs.{needs}
-use Rattle.asking.specs.MeanLaw.{two-fit, sum-fits}
-use Rattle.asking.proofs.sum_of.Statement.{statement}
-use Rattle.asking.proofs.sum_of.Tie as tie
+use Rattle.weighing.specs.MeanLaw.{two-fit, sum-fits}
+use Rattle.weighing.proofs.sum_of.Statement.{statement}
+use Rattle.weighing.proofs.sum_of.Tie as tie
 
 add-result : tie.Need-add-result
 add-result c = search (needs, two-fit)

@@ -1,7 +1,7 @@
 use mir.Facts.{toZ-ofZ}
-use Rattle.asking.specs.MeanLaw.{part-wide, times-fit}
-use Rattle.asking.proofs.times.Statement.{statement}
-use Rattle.asking.proofs.times.Tie as tie
+use Rattle.weighing.specs.MeanLaw.{part-wide, times-fit}
+use Rattle.weighing.proofs.times.Statement.{statement}
+use Rattle.weighing.proofs.times.Tie as tie
 
 cast-result : tie.Need-cast-result
 cast-result c = simp (toZ-ofZ, c .fits .x) (part-wide (c .args .x) (c .pre .1))

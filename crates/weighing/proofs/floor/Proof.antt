@@ -1,7 +1,7 @@
 use mir.Facts.{toZ-ofZ}
-use Rattle.asking.specs.MeanLaw.{above-bits, rest-fits, quotient-fits, quotient-less-fits, floor-less, floor-kept}
-use Rattle.asking.proofs.floor.Statement.{statement}
-use Rattle.asking.proofs.floor.Tie as tie
+use Rattle.weighing.specs.MeanLaw.{above-bits, rest-fits, quotient-fits, quotient-less-fits, floor-less, floor-kept}
+use Rattle.weighing.proofs.floor.Statement.{statement}
+use Rattle.weighing.proofs.floor.Tie as tie
 
 div-q : tie.Need-div-q
 div-q c = (above-bits (c .args .d) (c .fits .d) (c .pre .0), rw (toZ-ofZ (c .fits .s), toZ-ofZ (c .fits .d)) (quotient-fits (c .args .s) (c .args .d) (c .pre)))

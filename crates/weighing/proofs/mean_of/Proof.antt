@@ -3,10 +3,10 @@ use mir.Syntax.{w64}
 use mir.Val.{toZ, ofZ}
 use mir.Facts.{toZ-ofZ}
 use borrow.Author.Needs.{needs, sfits-of}
-use Rattle.asking.specs.Asking.{sumOf, weighed, meanOf}
-use Rattle.asking.specs.MeanLaw.{mean-dividable, mean-fits}
-use Rattle.asking.proofs.mean_of.Statement.{statement}
-use Rattle.asking.proofs.mean_of.Tie as tie
+use Rattle.weighing.specs.Weighing.{sumOf, weighed, meanOf}
+use Rattle.weighing.specs.MeanLaw.{mean-dividable, mean-fits}
+use Rattle.weighing.proofs.mean_of.Statement.{statement}
+use Rattle.weighing.proofs.mean_of.Tie as tie
 
 -- numerator and denominator, exactly
 over : (c : tie.After-weighed) → toZ w64 (ofZ w64 (c .weighed .result)) ≡ weighed (c .before .args .v) (c .before .args .a) (c .before .args .b) (c .before .args .c)

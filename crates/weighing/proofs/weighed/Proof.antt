@@ -4,9 +4,9 @@ use mir.Val.{toZ, ofZ}
 use mir.Facts.{toZ-ofZ}
 use lib.IntN.{_*ℤ_}
 use borrow.Author.Needs.{needs, sfits-of}
-use Rattle.asking.specs.MeanLaw.{weight-fits, p-most, q-most, r-most, two-weighed-fit, weighed-fits}
-use Rattle.asking.proofs.weighed.Statement.{statement}
-use Rattle.asking.proofs.weighed.Tie as tie
+use Rattle.weighing.specs.MeanLaw.{weight-fits, p-most, q-most, r-most, two-weighed-fit, weighed-fits}
+use Rattle.weighing.proofs.weighed.Statement.{statement}
+use Rattle.weighing.proofs.weighed.Tie as tie
 
 -- each product, exactly
 at-p : (c : tie.After-times) → toZ w64 (ofZ w64 (c .times .result)) ≡ c .before .before .args .v .p *ℤ c .before .before .args .a

@@ -1,4 +1,4 @@
--- Document 01 as definitions. Read Mesh, Lawful, Rounding, Split, Good, Coarsen, Setting, Asking, Tables, Calls in this order; then the hand meshes.
+-- Document 01 as definitions. Read Mesh, Lawful, Rounding, Split, Good, Coarsen, Setting, Proper, Asking, Tables, Calls in this order; then the hand meshes.
 pub mod Mesh
 pub mod Lawful
 pub mod Rounding
@@ -6,6 +6,7 @@ pub mod Split
 pub mod Good
 pub mod Coarsen
 pub mod Setting
+pub mod Proper
 pub mod Asking
 pub mod Tables
 pub mod Calls

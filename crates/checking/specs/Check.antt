@@ -1,8 +1,9 @@
--- The base check: after 1 to 7 comes 10. Assumes nothing.
-use mathlib.Core.Path.{_≡_, refl, sym, ap, _∙_}
+-- The base check: after 1 to 7 come 11, 12 and 10. Assumes nothing.
+use mathlib.Core.Path.{_≡_, refl, sym, ap, ap₂, _∙_}
 use mathlib.Core.Bool.{Bool, true, false, not}
 use mathlib.Core.List.{List, []}
 use Prim.Native.Nat.{ℕ}
+use lib.Dec.{eqb}
 use lib.IntN.{ℤ}
 use lib.ListN.{length, replicate}
 use Rattle.lists.specs.declared.Found.{Found}
@@ -10,43 +11,71 @@ use Rattle.lists.specs.Lists.{cases, isFound}
 use Rattle.lists.specs.Search.{lowest}
 use Rattle.meaning.specs.declared.Answer.{Answer}
 use Rattle.meaning.specs.declared.Fault.{Fault}
-use Rattle.meaning.specs.Lawful.{fault, refusal, compatible, firstClash}
+use Rattle.meaning.specs.Mesh.{Mesh}
+use Rattle.meaning.specs.Lawful.{Lawful, fault, refusal, compatible, firstClash}
 use Rattle.meaning.specs.Tables.{Given, given, outcome, answer, meshOf}
-use Rattle.meaning.specs.Calls.{culpritOf, unless, checkNo, sizesFit, untouched, checkOut}
+use Rattle.meaning.specs.Proper.{uncrowded, disjoint}
+use Rattle.meaning.specs.Calls.{culpritOf, unless, baseNo, checkNo, sizesFit, untouched, checkOut}
 use Rattle.laws.specs.Lawful.{lawful-refusal}
 use Rattle.checking.specs.Clash.{clashAt}
 use Rattle.checking.specs.ClashLaw.{clash-is}
-use Rattle.judging.specs.Judge.{early, Admitted}
+use Rattle.sweep.specs.Severity.{severity}
+use Rattle.judging.specs.Judge.{meshIn, early}
 use Rattle.judging.specs.Leaving.{orLate, first-of, verdict, sized-same, zeroed, call-out}
 
 -- as a call that wants no marks and is given none
 unfoldable pub checkFault : Given → Fault
-checkFault g = orLate (early g 0 0 []) (unless (compatible (meshOf g)) 10 0)
+checkFault g = orLate (early g 0 0 []) (baseNo (meshOf g))
+
+-- ---- 11, 12 and 10 of a lawful mesh
+
+-- the number, from the severity of its rows and from whether a labelling clashes
+unfoldable pub numberOf : ℕ → Bool → ℕ
+numberOf r clashing = cases (eqb r 2) 11 (cases (eqb r 1) 12 (cases clashing 10 0))
+
+number-is : (m : Mesh) → numberOf (severity m) (not (compatible m)) ≡ baseNo m
+unfolding numberOf severity
+number-is m = go (uncrowded m) (disjoint m) (compatible m)
+  where
+    go : (a b c : Bool) → cases (eqb (cases a (cases b 0 1) 2) 2) 11 (cases (eqb (cases a (cases b 0 1) 2) 1) 12 (cases (not c) 10 0)) ≡ unless a 11 (unless b 12 (unless c 10 0))
+    go true true true = refl
+    go true true false = refl
+    go true false true = refl
+    go true false false = refl
+    go false true true = refl
+    go false true false = refl
+    go false false true = refl
+    go false false false = refl
+
+-- c is what the search for a clash gave, y whether it found one, r the severity
+pub late-number : (nodes : List ℤ) (rows : List ℕ) (n t : ℕ) → Lawful (meshIn nodes rows n t) → (c : Found) (y : Bool) (r k : ℕ) → c ≡ lowest (clashAt rows t) 0 t → y ≡ isFound c → r ≡ severity (meshIn nodes rows n t) →
+    k ≡ numberOf r y → k ≡ baseNo (meshIn nodes rows n t)
+unfolding compatible refusal meshOf
+late-number nodes rows n t law c y r k d q e h =
+    let m = meshIn nodes rows n t in
+    let i : lowest (clashAt rows t) 0 t ≡ firstClash m = clash-is nodes rows [] n t (lawful-refusal m law) in
+    h ∙ ap₂ numberOf e (q ∙ ap isFound (d ∙ i) ∙ twice (isFound (firstClash m))) ∙ number-is m
+  where
+    twice : (b : Bool) → b ≡ not (not b)
+    twice true = refl
+    twice false = refl
+
+-- ---- after 1 to 7
 
 module _ (nodes : List ℤ) (rows s : List ℕ) (n t : ℕ) (f : Fault) (e : f ≡ early (given nodes rows s n t) 0 0 []) where
   pub check-early : (f .number ≡ 0 → ⊥) → f ≡ checkFault (given nodes rows s n t)
   unfolding checkFault
   check-early o = rw (← e) (first-of f _ o)
 
-  -- scratch is s′ then, and c is what the search for a clash gave
-  module _ (z : f .number ≡ 0) (s′ : List ℕ) (A : Admitted nodes rows s′ [] 0 n t) (c : Found) (y : Bool) (d : c ≡ lowest (clashAt rows t) 0 t) (q : y ≡ isFound c) where
-    check-late : checkFault (given nodes rows s n t) ≡ fault (unless (not y) 10 0) 0
-    unfolding checkFault compatible meshOf refusal
-    check-late =
-        let i : lowest (clashAt rows t) 0 t ≡ firstClash (meshOf (given nodes rows s n t)) = clash-is nodes rows s n t (lawful-refusal (meshOf (given nodes rows s n t)) (A .law)) in
-        rw (← e, z, ← i, ← d, ← q)
-
-    pub check-ten : y ≡ true → fault 10 0 ≡ checkFault (given nodes rows s n t)
-    check-ten p = sym (check-late ∙ rw p)
-
-    pub check-none : y ≡ false → fault 0 0 ≡ checkFault (given nodes rows s n t)
-    check-none p = sym (check-late ∙ rw p)
+  pub check-late : (f .number ≡ 0) → (k : ℕ) → k ≡ baseNo (meshIn nodes rows n t) → fault k 0 ≡ checkFault (given nodes rows s n t)
+  unfolding checkFault meshOf
+  check-late z k h = rw (← e, z, h)
 
 -- ---- what the call leaves
 
 check-untouched : (g : Given) → untouched g (checkFault g .number) (checkFault g .at) ≡ checkOut g
 unfolding checkOut checkNo checkFault
-check-untouched g = ap (λ (f : Fault). untouched g (f .number) (f .at)) (sym (verdict g 0 0 [] (unless (compatible (meshOf g)) 10 0))) ∙ go (sizesFit g 0)
+check-untouched g = ap (λ (f : Fault). untouched g (f .number) (f .at)) (sym (verdict g 0 0 [] (baseNo (meshOf g)))) ∙ go (sizesFit g 0)
   where
     blamed : ℕ
     blamed = culpritOf (meshOf g) (checkNo (meshOf g))

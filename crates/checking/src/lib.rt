@@ -1,12 +1,15 @@
-// What stands in the way of the base check: 1 to 7, then 10.
+// What stands in the way of the base check: 1 to 7, then 11, 12 and 10.
 ghost use mathlib.Core.Path.{_≡_};
+ghost use mathlib.Core.List.{[]};
 ghost use Prim.Native.Nat.{_+_, _*_, _≤_};
 ghost use lib.ListN.{length, replicate};
 ghost use Rattle.lists.specs.Search.{lowest};
 ghost use Rattle.meaning.specs.Tables.{given};
+ghost use Rattle.meaning.specs.Calls.{baseNo};
 ghost use Rattle.neighbours.specs.Ready.{Ready};
 ghost use Rattle.checking.specs.Clash.{clashWith, clashAt};
-ghost use Rattle.checking.specs.Check.{checkFault};
+ghost use Rattle.judging.specs.Judge.{meshIn, Admitted};
+ghost use Rattle.checking.specs.Check.{checkFault, numberOf};
 use lists::Found;
 use meaning::Fault;
 use meaning::Tri;
@@ -51,6 +54,33 @@ fn first_clash(rows: &[u32], scratch: &[u32], nc: usize, t: usize) -> Found
 
 // ---- the lowest number
 
+// 11, 12 or 10, or 0: from how grave it is of the rows, and whether the labelling clashes.
+fn number_of(severity: u32, clashing: bool) -> u32
+    ensures { λ r. ⌜ r ≡ numberOf severity clashing ⌝ }
+{
+    if severity == 2 {
+        return 11;
+    }
+    if severity == 1 {
+        return 12;
+    }
+    if clashing {
+        return 10;
+    }
+    0
+}
+
+// 11, 12 or 10, or 0, of a lawful mesh. Its index stands in scratch before, and not after.
+fn late(nodes: &[i32], rows: &[u32], scratch: &mut [u32], n: usize, t: usize) -> u32
+    requires { ⌜ Admitted (now nodes) (now rows) (now scratch) [] 0 n t ⌝ }
+    ensures { λ r. ⌜ r ≡ baseNo (meshIn (now (nodes .entry)) (now (rows .entry)) n t) ⌝ }
+{
+    let clashing = tables::is_found(first_clash(rows, scratch, nodes.len() / 4, t));
+    tables::clear(scratch);
+    let severity = sweep::severity(nodes, rows, scratch, n, t);
+    number_of(severity, clashing)
+}
+
 // The lowest number that applies, and where, or 0 at 0; no marks are given, and none are wanted. Scratch is all zero before.
 pub fn work(nodes: &[i32], rows: &[u32], scratch: &mut [u32], n: usize, t: usize) -> Fault
     requires { ⌜ now scratch ≡ replicate (length (now scratch)) 0 ⌝ }
@@ -60,8 +90,6 @@ pub fn work(nodes: &[i32], rows: &[u32], scratch: &mut [u32], n: usize, t: usize
     if f.number != 0 {
         return f;
     }
-    if tables::is_found(first_clash(rows, scratch, nodes.len() / 4, t)) {
-        return Fault { number: 10, at: 0 };
-    }
-    Fault { number: 0, at: 0 }
+    let number = late(nodes, rows, scratch, n, t);
+    Fault { number, at: 0 }
 }

@@ -56,14 +56,17 @@ marksFit k marks = eqb (length marks) k && all (λ b. leb b 1) marks
 abbrev pub fits : Room → Mesh → Bool
 fits room m = leb (length (m .nodes)) (room .nodes) && leb (length (m .tris)) (room .rows)
 
--- 3 to 7, then W7: "in the order 7, 11, 12, 10"
-unfoldable pub checkNo : Mesh → ℕ
-checkNo m =
-    orElse (refusal m)
-    (unless (uncrowded m) 11
+-- what only the base check asks, of a lawful mesh. W7: "in the order 7, 11, 12, 10"
+abbrev pub baseNo : Mesh → ℕ
+baseNo m =
+    unless (uncrowded m) 11
     (unless (disjoint m) 12
     (unless (compatible m) 10
-    0)))
+    0))
+
+-- 3 to 7, then these
+unfoldable pub checkNo : Mesh → ℕ
+checkNo m = orElse (refusal m) (baseNo m)
 
 -- 2 to 9
 unfoldable pub refineNo : Way → Room → Mesh → List ℕ → ℕ

@@ -14,3 +14,8 @@ pub mod Corners
 pub mod EdgesMeet
 pub mod ProperFaithful
 pub mod FaithfulProper
+pub mod Fine
+pub mod Dissects
+pub mod SplitProper
+pub mod WithoutProper
+pub mod Flawless

@@ -90,7 +90,7 @@ pub data LateSays (m : Mesh) (Lines : ℕ → Type 0) : ℕ → Type 0 where
   -- what is judged of a lawful mesh
   lawful-mesh : Lawful m → (k : ℕ) → Lines k → LateSays m Lines k
 
-module _ (m : Mesh) {later : ℕ} {Lines : ℕ → Type 0} (exact : Exactly later Lines) where
+module _ (m : Mesh) {later : ℕ} {Lines : ℕ → Type 0} (exact : Lawful m → Exactly later Lines) where
   abbrev number : ℕ
   number = orElse (refusal m) later
 
@@ -98,12 +98,12 @@ module _ (m : Mesh) {later : ℕ} {Lines : ℕ → Type 0} (exact : Exactly late
   says-late = go (refusal m) refl
     where
       go : (k : ℕ) → refusal m ≡ k → LateSays m Lines (orElse k later)
-      go zero q = lawful-mesh (refusal-lawful m q) later (exact later .0 refl)
+      go zero q = let law = refusal-lawful m q in lawful-mesh law later (exact law later .0 refl)
       go (suc k) q = unlawful-mesh (suc k) (omega arith) (refusal-exact m (suc k) .0 q)
 
   late-says : {k : ℕ} → LateSays m Lines k → number ≡ k
   late-says (unlawful-mesh k above l) = rw (refusal-exact m k .1 l) (orElse-first k later above)
-  late-says (lawful-mesh law k h) = rw (lawful-refusal m law) (exact k .1 h)
+  late-says (lawful-mesh law k h) = rw (lawful-refusal m law) (exact law k .1 h)
 
   -- EACH NUMBER IS GIVEN EXACTLY WHEN ITS LINE SAYS, AND NO OTHER IS.
   pub late-exact : Exactly number (LateSays m Lines)

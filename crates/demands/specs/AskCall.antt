@@ -18,10 +18,10 @@ use Rattle.meaning.specs.Tables.{Given, meshOf, cleared}
 use Rattle.meaning.specs.Calls.{sizesFit, askNo, told, asks, Heard, askOut}
 use Rattle.meaning.specs.Asking.{HoldsPoint, weights, Covered, dxOf, dyOf, correctionIn}
 use Rattle.laws.specs.Lawful.{refusal-exact, applies-from-3}
-use Rattle.laws.specs.Late.{unlawful-mesh}
+use Rattle.laws.specs.Late.{late-not-1}
 use Rattle.laws.specs.Weights.{weights-sum}
 use Rattle.laws.specs.RowMean.{CornerOf}
-use Rattle.laws.specs.Asking.{AskSays, MeanOf, Tells, refuses, answers, ask-exact, ask-0, ask-14, asks-exact, asks-refused, Between, told-between, told-in-range, told-corner, told-side}
+use Rattle.laws.specs.Asking.{AskSays, covered-past, MeanOf, Tells, refuses, answers, ask-exact, ask-0, ask-14, asks-exact, asks-refused, Between, told-between, told-in-range, told-corner, told-side}
 use Rattle.laws.specs.CallLaw.{Sizes, sizes-exact, Says, says-exact, says-1, ask-leaves}
 
 -- after 0: c was told of P
@@ -118,7 +118,4 @@ ask-call g n0 P o e =
     number s = ask-leaves g n0 P .ask-number ∙ rw (sizes-exact g n0 .1 s)
 
     not-1 : askNo (meshOf g) P ≢ 1
-    not-1 q = go (ask-exact (meshOf g) P 1 .0 q)
-      where
-        go : AskSays (meshOf g) P 1 → ⊥
-        go (unlawful-mesh k above l) = omega (arith, applies-from-3 (meshOf g) 1 (refusal-exact (meshOf g) 1 .1 l) (omega arith))
+    not-1 q = late-not-1 (covered-past (meshOf g) P) (ask-exact (meshOf g) P 1 .0 q)

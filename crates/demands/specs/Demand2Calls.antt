@@ -17,15 +17,16 @@ use Rattle.meaning.specs.declared.Correction.{Correction}
 use Rattle.meaning.specs.declared.Node.{Node}
 use Rattle.meaning.specs.declared.Place.{Place}
 use Rattle.meaning.specs.Mesh.{Mesh, Edge, tri, node, nodeOf, origin, edges, base}
-use Rattle.meaning.specs.Lawful.{InBounds, Lawful, Lowest, Names, refusal, rowOf}
+use Rattle.meaning.specs.Lawful.{InBounds, Lawful, Compatible, Lowest, Names, refusal, rowOf}
 use Rattle.meaning.specs.Split.{Way, startsOf, wayOf, newest, allThree, started, refined}
 use Rattle.meaning.specs.Coarsen.{coarsened, restored}
 use Rattle.meaning.specs.Setting.{SetSays, SetNames, corrected, setFault}
 use Rattle.meaning.specs.Tables.{Given, Outcome, nodeForm, rowForm, nodeAt, placeAt, rowAt, meshOf, roomOf}
 use Rattle.meaning.specs.Calls.{culpritOf, checkNo, refineNo, coarsenNo, checkOut, refineOut, coarsenOut, restoreOut, setOut, Heard, askOut}
 use Rattle.laws.specs.Lawful.{refusal-lawful, refusal-exact, applies-from-3}
-use Rattle.laws.specs.Late.{unlawful-mesh}
-use Rattle.laws.specs.Check.{CheckSays, check-exact}
+use Rattle.laws.specs.Late.{late-not-1}
+use Rattle.proper.specs.Flawless.{Flawless}
+use Rattle.proper.specs.Check.{CheckSays, NoneCrowded, SomeCrowded, SomeOverlap, base-past, check-exact, check-11, check-12, check-10, check-0}
 use Rattle.laws.specs.Marks.{WellMarked}
 use Rattle.laws.specs.Cut.{CutLaws}
 use Rattle.laws.specs.Bisected.{bisected-laws}
@@ -40,8 +41,16 @@ use Rattle.demands.specs.InFour.{InFour, marked-in-four}
 
 -- ---- what a user finds
 
+-- W7: the number k of the base check, in tables that fit
+pub record OfBase (m : Mesh) (k : ℕ) : Type 0 where
+  pub exactly-11 : (k ≡ 11) ↔ (Lawful m × SomeCrowded m)
+  pub exactly-12 : (k ≡ 12) ↔ (Lawful m × NoneCrowded m × SomeOverlap m)
+  pub exactly-10 : (k ≡ 10) ↔ (Flawless m × (¬ Compatible m))
+  pub exactly-0 : (k ≡ 0) ↔ (Flawless m × Compatible m)
+
 pub record CheckMade (g : Given) (o : Outcome) : Type 0 where
   pub answered : Answers g 0 (CheckSays (meshOf g)) o
+  pub of-sized : Sizes g 0 → OfBase (meshOf g) (o .answer .number)
   -- after 0 too: "the base check writes no table but scratch"
   pub never-written : AsGiven g o
 
@@ -139,12 +148,16 @@ check-call g o e =
     let c = check-leaves g in
     subst (CheckMade g) (sym e)
     (record {
-      answered = call-answers g 0 (checkNo (meshOf g)) (CheckSays (meshOf g)) (Names (meshOf g)) (checkOut g) (c .check-number) (check-exact (meshOf g)) not-1 (check-names g) (λ n. c .all-as-given) (c .scratch-zero);
+      answered = call-answers g 0 (checkNo (meshOf g)) (CheckSays (meshOf g)) (Names (meshOf g)) (checkOut g) (c .check-number) (check-exact (meshOf g)) (late-not-1 (base-past (meshOf g))) (check-names g) (λ n. c .all-as-given) (c .scratch-zero);
+      of-sized = λ s. record { exactly-11 = at s (check-11 (meshOf g)); exactly-12 = at s (check-12 (meshOf g)); exactly-10 = at s (check-10 (meshOf g)); exactly-0 = at s (check-0 (meshOf g)) };
       never-written = c .all-as-given;
     })
   where
-    not-1 : ¬ CheckSays (meshOf g) 1
-    not-1 (unlawful-mesh k above l) = no-1 (meshOf g) l
+    number : Sizes g 0 → checkOut g .answer .number ≡ checkNo (meshOf g)
+    number s = check-leaves g .check-number ∙ rw (sizes-exact g 0 .1 s)
+
+    at : {k : ℕ} {A : Type 0} → Sizes g 0 → (checkNo (meshOf g) ≡ k) ↔ A → (checkOut g .answer .number ≡ k) ↔ A
+    at s h = (λ e. h .0 (sym (number s) ∙ e), λ a. number s ∙ h .1 a)
 
 -- REFINE, for any way whose cut has the laws of a cut, and that starts with edges of the marked triangles.
 module _ (w : Way) (laws : CutLaws (w .cutting)) (own : (t : Tri) → All (λ e. List·Memᴰ e (edges t)) (w .starts t)) where

@@ -29,7 +29,7 @@ use Rattle.meaning.specs.Calls.{culpritOf, unless, askNo, toldAs, told, asks}
 use Rattle.laws.specs.Culprit.{names-one, culprit-names, ask-due}
 use Rattle.laws.specs.Searched.{lowest-exact, found-exact}
 use Rattle.laws.specs.Exact.{unfit}
-use Rattle.laws.specs.Late.{Exactly, Done, all-sound, Unless, done-0, done-exact, unless-exact, done-past, unless-past, own-line, other-line, LateSays, late-exact, late-past, late-lowest}
+use Rattle.laws.specs.Late.{Exactly, Done, all-sound, Unless, done-0, done-exact, unless-exact, PastSeven, done-past, unless-past, own-line, other-line, LateSays, late-exact, late-past, late-lowest}
 use Rattle.laws.specs.RowMean.{CornerOf, corner-of, corner-holds, mean-same, mean-floor, mean-only, mean-from-least, mean-to-greatest, mean-corner, side-same}
 
 -- ---- the row that holds the point
@@ -85,6 +85,9 @@ module _ (m : Mesh) (P : Place) where
   abbrev pub AskSays : ℕ → Type 0
   AskSays = LateSays m CoveredLines
 
+  pub covered-past : PastSeven CoveredLines
+  covered-past = unless-past (omega arith) done-past
+
   lines-exact : Lawful m → Exactly (unless (isFound (rowHolding m P)) 14 0) CoveredLines
   lines-exact law = unless-exact (record { sound = covered-exact; fault = unfit (isFound (rowHolding m P)) covered-exact }) 14 done-exact
 
@@ -113,7 +116,7 @@ module _ (m : Mesh) (P : Place) where
 
   pub ask-lowest : (k : ℕ) → 0 < k → k ≤ 7 → (askNo m P ≡ k) ↔ Lowest m k
   unfolding askNo
-  ask-lowest = late-lowest m lines-exact (unless-past (omega arith) done-past)
+  ask-lowest = late-lowest m lines-exact covered-past
 
   -- ---- what is told
 

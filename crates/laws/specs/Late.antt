@@ -9,7 +9,7 @@ use Rattle.meaning.specs.Mesh.{Mesh}
 use Rattle.meaning.specs.Lawful.{Lawful, Lowest, refusal}
 use Rattle.meaning.specs.Calls.{unless, orElse}
 use Rattle.laws.specs.Exact.{orElse-first}
-use Rattle.laws.specs.Lawful.{refusal-lawful, lawful-refusal, refusal-exact, applies-to-7}
+use Rattle.laws.specs.Lawful.{refusal-lawful, lawful-refusal, refusal-exact, applies-from-3, applies-to-7}
 
 -- a number is given exactly when its line says
 abbrev pub Exactly : ℕ → (ℕ → Type 0) → Type 0
@@ -89,6 +89,18 @@ pub data LateSays (m : Mesh) (Lines : ℕ → Type 0) : ℕ → Type 0 where
   unlawful-mesh : (k : ℕ) → 0 < k → Lowest m k → LateSays m Lines k
   -- what is judged of a lawful mesh
   lawful-mesh : Lawful m → (k : ℕ) → Lines k → LateSays m Lines k
+
+-- 1 is about tables alone
+pub late-not-1 : {m : Mesh} {Lines : ℕ → Type 0} → PastSeven Lines → ¬ LateSays m Lines 1
+late-not-1 {m} {Lines} past = go
+  where
+    out : (_≡_ {A = ℕ} 1 0) ⊎ (7 < 1) → ⊥
+    out (inl z) = omega arith
+    out (inr p) = omega arith
+
+    go : LateSays m Lines 1 → ⊥
+    go (unlawful-mesh k above l) = omega (arith, applies-from-3 m 1 (refusal-exact m 1 .1 l) (omega arith))
+    go (lawful-mesh law k h) = out (past 1 h)
 
 module _ (m : Mesh) {later : ℕ} {Lines : ℕ → Type 0} (exact : Lawful m → Exactly later Lines) where
   abbrev number : ℕ

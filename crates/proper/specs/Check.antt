@@ -11,7 +11,7 @@ use Rattle.meaning.specs.Proper.{Crowded, Overlaps}
 use Rattle.meaning.specs.Calls.{unless, baseNo, checkNo}
 use Rattle.laws.specs.Exact.{unfit}
 use Rattle.laws.specs.Lawful.{compatible-exact}
-use Rattle.laws.specs.Late.{Exactly, Done, all-sound, Unless, done-0, done-exact, unless-exact, done-past, unless-past, own-line, other-line, LateSays, late-exact, late-past, late-lowest}
+use Rattle.laws.specs.Late.{Exactly, Done, all-sound, Unless, done-0, done-exact, unless-exact, PastSeven, done-past, unless-past, own-line, other-line, LateSays, late-exact, late-past, late-lowest}
 use Rattle.proper.specs.ProperLaw.{uncrowded-exact, crowded-somewhere, disjoint-exact, overlaps-somewhere, none-proper, not-crowded, not-overlapping}
 use Rattle.proper.specs.Flawless.{Flawless}
 
@@ -44,6 +44,9 @@ module _ (m : Mesh) where
   abbrev pub CheckSays : ℕ → Type 0
   CheckSays = LateSays m BaseLines
 
+  pub base-past : PastSeven BaseLines
+  base-past = unless-past (omega arith) (unless-past (omega arith) (unless-past (omega arith) done-past))
+
   label-exact : Exactly (unless (compatible m) 10 0) LabelLines
   label-exact = unless-exact (record { sound = compatible-exact m; fault = unfit (compatible m) (compatible-exact m) }) 10 done-exact
 
@@ -74,7 +77,7 @@ module _ (m : Mesh) where
 
   pub check-lowest : (k : ℕ) → 0 < k → k ≤ 7 → (checkNo m ≡ k) ↔ Lowest m k
   unfolding checkNo
-  check-lowest = late-lowest m base-exact (unless-past (omega arith) (unless-past (omega arith) (unless-past (omega arith) done-past)))
+  check-lowest = late-lowest m base-exact base-past
 
   -- "AS 11 WHEN TWO NODES STAND AT ONE PLACE OR A NODE LIES STRICTLY INSIDE AN EDGE,"
   pub check-11 : (checkNo m ≡ 11) ↔ (Lawful m × SomeCrowded)

@@ -4,4 +4,5 @@ pub mod AskCall
 pub mod Demand2Calls
 pub mod Demand3Calls
 pub mod AskAgain
+pub mod ProperCalls
 pub mod Demand3CallsExample

@@ -1,3 +1,4 @@
 pub mod Pair
+pub mod OnLine
 pub mod Seen
 pub mod SeenLaw

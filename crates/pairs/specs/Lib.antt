@@ -2,3 +2,4 @@ pub mod Pair
 pub mod OnLine
 pub mod Seen
 pub mod SeenLaw
+pub mod CleanLaw

@@ -4,7 +4,6 @@ use mathlib.Core.Bool.{Bool, true, false, not, _&&_, _||_}
 use mathlib.Core.List.{List}
 use Prim.Native.Nat.{ℕ}
 use native.Mathlib.Omega.{arith}
-use borrow.Author.Tests.{eq-eqb, ne-eqb}
 use lib.IntN.{ℤ, pos}
 use lib.Signed.{leZ, ltZ}
 use Rattle.whole.specs.Diff.{onℤ}
@@ -109,12 +108,6 @@ some-of-three true true c = refl
 some-of-three true false c = refl
 some-of-three false b c = refl
 
-or-sym : (a b : Bool) → a || b ≡ b || a
-or-sym true true = refl
-or-sym true false = refl
-or-sym false true = refl
-or-sym false false = refl
-
 module _ (P : ℕ → Place) where
   side-is : (x y : ℕ) (u : Tri) → any (onSide P (arrow x y)) (corners u) ≡ isOnSome (cornerBy P x) (cornerBy P y) (seenBy P u)
   unfolding isOnSome seenBy isOn isEnd notBeyond
@@ -154,23 +147,3 @@ module _ (P : ℕ → Place) where
   seen-same t u =
       rw (touches-is t u, touches-is u t, parted-is t u, parted-is u t)
       (sym (ap (cases (meets (seenBy P t) (seenBy P u) || meets (seenBy P u) (seenBy P t)) 2) (neither (crosses (seenBy P t) (seenBy P u)) (crosses (seenBy P u) (seenBy P t)))))
-
-  -- either row may come first
-  pub grave-sym : (t u : Tri) → grave P t u ≡ grave P u t
-  unfolding grave apart
-  grave-sym t u =
-      let e = or-sym (touches P t u) (touches P u t) in
-      let f = or-sym (partedBy (shapeBy P t) (shapeBy P u)) (partedBy (shapeBy P u) (shapeBy P t)) in
-      (λ i. cases (e i) 2 (cases (f i) 0 1))
-
-  -- ---- the rows i and j of a table
-
-  module _ (rows : List ℕ) (i j : ℕ) where
-    pub grave-itself : i ≡ j → 0 ≡ graveAt P rows i j
-    unfolding graveAt
-    grave-itself e = rw (eq-eqb i j e)
-
-    -- v and w are the rows as read, t and u as seen
-    pub grave-two : (i ≡ j → ⊥) → (v w : Tri) → v ≡ rowAt rows i → w ≡ rowAt rows j → (t u : Seen) → t ≡ seenBy P v → u ≡ seenBy P w → (x : ℕ) → x ≡ graveSeen t u → x ≡ graveAt P rows i j
-    unfolding graveAt
-    grave-two n v w c d t u a b x e = rw (ne-eqb i j n) (e ∙ (λ k. graveSeen (a k) (b k)) ∙ seen-same v w ∙ (λ k. grave P (c k) (d k)))

@@ -4,6 +4,7 @@ use mathlib.Core.Bool.{Bool, true, false, not, _&&_, _||_}
 use mathlib.Core.List.{List}
 use Prim.Native.Nat.{ℕ}
 use native.Mathlib.Omega.{arith}
+use borrow.Author.Tests.{not-true, not-false}
 use lib.IntN.{ℤ, pos}
 use lib.Signed.{leZ, ltZ}
 use Rattle.whole.specs.Diff.{onℤ}
@@ -20,7 +21,7 @@ use Rattle.laws.specs.Meshes.{Standing}
 use Rattle.pairs.specs.declared.Corner.{Corner}
 use Rattle.pairs.specs.declared.Seen.{Seen}
 use Rattle.pairs.specs.Pair.{shapeBy, corners, onSide, touches, grave, graveAt}
-use Rattle.pairs.specs.Seen.{seenBy, cornerBy, Near, isEnd, leftOf, rightOf, notBeyond, isOn, isOnSome, someLeft, meets, crosses, graveSeen}
+use Rattle.pairs.specs.Seen.{seenBy, cornerBy, Near, isEnd, leftOf, rightOf, notBeyond, isOn, isClear, isOnSome, someLeft, allClear, clean, meets, crosses, graveSeen}
 
 -- ---- one side and one corner, test by test
 
@@ -60,6 +61,36 @@ module _ (a b c : Corner) where
             let m : ltZ z (pos 0) ≡ false = sym g ∙ n in
             let f : leZ (pos 0) z ≡ true = omega (arith, onℤ, tests) in
             rw (← e, h, not-left, f) o
+
+-- ---- one side and a row, two rows: x, y and z are what the code found, in order
+
+module _ (a b : Corner) (t : Seen) (x : Bool) (d : x ≡ isClear a b (t .p)) where
+  pub clear-not-p : not x ≡ true → false ≡ allClear a b t
+  unfolding allClear
+  clear-not-p h = rw (← d, not-true x h)
+
+  module _ (h : not x ≡ false) (y : Bool) (e : y ≡ isClear a b (t .q)) where
+    pub clear-not-q : not y ≡ true → false ≡ allClear a b t
+    unfolding allClear
+    clear-not-q k = rw (← d, not-false x h, ← e, not-true y k)
+
+    pub clear-all : not y ≡ false → (z : Bool) → z ≡ isClear a b (t .r) → z ≡ allClear a b t
+    unfolding allClear
+    clear-all k z f = rw (← d, not-false x h, ← e, not-false y k) f
+
+module _ (t u : Seen) (x : Bool) (d : x ≡ allClear (t .p) (t .q) u) where
+  pub clean-pq : x ≡ true → true ≡ clean t u
+  unfolding clean
+  clean-pq h = rw (← d, h)
+
+  module _ (h : x ≡ false) (y : Bool) (e : y ≡ allClear (t .q) (t .r) u) where
+    pub clean-qr : y ≡ true → true ≡ clean t u
+    unfolding clean
+    clean-qr k = rw (← d, h, ← e, k)
+
+    pub clean-rp : y ≡ false → (z : Bool) → z ≡ allClear (t .r) (t .p) u → z ≡ clean t u
+    unfolding clean
+    clean-rp k z f = rw (← d, h, ← e, k) f
 
 -- ---- a row with its places
 

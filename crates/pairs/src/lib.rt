@@ -124,7 +124,13 @@ fn all_clear(a: Corner, b: Corner, t: Seen) -> bool
     requires { ⌜ InRange (a .place) × InRange (b .place) ⌝ }
     ensures { λ r. ⌜ r ≡ allClear a b t ⌝ }
 {
-    is_clear(a, b, t.p) & is_clear(a, b, t.q) & is_clear(a, b, t.r)
+    if !is_clear(a, b, t.p) {
+        return false;
+    }
+    if !is_clear(a, b, t.q) {
+        return false;
+    }
+    is_clear(a, b, t.r)
 }
 
 // ---- two rows
@@ -134,7 +140,13 @@ fn clean(t: Seen, u: Seen) -> bool
     requires { ⌜ Near t ⌝ }
     ensures { λ r. ⌜ r ≡ clean t u ⌝ }
 {
-    all_clear(t.p, t.q, u) | all_clear(t.q, t.r, u) | all_clear(t.r, t.p, u)
+    if all_clear(t.p, t.q, u) {
+        return true;
+    }
+    if all_clear(t.q, t.r, u) {
+        return true;
+    }
+    all_clear(t.r, t.p, u)
 }
 
 // A corner of u is on a side of t.

@@ -1,0 +1,2 @@
+-- W6 on meshes that draw neither 11 nor 12.
+pub mod AnyRow

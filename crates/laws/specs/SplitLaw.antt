@@ -34,7 +34,7 @@ use Rattle.laws.specs.Source.{source, allowed-source}
 abbrev cutRows : (Tri → Cut) → List Tri → List Tri
 cutRows k ts = map (λ t. k t .kept) ts ++ joined (λ t. k t .added) ts
 
-all-cuts : (P : Tri → Type 0) (k : Tri → Cut) {ts : List Tri} → All (λ t. All P (parts (k t))) ts → All P (cutRows k ts)
+pub all-cuts : (P : Tri → Type 0) (k : Tri → Cut) {ts : List Tri} → All (λ t. All P (parts (k t))) ts → All P (cutRows k ts)
 all-cuts P k h = All-append (All-map (λ t. k t .kept) (All-imp (λ t g. All·head g) h)) (All-joined (λ t. k t .added) (All-imp (λ t g. All·tail g) h))
 
 tally-cuts : (f : Tri → ℕ) (k : Tri → Cut) (ts : List Tri) → tally f (cutRows k ts) ≡ tally (λ t. tally f (parts (k t))) ts

@@ -1,6 +1,6 @@
 -- W6 and a row cut by bisection: a half makes of any point what the row makes, if the new node carries the exact mean of the two ends; what a half holds
 -- the row holds, and what the row holds one of the halves holds. So it is with all the parts of a cut. Assumes nothing.
-use mathlib.Core.List.{List, List·Memᴰ, List·Memᴰ·head, List·Memᴰ·tail}
+use mathlib.Core.List.{List, _∷_, List·Memᴰ, List·Memᴰ·head, List·Memᴰ·tail}
 use mathlib.Core.Logic.{_⊎_, inl, inr, ⊎-elim}
 use mathlib.Core.Option.{Option, none, some}
 use mathlib.Core.Path.{_≡_, refl, sym, _∙_}
@@ -160,3 +160,63 @@ module _ (M : Mesh) (P : Place) where
       right-within : Within (tri a b c) (tri n c a)
       unfolding twiceArea
       right-within = half-within (tri a b c) (tri n c a) above (right-half (at M a) (at M b) (at M c) (at M n) (h .in-place)) (right-held (h .in-place)) (twice-right (h .in-place) (dxOf M) (h .in-dx)) (twice-right (h .in-place) (dyOf M) (h .in-dy))
+
+-- ---- the parts of a cut
+
+-- the same of a midpoint that may be absent
+abbrev pub HalfwayIf : Mesh → ℕ → ℕ → Option ℕ → Type 0
+HalfwayIf M a b none = Unit {0}
+HalfwayIf M a b (some n) = Halfway M n a b
+
+-- o, u and v are the midpoints of q–r, p–q and r–p, where these edges are split
+pub record Halved (M : Mesh) (t : Tri) (o u v : Option ℕ) : Type 0 where
+  pub on-qr : HalfwayIf M (t .q) (t .r) o
+  pub on-pq : HalfwayIf M (t .p) (t .q) u
+  pub on-rp : HalfwayIf M (t .r) (t .p) v
+
+module _ (M : Mesh) (P : Place) (t : Tri) where
+  -- EACH PART OF A ROW'S CUT IS A PART OF THE ROW.
+  pub parts-within : (o u v : Option ℕ) → pos 0 <ℤ twiceArea M t → Halved M t o u v → All (Within M P t) (parts (bisected t o u v))
+  parts-within none u v above h = cons (record { above = above; holds = λ k. k; same = refl }) nil
+  parts-within (some m) u v above h = go u v (h .on-pq) (h .on-rp)
+    where
+      left : Within M P t (tri m (t .p) (t .q))
+      left = left-within M P (t .p) (t .q) (t .r) m above (h .on-qr)
+
+      right : Within M P t (tri m (t .r) (t .p))
+      right = right-within M P (t .p) (t .q) (t .r) m above (h .on-qr)
+
+      left-of : {a b c : ℕ} (n : ℕ) → Within M P t (tri a b c) → Halfway M n b c → Within M P t (tri n a b)
+      left-of {a} {b} {c} n w e = within-all M P w (left-within M P a b c n (w .above) e)
+
+      right-of : {a b c : ℕ} (n : ℕ) → Within M P t (tri a b c) → Halfway M n b c → Within M P t (tri n c a)
+      right-of {a} {b} {c} n w e = within-all M P w (right-within M P a b c n (w .above) e)
+
+      go : (u v : Option ℕ) → HalfwayIf M (t .p) (t .q) u → HalfwayIf M (t .r) (t .p) v → All (Within M P t) (parts (bisected t (some m) u v))
+      go none none e f = cons left (cons right nil)
+      go (some u) none e f = cons (left-of u left e) (cons right (cons (right-of u left e) nil))
+      go none (some v) e f = cons left (cons (left-of v right f) (cons (right-of v right f) nil))
+      go (some u) (some v) e f = cons (left-of u left e) (cons (left-of v right f) (cons (right-of u left e) (cons (right-of v right f) nil)))
+
+  -- one of them holds the point
+  abbrev pub SomeHolds : List Tri → Type 0
+  SomeHolds ks = (k : Tri) × List·Memᴰ k ks × HoldsPoint M P k
+
+  -- WHAT THE ROW HOLDS, A PART OF ITS CUT HOLDS.
+  pub some-part : (o u v : Option ℕ) → Halved M t o u v → HoldsPoint M P t → SomeHolds (parts (bisected t o u v))
+  some-part none u v h k = (t, List·Memᴰ·head refl, k)
+  some-part (some m) u v h k = go u v (h .on-pq) (h .on-rp) (half-holds M P (t .p) (t .q) (t .r) m (h .on-qr .in-place) k)
+    where
+      first : {x : Tri} {l : List Tri} → HoldsPoint M P x → SomeHolds (x ∷ l)
+      first k = (_, List·Memᴰ·head refl, k)
+
+      later : {x : Tri} {l : List Tri} → SomeHolds l → SomeHolds (x ∷ l)
+      later (k, i, h) = (k, List·Memᴰ·tail i, h)
+
+      go : (u v : Option ℕ) → HalfwayIf M (t .p) (t .q) u → HalfwayIf M (t .r) (t .p) v → HoldsPoint M P (tri m (t .p) (t .q)) ⊎ HoldsPoint M P (tri m (t .r) (t .p)) → SomeHolds (parts (bisected t (some m) u v))
+      go none none e f = ⊎-elim (λ l. first l) (λ r. later (first r))
+      go (some u) none e f = ⊎-elim (λ l. ⊎-elim (λ k. first k) (λ k. later (later (first k))) (half-holds M P m (t .p) (t .q) u (e .in-place) l)) (λ r. later (first r))
+      go none (some v) e f = ⊎-elim (λ l. first l) (λ r. ⊎-elim (λ k. later (first k)) (λ k. later (later (first k))) (half-holds M P m (t .r) (t .p) v (f .in-place) r))
+      go (some u) (some v) e f =
+          ⊎-elim (λ l. ⊎-elim (λ k. first k) (λ k. later (later (first k))) (half-holds M P m (t .p) (t .q) u (e .in-place) l))
+          (λ r. ⊎-elim (λ k. later (first k)) (λ k. later (later (later (first k)))) (half-holds M P m (t .r) (t .p) v (f .in-place) r))

@@ -3,19 +3,23 @@
 use mathlib.Core.Bool.{Bool, true, false}
 use mathlib.Core.List.{List·Memᴰ}
 use mathlib.Core.Logic.{inr}
-use mathlib.Core.Path.{_≡_, refl, sym, ap, subst, subst⁻¹, _∙_}
+use mathlib.Core.Path.{_≡_, refl, sym, ap, subst⁻¹, subst₂, _∙_}
 use Prim.Native.Nat.{ℕ, _<_}
 use native.Mathlib.Omega.{arith}
-use lib.IntN.{pos}
-use lib.ListN.{length}
+use lib.IntN.{ℤ, pos, _+ℤ_, _*ℤ_}
+use lib.ListN.{length, getD}
+use lib.Signed.{_≤ℤ_}
 use Rattle.lists.specs.Lists.{isFound}
 use Rattle.lists.specs.ListsLaw.{All-at}
 use Rattle.lists.specs.MembersLaw.{mem-at, at-mem, count-some}
+use Rattle.meaning.specs.declared.Correction.{Correction}
+use Rattle.meaning.specs.declared.Node.{Node}
 use Rattle.meaning.specs.declared.Place.{Place}
 use Rattle.meaning.specs.declared.Tri.{Tri}
-use Rattle.meaning.specs.Mesh.{Mesh, mesh, tri, correction, holdsNode, nodeOf, at}
+use Rattle.meaning.specs.Mesh.{Mesh, tri, correction, origin, holdsNode, nodeOf, at, turn}
 use Rattle.meaning.specs.Lawful.{Lawful, names-none, rowOf}
 use Rattle.meaning.specs.Proper.{Proper}
+use Rattle.meaning.specs.Rounding.{floor}
 use Rattle.meaning.specs.Asking.{HoldsPoint, weighted, weights, meanIn, RowHolds, Covered, dxOf, dyOf, correctionIn, rowHolding, correctionAt}
 use Rattle.meaning.specs.Calls.{culpritOf, askNo, toldAs, told, asks}
 use Rattle.laws.specs.Exact.{unfit}
@@ -96,19 +100,40 @@ same-told {m} {n} law proper lawful P back there = go (isFound (rowHolding n P))
 
 -- ---- the order of the rows
 
--- the nodes are all that is asked of
-module _ (m n : Mesh) (e : m .nodes ≡ n .nodes) (P : Place) (t : Tri) where
-  held-there : HoldsPoint m P t → HoldsPoint n P t
-  held-there h = let k = subst (λ ns. HoldsPoint (mesh ns (m .tris)) P t) e h in record { off-qr = k .off-qr; off-rp = k .off-rp; off-pq = k .off-pq }
+-- what a row makes of P, by the nodes of its corners
+abbrev madeOf : Place → Node → Node → Node → Correction
+madeOf P a b c =
+    let p : ℤ = turn (b .place) (c .place) P in
+    let q : ℤ = turn (c .place) (a .place) P in
+    let r : ℤ = turn (a .place) (b .place) P in
+    let part : (Node → ℤ) → ℤ = λ f. floor (p *ℤ f a +ℤ q *ℤ f b +ℤ r *ℤ f c) (p +ℤ q +ℤ r) in
+    correction (part (λ d. d .correction .dx)) (part (λ d. d .correction .dy))
 
-  same-there : correctionIn m P t ≡ correctionIn n P t
+-- the corners of row t are the same nodes in both
+pub record SameCorners (m n : Mesh) (t : Tri) : Type 0 where
+  pub at-p : nodeOf m (t .p) ≡ nodeOf n (t .p)
+  pub at-q : nodeOf m (t .q) ≡ nodeOf n (t .q)
+  pub at-r : nodeOf m (t .r) ≡ nodeOf n (t .r)
+
+module _ {m n : Mesh} {t : Tri} (s : SameCorners m n t) (P : Place) where
+  -- so both hold the point or neither does, and both make the same of it
+  pub corners-hold : HoldsPoint m P t → HoldsPoint n P t
+  corners-hold h = record { off-qr = moved (s .at-q) (s .at-r) (h .off-qr); off-rp = moved (s .at-r) (s .at-p) (h .off-rp); off-pq = moved (s .at-p) (s .at-q) (h .off-pq) }
+    where
+      moved : {a b a′ b′ : Node} → a ≡ a′ → b ≡ b′ → pos 0 ≤ℤ turn (a .place) (b .place) P → pos 0 ≤ℤ turn (a′ .place) (b′ .place) P
+      moved = subst₂ (λ (a b : Node). pos 0 ≤ℤ turn (a .place) (b .place) P)
+
+  pub corners-make : correctionIn m P t ≡ correctionIn n P t
   unfolding weighted weights meanIn
-  same-there i = correctionIn (mesh (e i) (m .tris)) P t
+  corners-make i = madeOf P (s .at-p i) (s .at-q i) (s .at-r i)
 
 -- THE ANSWER DOES NOT DEPEND ON THE ORDER OF THE ROWS.
 pub order-free : (m n : Mesh) → Lawful m → Proper m → Lawful n → m .nodes ≡ n .nodes →
     ((t : Tri) → List·Memᴰ t (m .tris) → List·Memᴰ t (n .tris)) → ((t : Tri) → List·Memᴰ t (n .tris) → List·Memᴰ t (m .tris)) → (P : Place) → asks m P ≡ asks n P
 order-free m n law proper lawful e there back P =
     sym (same-told law proper lawful P
-    (λ u i h. record { row = u; row-in = back u i; holds = held-there n m (sym e) P u h; same = same-there n m (sym e) P u })
-    (λ t i h. covered-by (there t i) (held-there m n e P t h)))
+    (λ u i h. record { row = u; row-in = back u i; holds = corners-hold (same (sym e) u) P h; same = corners-make (same (sym e) u) P })
+    (λ t i h. covered-by (there t i) (corners-hold (same e t) P h)))
+  where
+    same : {m n : Mesh} → m .nodes ≡ n .nodes → (t : Tri) → SameCorners m n t
+    same e t = record { at-p = ap (λ ns. getD ns (t .p) origin) e; at-q = ap (λ ns. getD ns (t .q) origin) e; at-r = ap (λ ns. getD ns (t .r) origin) e }

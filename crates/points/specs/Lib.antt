@@ -2,3 +2,4 @@
 pub mod AnyRow
 pub mod OneAnswer
 pub mod Halves
+pub mod Refined

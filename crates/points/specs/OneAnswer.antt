@@ -29,7 +29,7 @@ use Rattle.points.specs.AnyRow.{any-row-correction}
 
 -- ---- any mesh that is lawful
 
-covered-by : {m : Mesh} {P : Place} {t : Tri} → List·Memᴰ t (m .tris) → HoldsPoint m P t → Covered m P
+pub covered-by : {m : Mesh} {P : Place} {t : Tri} → List·Memᴰ t (m .tris) → HoldsPoint m P t → Covered m P
 covered-by {m} {P} i h = let (j, l, e) = mem-at (tri 0 0 0) i in record { row = j; row-below = l; row-holds = subst⁻¹ (HoldsPoint m P) e h }
 
 -- t is a row that holds the point, and what it makes of the point is told

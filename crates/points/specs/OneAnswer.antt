@@ -16,7 +16,7 @@ use Rattle.meaning.specs.declared.Correction.{Correction}
 use Rattle.meaning.specs.declared.Node.{Node}
 use Rattle.meaning.specs.declared.Place.{Place}
 use Rattle.meaning.specs.declared.Tri.{Tri}
-use Rattle.meaning.specs.Mesh.{Mesh, tri, correction, origin, holdsNode, nodeOf, at, turn}
+use Rattle.meaning.specs.Mesh.{Mesh, tri, correction, origin, holdsNode, nodeOf, at, turn, twiceArea}
 use Rattle.meaning.specs.Lawful.{Lawful, names-none, rowOf}
 use Rattle.meaning.specs.Proper.{Proper}
 use Rattle.meaning.specs.Rounding.{floor}
@@ -115,6 +115,13 @@ pub record SameCorners (m n : Mesh) (t : Tri) : Type 0 where
   pub at-q : nodeOf m (t .q) ≡ nodeOf n (t .q)
   pub at-r : nodeOf m (t .r) ≡ nodeOf n (t .r)
 
+pub corners-back : {m n : Mesh} {t : Tri} → SameCorners m n t → SameCorners n m t
+corners-back s = record { at-p = sym (s .at-p); at-q = sym (s .at-q); at-r = sym (s .at-r) }
+
+pub corners-area : {m n : Mesh} {t : Tri} → SameCorners m n t → twiceArea m t ≡ twiceArea n t
+unfolding twiceArea
+corners-area s = λ i. turn (s .at-p i .place) (s .at-q i .place) (s .at-r i .place)
+
 module _ {m n : Mesh} {t : Tri} (s : SameCorners m n t) (P : Place) where
   -- so both hold the point or neither does, and both make the same of it
   pub corners-hold : HoldsPoint m P t → HoldsPoint n P t
@@ -132,8 +139,8 @@ pub order-free : (m n : Mesh) → Lawful m → Proper m → Lawful n → m .node
     ((t : Tri) → List·Memᴰ t (m .tris) → List·Memᴰ t (n .tris)) → ((t : Tri) → List·Memᴰ t (n .tris) → List·Memᴰ t (m .tris)) → (P : Place) → asks m P ≡ asks n P
 order-free m n law proper lawful e there back P =
     sym (same-told law proper lawful P
-    (λ u i h. record { row = u; row-in = back u i; holds = corners-hold (same (sym e) u) P h; same = corners-make (same (sym e) u) P })
-    (λ t i h. covered-by (there t i) (corners-hold (same e t) P h)))
+    (λ u i h. record { row = u; row-in = back u i; holds = corners-hold (corners-back (same u)) P h; same = sym (corners-make (same u) P) })
+    (λ t i h. covered-by (there t i) (corners-hold (same t) P h)))
   where
-    same : {m n : Mesh} → m .nodes ≡ n .nodes → (t : Tri) → SameCorners m n t
-    same e t = record { at-p = ap (λ ns. getD ns (t .p) origin) e; at-q = ap (λ ns. getD ns (t .q) origin) e; at-r = ap (λ ns. getD ns (t .r) origin) e }
+    same : (t : Tri) → SameCorners m n t
+    same t = record { at-p = ap (λ ns. getD ns (t .p) origin) e; at-q = ap (λ ns. getD ns (t .q) origin) e; at-r = ap (λ ns. getD ns (t .r) origin) e }

@@ -3,3 +3,4 @@ pub mod AnyRow
 pub mod OneAnswer
 pub mod Halves
 pub mod Refined
+pub mod PointMeshes

@@ -213,7 +213,8 @@ module _ {m : Mesh} {P : Place} {i : ℕ} {c : Correction} (h : MeanOf m P i c) 
   dy-is : meanIn (dyOf m) m P used ≡ c .dy
   dy-is = mean-only (dyOf m) m used (h .area-above) P (c .dy) (h .dy-down)
 
-  told-is : correctionIn m P used ≡ c
+  -- it is what that row makes of the point
+  pub told-is : correctionIn m P used ≡ c
   told-is j = correction (dx-is j) (dy-is j)
 
   between : (f : ℕ → ℤ) → Between used f (meanIn f m P used)

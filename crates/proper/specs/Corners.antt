@@ -12,12 +12,14 @@ use lib.Signed.{_<ℤ_}
 use Rattle.lists.specs.ListsLaw.{All-at, any-at}
 use Rattle.whole.specs.Diff.{onℤ, negℤ-ud}
 use Rattle.meaning.specs.declared.Tri.{Tri}
-use Rattle.meaning.specs.Mesh.{Mesh, Arrow, tri, arrows, sameArrow, at, turn, twiceArea}
+use Rattle.meaning.specs.Mesh.{Mesh, Arrow, arrows, sameArrow, at, turn, twiceArea}
 use Rattle.meaning.specs.Lawful.{Named, Lawful}
 use Rattle.meaning.specs.Proper.{area, shape}
 use Rattle.laws.specs.Area.{turn-cycle, turn-mirror}
 use Rattle.laws.specs.Edges.{eq-arrow, here, here-self, here-no}
+use Rattle.laws.specs.Faults.{holds-own}
 use Rattle.laws.specs.Pairs.{arrows-once, holder-one}
+use Rattle.laws.specs.Weights.{turned}
 use Rattle.proper.specs.OnLine.{len, len-above}
 use Rattle.proper.specs.Sums.{Sum, Mix, mix, level, two, SameSum, rotated, rotated-same, without-third}
 
@@ -34,6 +36,7 @@ same-weight s u e j = let f : pos (weightOf s j) ≡ pos (weightOf u j) = e (pea
 
 -- ---- corners
 
+-- node k is a corner of row t
 pub data IsCorner (k : ℕ) (t : Tri) : Type 0 where
   is-p : k ≡ t .p → IsCorner k t
   is-q : k ≡ t .q → IsCorner k t
@@ -107,7 +110,7 @@ module _ (m : Mesh) (law : Lawful m) {t : Tri} (i : List·Memᴰ t (m .tris)) wh
         to-below = N .r-below;
         apart = N .q≢r;
         long = len-above (at m (t .q)) (at m (t .r)) (at m (t .p)) above-qrp;
-        sum = λ α β. (0, α, β, λ φ. rotated-same (mix t 0 α β) φ ∙ without-third (tri (t .q) (t .r) (t .p)) α β 0 refl φ);
+        sum = λ α β. (0, α, β, λ φ. rotated-same (mix t 0 α β) φ ∙ without-third (turned t) α β 0 refl φ);
       }
 
   edge-rp : RowEdge m t (t .r) (t .p)
@@ -118,7 +121,7 @@ module _ (m : Mesh) (law : Lawful m) {t : Tri} (i : List·Memᴰ t (m .tris)) wh
         to-below = N .p-below;
         apart = N .r≢p;
         long = len-above (at m (t .r)) (at m (t .p)) (at m (t .q)) above-rpq;
-        sum = λ α β. (β, 0, α, λ φ. rotated-same (mix t β 0 α) φ ∙ rotated-same (rotated (mix t β 0 α)) φ ∙ without-third (tri (t .r) (t .p) (t .q)) α β 0 refl φ);
+        sum = λ α β. (β, 0, α, λ φ. rotated-same (mix t β 0 α) φ ∙ rotated-same (rotated (mix t β 0 α)) φ ∙ without-third (turned (turned t)) α β 0 refl φ);
       }
 
   pub row-edge : {e : Arrow} → List·Memᴰ e (arrows t) → RowEdge m t (e .from) (e .to)
@@ -131,7 +134,7 @@ module _ (m : Mesh) (law : Lawful m) {t : Tri} (i : List·Memᴰ t (m .tris)) wh
 module _ (m : Mesh) (law : Lawful m) {t u : Tri} (i : List·Memᴰ t (m .tris)) (j : List·Memᴰ u (m .tris)) where
   -- both hold one arrow
   same-arrow : {d e : Arrow} → List·Memᴰ d (arrows t) → List·Memᴰ e (arrows u) → d .from ≡ e .from → d .to ≡ e .to → t ≡ u
-  same-arrow {d} {e} k l p q = holder-one d (arrows-once m law) i (any-at (sameArrow d) (eq-arrow d (d .from) (d .to) refl refl) k) j (any-at (sameArrow d) (eq-arrow d (e .from) (e .to) p q) l)
+  same-arrow {d} {e} k l p q = holder-one d (arrows-once m law) i (holds-own d k) j (any-at (sameArrow d) (eq-arrow d (e .from) (e .to) p q) l)
 
   -- the same corners the other way round make the opposite area
   opposed : (a b c : ℕ) → turn (at m (t .p)) (at m (t .q)) (at m (t .r)) ≡ turn (at m a) (at m c) (at m b) → turn (at m (u .p)) (at m (u .q)) (at m (u .r)) ≡ turn (at m a) (at m b) (at m c) → ⊥

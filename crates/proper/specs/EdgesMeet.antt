@@ -5,24 +5,25 @@ use mathlib.Core.Path.{_≡_, refl, sym, ap, _∙_}
 use Prim.Native.Nat.{ℕ, zero, suc, _+_, _<_}
 use native.Mathlib.Omega.{arith}
 use native.Mathlib.Decide.{decLt}
-use lib.IntN.{ℤ, pos, _+ℤ_, _-ℤ_, _*ℤ_}
+use lib.IntN.{ℤ, pos, _+ℤ_, _-ℤ_, _*ℤ_, *ℤ-comm}
 use lib.ListN.{length}
 use lib.Signed.{_≤ℤ_, _<ℤ_}
 use Rattle.whole.specs.Diff.{onℤ, sumℤ, subℤ}
 use Rattle.whole.specs.Ring.{K, _:+_, _:-_, _:*_, ring2, ring3, ring4}
-use Rattle.whole.specs.Order.{lt-or-le, positive-times, times-le, times-cancel}
+use Rattle.whole.specs.Order.{lt-or-le, positive-times, nonpos-times, times-le, times-cancel}
 use Rattle.meaning.specs.declared.Place.{Place}
 use Rattle.meaning.specs.Mesh.{Mesh, at}
 use Rattle.meaning.specs.Proper.{StrictlyInside}
 use Rattle.laws.specs.Area.{turn-back}
-use Rattle.proper.specs.OnLine.{along, len, zero-of-mul, inside-of-along, between-inside, at-start, along-swap, len-swap, between-others}
+use Rattle.proper.specs.Between.{between-inside}
+use Rattle.proper.specs.OnLine.{along, len, zero-of-mul, inside-of-along, at-start, along-swap, len-swap, between-others}
 use Rattle.proper.specs.Sums.{one, two, by-x, by-y, by-one, SamePoint, SameSum, two-linear, affine-same, turnTo, alongTo, along-affine}
 
 -- no two nodes at one place
 abbrev pub PlacesDiffer : Mesh → Type 0
 PlacesDiffer m = (j k : ℕ) → j < k → k < length (m .nodes) → at m j ≢ at m k
 
-pub one-node : (m : Mesh) → PlacesDiffer m → (j k : ℕ) → j < length (m .nodes) → k < length (m .nodes) → at m j ≡ at m k → j ≡ k
+one-node : (m : Mesh) → PlacesDiffer m → (j k : ℕ) → j < length (m .nodes) → k < length (m .nodes) → at m j ≡ at m k → j ≡ k
 one-node m differ j k hj hk e = go (decLt j k) (decLt k j)
   where
     go : Dec (j < k) → Dec (k < j) → j ≡ k
@@ -43,7 +44,7 @@ inside-swap {A} {B} {P} h = record {
   between = rw (ring4 (λ a b c d. (a :* b :+ c :* d, b :* a :+ d :* c)) (B .x -ℤ P .x) (A .x -ℤ P .x) (B .y -ℤ P .y) (A .y -ℤ P .y) tt) (h .between);
 }
 
-pub side-swap : {m : Mesh} {x y : ℕ} → Side m x y → Side m y x
+side-swap : {m : Mesh} {x y : ℕ} → Side m x y → Side m y x
 side-swap {m} {x} {y} E = record {
   from-below = E .to-below;
   to-below = E .from-below;
@@ -155,7 +156,7 @@ module _ (m : Mesh) (differ : PlacesDiffer m) (x y : ℕ) (E : Side m x y) (α �
         let far : alongTo m x y y′ ≡ len (at m x) (at m y) = ap (alongTo m x y) same-y in
         let e = along-sum x′ y′ α′ β′ same ∙ two-last (pos α′) (pos β′) (alongTo m x y x′) (alongTo m x y y′) at-low ∙ ap (λ z. pos β′ *ℤ z) far in
         let f = times-cancel (len (at m x) (at m y)) (pos β) (pos β′) (E .long)
-        (ring2 (λ l b. (l :* b, b :* l)) (len (at m x) (at m y)) (pos β) tt ∙ e ∙ ring2 (λ l b. (b :* l, l :* b)) (len (at m x) (at m y)) (pos β′) tt) in
+        (*ℤ-comm (len (at m x) (at m y)) (pos β) ∙ e ∙ *ℤ-comm (pos β′) (len (at m x) (at m y))) in
         omega (arith, onℤ)
 
     ordered : SameSum (two x y α β) (two x′ y′ α′ β′)
@@ -180,8 +181,8 @@ module _ (m : Mesh) (differ : PlacesDiffer m) (x y : ℕ) (E : Side m x y) (α �
         arith,
         onℤ,
         positive-times (pos β) l (omega (arith, onℤ)) g,
-        times-le (pos α′) ξ (pos 0) (omega (arith, onℤ)) h,
-        times-le (pos β′) η (pos 0) (omega (arith, onℤ)) i,
+        nonpos-times (pos α′) ξ (omega (arith, onℤ)) h,
+        nonpos-times (pos β′) η (omega (arith, onℤ)) i,
         sumℤ (pos α′ *ℤ ξ) (pos β′ *ℤ η),
       )
 

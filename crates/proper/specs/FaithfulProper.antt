@@ -21,7 +21,7 @@ use Rattle.meaning.specs.Proper.{Shape, Point, left, area, Inside, Share, Stric
 use Rattle.laws.specs.Edges.{here, here-self, here-no}
 use Rattle.laws.specs.Pairs.{same-row}
 use Rattle.laws.specs.RowMean.{CornerOf, is-p, is-q, is-r, corner-of}
-use Rattle.proper.specs.OnLine.{Between, inside-between, as-nat}
+use Rattle.proper.specs.Between.{Between, inside-between, as-nat}
 use Rattle.proper.specs.Sums.{Sum, mix, level, one, two, by-x, by-y, by-one, SamePoint, SameSum, Faithful}
 use Rattle.proper.specs.Corners.{SumOf, above-pqr, row-edge, peak, full-row}
 

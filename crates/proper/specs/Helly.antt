@@ -103,7 +103,7 @@ module _ (s t u v : Point) (hs : pos 0 <ℤ s .W) (ht : pos 0 <ℤ t .W) (hu : p
     without-v : C s → C t → C u → C ups
     without-v i j k = pick (g .d) (λ e. c .closed _ _ _ _ s t u v ups-some (inr i) (inr j) (inr k) (inl e)) (λ e. c .closed _ _ _ _ s t u v dns-some (inr i) (inr j) (inr k) (inl e))
 
-pub helly : (C D E F : Point → Type 0) → Convex C → Convex D → Convex E → Convex F
+helly : (C D E F : Point → Type 0) → Convex C → Convex D → Convex E → Convex F
     → Meet (λ s. D s × E s × F s) → Meet (λ s. C s × E s × F s) → Meet (λ s. C s × D s × F s) → Meet (λ s. C s × D s × E s)
     → Meet (λ s. C s × D s × E s × F s)
 helly C D E F c d e f s t u v =

@@ -8,7 +8,7 @@ use lib.IntN.{ℤ, pos, _+ℤ_, _*ℤ_}
 use lib.Signed.{_≤ℤ_, _<ℤ_}
 use Rattle.whole.specs.Diff.{up, dn, onℤ, sumℤ, mulℤ}
 use Rattle.whole.specs.Ring.{Expr, X, K, _:+_, _:-_, _:*_, solve, ring6}
-use Rattle.whole.specs.Order.{lt-or-le, lt-not-le, nonneg-times, positive-times, times-le}
+use Rattle.whole.specs.Order.{lt-or-le, lt-not-le, nonneg-times, nonpos-times, positive-times, times-le}
 use Rattle.meaning.specs.declared.Place.{Place}
 use Rattle.meaning.specs.Mesh.{turn}
 use Rattle.meaning.specs.Proper.{Shape, Point, left, area, Inside, Share}
@@ -149,10 +149,15 @@ weights f t s = solve (f .a ∷ f .b ∷ f .c ∷ t .p .x ∷ t .p .y ∷ t .q .
 
 sum3-le : (u v w x y z : ℤ) → pos 0 <ℤ u → pos 0 <ℤ v → pos 0 <ℤ w → x ≤ℤ pos 0 → y ≤ℤ pos 0 → z ≤ℤ pos 0 → (u *ℤ x +ℤ v *ℤ y +ℤ w *ℤ z) ≤ℤ pos 0
 sum3-le u v w x y z h i j k l m =
-    omega (arith, onℤ, down u x h k, down v y i l, down w z j m, sumℤ (u *ℤ x) (v *ℤ y), sumℤ (u *ℤ x +ℤ v *ℤ y) (w *ℤ z))
-  where
-    down : (u x : ℤ) → pos 0 <ℤ u → x ≤ℤ pos 0 → (u *ℤ x) ≤ℤ pos 0
-    down u x h k = omega (arith, onℤ, mulℤ u (pos 0), times-le u x (pos 0) (omega (arith, onℤ)) k)
+    omega (
+      arith,
+      onℤ,
+      nonpos-times u x (omega (arith, onℤ)) k,
+      nonpos-times v y (omega (arith, onℤ)) l,
+      nonpos-times w z (omega (arith, onℤ)) m,
+      sumℤ (u *ℤ x) (v *ℤ y),
+      sumℤ (u *ℤ x +ℤ v *ℤ y) (w *ℤ z),
+    )
 
 none-left-out : (a b : Place) (t : Shape) (s : Point) → pos 0 <ℤ area t → NoneLeft a b t → Inside t s → pos 0 <ℤ left a b s → ⊥
 none-left-out a b t s h o i l =

@@ -27,7 +27,8 @@ use Rattle.proper.specs.Sums.{Sum, Mix, mix, level, SamePoint, SameSum, 
 use Rattle.proper.specs.ProperFaithful.{proper-faithful}
 use Rattle.proper.specs.Corners.{same-weight, weight-p, weight-q, weight-r, full-row}
 use Rattle.proper.specs.FaithfulProper.{faithful-proper}
-use Rattle.proper.specs.Fine.{onto, coarse, Mean, coarse-level, Lacks, no-p, no-q, no-r, some-edge, same-edges}
+use Rattle.proper.specs.Fine.{onto, coarse, Mean, coarse-level}
+use Rattle.proper.specs.FineEdges.{Lacks, no-p, no-q, no-r, some-edge, same-edges}
 use Rattle.proper.specs.Dissects.{Back, ifSplit, Piece, Dissects}
 
 -- ---- two rows that are not one: a sum of both lacks a corner

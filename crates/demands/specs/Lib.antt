@@ -5,4 +5,5 @@ pub mod Demand2Calls
 pub mod Demand3Calls
 pub mod AskAgain
 pub mod ProperCalls
+pub mod PointCalls
 pub mod Demand3CallsExample

@@ -141,8 +141,10 @@ module _ (m : Mesh) (differ : PlacesDiffer m) (x y : ℕ) (E : Side m x y) (α �
         swap = along-swap (at m x) (at m y) (at m y′)
 
         go : (along (at m y) (at m x) (at m y′) <ℤ pos 0) ⊎ (pos 0 ≤ℤ along (at m y) (at m x) (at m y′)) → along (at m y) (at m x) (at m y′) ≡ pos 0
-        go (inl l) = absurd (E′ .clear y (E .to-below) (inside-swap (between-others (at m y) (at m x) (at m y′) (at m x′) (turn-back (at m x) (at m y) (at m y′) flat-y) (turn-back (at m x) (at m y) (at m x′) flat-x)
-            (side-swap E .long) l (rw back-x (E .long)))))
+        go (inl l) =
+            let flat-y′ = turn-back (at m x) (at m y) (at m y′) flat-y in
+            let flat-x′ = turn-back (at m x) (at m y) (at m x′) flat-x in
+            absurd (E′ .clear y (E .to-below) (inside-swap (between-others (at m y) (at m x) (at m y′) (at m x′) flat-y′ flat-x′ (side-swap E .long) l (rw back-x (E .long)))))
         go (inr l) = omega (arith, onℤ, swap, high, subℤ (len (at m x) (at m y)) (alongTo m x y y′))
 
     same-x : x′ ≡ x
@@ -186,9 +188,12 @@ module _ (m : Mesh) (differ : PlacesDiffer m) (x y : ℕ) (E : Side m x y) (α �
         sumℤ (pos α′ *ℤ ξ) (pos β′ *ℤ η),
       )
 
+      share : (p q : ℕ) (l : ℤ) → pos p *ℤ l +ℤ pos q *ℤ l ≡ pos (p + q) *ℤ l
+      share p q l = ring3 (λ a b l. (a :* l :+ b :* l, (a :+ b) :* l)) (pos p) (pos q) l tt
+
       too-high : (l ξ η : ℤ) → pos 0 <ℤ l → pos β *ℤ l ≡ pos α′ *ℤ ξ +ℤ pos β′ *ℤ η → α + β ≡ α′ + β′ → l ≤ℤ ξ → l ≤ℤ η → ⊥
       too-high l ξ η g e w h i =
-          let s : (pos α *ℤ l) +ℤ (pos β *ℤ l) ≡ pos α′ *ℤ l +ℤ pos β′ *ℤ l = ring3 (λ a b l. (a :* l :+ b :* l, (a :+ b) :* l)) (pos α) (pos β) l tt ∙ ap (λ (n : ℕ). pos n *ℤ l) w ∙ ring3 (λ a b l. ((a :+ b) :* l, a :* l :+ b :* l)) (pos α′) (pos β′) l tt in
+          let s = share α β l ∙ ap (λ (n : ℕ). pos n *ℤ l) w ∙ sym (share α′ β′ l) in
           omega (
             arith,
             onℤ,

@@ -19,9 +19,9 @@ part l x = ap (λ (z : ℤ). z *ℤ x) (own l) ∙ ring3 (λ a b c. ((a :- b) :*
     own : (l : ℤ) → l ≡ pos (up l) -ℤ pos (dn l)
     own l = omega (arith, onℤ, subℤ (pos (up l)) (pos (dn l)))
 
-apart8 : (a b c d a' b' c' d' : ℤ) → ((a -ℤ a') +ℤ (b -ℤ b')) +ℤ ((c -ℤ c') +ℤ (d -ℤ d')) ≡ pos 0 → (a +ℤ b) +ℤ (c +ℤ d) ≡ (a' +ℤ b') +ℤ (c' +ℤ d')
-apart8 a b c d a' b' c' d' e = combine₁ (pos 1) e
-    (ring8 (λ a b c d a' b' c' d'. ((a :+ b) :+ (c :+ d) :- ((a' :+ b') :+ (c' :+ d')), K (pos 1) :* (((a :- a') :+ (b :- b')) :+ ((c :- c') :+ (d :- d')) :- K (pos 0)))) a b c d a' b' c' d' tt)
+apart8 : (a b c d a′ b′ c′ d′ : ℤ) → ((a -ℤ a′) +ℤ (b -ℤ b′)) +ℤ ((c -ℤ c′) +ℤ (d -ℤ d′)) ≡ pos 0 → (a +ℤ b) +ℤ (c +ℤ d) ≡ (a′ +ℤ b′) +ℤ (c′ +ℤ d′)
+apart8 a b c d a′ b′ c′ d′ e = combine₁ (pos 1) e
+    (ring8 (λ a b c d a′ b′ c′ d′. ((a :+ b) :+ (c :+ d) :- ((a′ :+ b′) :+ (c′ :+ d′)), K (pos 1) :* (((a :- a′) :+ (b :- b′)) :+ ((c :- c′) :+ (d :- d′)) :- K (pos 0)))) a b c d a′ b′ c′ d′ tt)
 
 balance : (a b c d x y z w : ℤ) → dot a b c d x y z w ≡ pos 0
     → dot (pos (up a)) (pos (up b)) (pos (up c)) (pos (up d)) x y z w ≡ dot (pos (dn a)) (pos (dn b)) (pos (dn c)) (pos (dn d)) x y z w
@@ -39,13 +39,13 @@ none m n k l x y z w e =
 
 -- two sums of one weight: the first has a weight above 0
 module _ (x y z w : ℤ) (h : pos 0 <ℤ x) (i : pos 0 <ℤ y) (j : pos 0 <ℤ z) (k : pos 0 <ℤ w) where
-  weighs : (a b c d a' b' c' d' n : ℕ) → a + b + c + d ≡ n → dot (pos a) (pos b) (pos c) (pos d) x y z w ≡ dot (pos a') (pos b') (pos c') (pos d') x y z w
-      → 0 < (a + b + c + d) + (a' + b' + c' + d') → 0 < n
-  weighs a b c d a' b' c' d' zero e f g =
-      let le = weigh4 a' b' c' d' x y z w (inr h) (inr i) (inr j) (inr k) in
-      let le' : pos (a' + b' + c' + d') ≤ℤ pos 0 = subst (λ (v : ℤ). pos (a' + b' + c' + d') ≤ℤ v) (sym f ∙ none a b c d x y z w e) le in
+  weighs : (a b c d a′ b′ c′ d′ n : ℕ) → a + b + c + d ≡ n → dot (pos a) (pos b) (pos c) (pos d) x y z w ≡ dot (pos a′) (pos b′) (pos c′) (pos d′) x y z w
+      → 0 < (a + b + c + d) + (a′ + b′ + c′ + d′) → 0 < n
+  weighs a b c d a′ b′ c′ d′ zero e f g =
+      let le = weigh4 a′ b′ c′ d′ x y z w (inr h) (inr i) (inr j) (inr k) in
+      let le′ : pos (a′ + b′ + c′ + d′) ≤ℤ pos 0 = subst (λ (v : ℤ). pos (a′ + b′ + c′ + d′) ≤ℤ v) (sym f ∙ none a b c d x y z w e) le in
       omega (arith, onℤ)
-  weighs a b c d a' b' c' d' (suc n) e f g = omega arith
+  weighs a b c d a′ b′ c′ d′ (suc n) e f g = omega arith
 
 -- ---- a point with W above 0 in C
 pub record Meet (C : Point → Type 0) : Type 0 where

@@ -29,7 +29,7 @@ use Rattle.proper.specs.Corners.{same-weight, weight-p, weight-q, weight
 use Rattle.proper.specs.FaithfulProper.{faithful-proper}
 use Rattle.proper.specs.Fine.{onto, coarse, Mean, coarse-level}
 use Rattle.proper.specs.FineEdges.{Lacks, no-p, no-q, no-r, some-edge, same-edges}
-use Rattle.proper.specs.Dissects.{Back, ifSplit, Piece, Dissects}
+use Rattle.proper.specs.Dissects.{ifSplit, Piece, Dissects}
 
 -- ---- two rows that are not one: a sum of both lacks a corner
 
@@ -49,10 +49,6 @@ mean-of f h M x y none g = tt
 mean-of f h M x y (some k) g = h (at M k) (at M x) (at M y) g
 
 -- ---- the pieces of any row, whether or not it is cut
-
--- F is a sum of a piece of row t, s being the split edges in order
-abbrev pub PieceOf : Back → ℕ → List Edge → Tri → Sum → Type 0
-PieceOf B n s t F = Piece B t (numberOf n s (edge (t .q) (t .r))) (numberOf n s (edge (t .p) (t .q))) (numberOf n s (edge (t .r) (t .p))) F
 
 module _ {c : Cutting} (laws : CutLaws c) (D : Dissects c) where
   -- a row that is not cut
@@ -120,8 +116,9 @@ module _ {c : Cutting} (laws : CutLaws c) (D : Dissects c) where
     after : Mesh
     after = splitAt c m S
 
+    -- F is a sum of a piece of row t
     abbrev PieceIn : Tri → Sum → Type 0
-    PieceIn t F = PieceOf (D .back) (length (m .nodes)) S t F
+    PieceIn t F = Piece (D .back) t (num (t .q) (t .r)) (num (t .p) (t .q)) (num (t .r) (t .p)) F
 
     -- a new row is of the cut of an old one
     sources : All (λ k. (t : Tri) × List·Memᴰ t (m .tris) × List·Memᴰ k (parts (cutOf c (length (m .nodes)) S t))) (after .tris)
@@ -184,7 +181,7 @@ module _ {c : Cutting} (laws : CutLaws c) (D : Dissects c) where
             one-sum (a .1) (b .1) (piece-here (a .1) (a .2) (s .a) (s .b) (s .c)) (piece-here (b .1) (b .2) (u .a) (u .b) (u .c)) same);
       }
 
-    pub split-faithful : Faithful m → Faithful (split c m start)
+    split-faithful : Faithful m → Faithful (split c m start)
     unfolding split after S
     split-faithful F = after-faithful F
 

@@ -221,7 +221,7 @@ module _ (m : Mesh) (zs : List ℕ) (law : Lawful m) (ok : Takeable m zs) where
         below = point-from m (without m zs) (level (D .child)) (level (E .child)) (level (mix (renamed zs t) α β γ)) (level (mix (renamed zs u) α′ β′ γ′))
             (λ f h e. sym (same-as-child D f h) ∙ places-kept f r α β γ ∙ e ∙ sym (places-kept f s α′ β′ γ′) ∙ same-as-child E f h) same
 
-    pub without-faithful : Faithful (without m zs)
+    without-faithful : Faithful (without m zs)
     without-faithful = record {
       one-sum = λ s u i j same φ.
           (let a = All-at rows-after i in

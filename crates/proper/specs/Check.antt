@@ -99,8 +99,7 @@ module _ (m : Mesh) where
   flawless k low o =
       let h = past k o in
       let l : BaseLines k ↔ (NoneCrowded × OverlapLines k) = other-line k (λ e. absurd (omega arith)) in
-      let r : OverlapLines k ↔ (NoneOverlaps × LabelLines k) = other-line k (λ e. absurd (omega arith)) in
-      (
+      let r : OverlapLines k ↔ (NoneOverlaps × LabelLines k) = other-line k (λ e. absurd (omega arith)) in (
         (λ e. let b = l .0 (h .0 e .1) in let d = r .0 (b .1) in (record { lawful = h .0 e .0; proper = none-proper m (b .0) (d .0) }, d .1)),
         λ c. h .1 (c .0 .lawful, l .1 (not-crowded m (c .0 .proper), r .1 (not-overlapping m (c .0 .proper), c .1))),
       )

@@ -1,1 +1,4 @@
 pub mod OnLine
+pub mod Touch
+pub mod Severity
+pub mod Gravest

@@ -2,3 +2,4 @@ pub mod OnLine
 pub mod Touch
 pub mod Severity
 pub mod Gravest
+pub mod Boxes

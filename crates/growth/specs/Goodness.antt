@@ -19,13 +19,13 @@ use Rattle.meaning.specs.Good.{Brothers, brothers, rowsOf, span, good}
 use Rattle.meaning.specs.Coarsen.{goodNodes}
 use Rattle.laws.specs.Area.{middle-edge}
 use Rattle.laws.specs.Edges.{edge-comm, sameTri-eq, sameTri-refl}
-use Rattle.laws.specs.Pairs.{Matched, none-left, pair-first, but}
+use Rattle.laws.specs.Pairs.{Matched, none-left, pair-first, but, same-row}
 use Rattle.laws.specs.Star.{Star, star-from, span-is, good-star, star-good}
 use Rattle.growth.specs.Labels.Names.{mid}
 use Rattle.growth.specs.Labels.Corners.{Corners, Holds, is-p}
 use Rattle.growth.specs.Labels.Named.{NewestOf}
 use Rattle.growth.specs.Labels.Around.{RowPair, Around, two-rows, four-rows, around, no-edge, one-node, some-newest-node}
-use Rattle.growth.specs.Rows.{three, rows, node-holds, holds-node, same-of-edge, edge-held, arrow-in-one-row, same-row}
+use Rattle.growth.specs.Rows.{three, rows, node-holds, holds-node, same-of-edge, edge-held, arrow-in-one-row}
 use Rattle.growth.specs.GrownFrom.{GrownFrom}
 
 -- ---- the members that pass, by number

@@ -116,11 +116,6 @@ module _ (m : Mesh) (law : Lawful m) where
       go (no _) (yes h) = absurd (twice k j h lj v u)
       go (no h) (no g) = omega arith
 
-  -- No row stands twice.
-  pub same-row : (j k : ℕ) → j < length (m .tris) → k < length (m .tris) → rowOf (m .tris) j ≡ rowOf (m .tris) k → j ≡ k
-  same-row j k lj lk e =
-      arrow-in-one-row j k lj lk (rowOf (m .tris) j .p) (rowOf (m .tris) j .q) (arrow-pq refl refl) (arrow-pq (ap (λ (t : Tri). t .p) e) (ap (λ (t : Tri). t .q) e))
-
   pub corners-named : (j : ℕ) → j < length (m .tris) → Named (length (m .nodes)) (rowOf (m .tris) j)
   corners-named j l = All-getD (law .named) j (tri 0 0 0) l
 

@@ -12,9 +12,9 @@ use Rattle.meaning.specs.declared.Tri.{Tri}
 use Rattle.meaning.specs.Mesh.{Mesh, Edge, tri, edge, base}
 use Rattle.meaning.specs.Lawful.{Lawful, rowOf}
 use Rattle.meaning.specs.Split.{Cut, Cutting, bisected, numberOf, cutOf, splitAt}
+use Rattle.laws.specs.Pairs.{same-row}
 use Rattle.growth.specs.Labels.Groups.{total, owner-at, joined-length, joined-at, sizes}
 use Rattle.growth.specs.Labels.GrownRefined.{getD-default}
-use Rattle.growth.specs.Rows.{same-row}
 
 -- ---- any cut
 

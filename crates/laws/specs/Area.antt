@@ -1,6 +1,6 @@
 -- Laws of the twice-area and of midpoints. Assumes nothing.
 use mathlib.Core.Bool.{Bool, true, false}
-use mathlib.Core.Path.{_≡_, refl, subst₂, _∙_}
+use mathlib.Core.Path.{_≡_, refl, ap, subst₂, _∙_}
 use Prim.Native.Nat.{ℕ, min, max, _+_, _≤_}
 use native.Mathlib.Omega.{arith}
 use lib.Dec.{leb}
@@ -9,7 +9,7 @@ use lib.Signed.{_<ℤ_}
 use borrow.Author.Tests.{leb-true, leb-false}
 use Rattle.whole.specs.Diff.{onℤ, sumℤ}
 use Rattle.whole.specs.Bound.{abs-add}
-use Rattle.whole.specs.Ring.{Expr, _:+_, _:-_, _:*_, neg, ring6, ring8, combine₂}
+use Rattle.whole.specs.Ring.{Expr, K, _:+_, _:-_, _:*_, neg, ring4, ring6, ring8, combine₂}
 use Rattle.meaning.specs.declared.Place.{Place}
 use Rattle.meaning.specs.Mesh.{Mesh, at, turn}
 use Rattle.meaning.specs.Good.{Middle}
@@ -23,6 +23,17 @@ turn-cycle P Q R = ring6 (λ a b c d e f. (Turn a b c d e f, Turn c d e f a b)) 
 
 pub turn-mirror : (P Q R : Place) → turn P R Q ≡ negℤ (turn P Q R)
 turn-mirror P Q R = ring6 (λ a b c d e f. (Turn a b e f c d, neg (Turn a b c d e f))) (P .x) (P .y) (Q .x) (Q .y) (R .x) (R .y) tt
+
+-- a place makes no area with a side that it ends
+pub turn-from : (A B : Place) → turn A B A ≡ pos 0
+turn-from A B = ring4 (λ a b c d. (Turn a b c d a b, K (pos 0))) (A .x) (A .y) (B .x) (B .y) tt
+
+pub turn-to : (A B : Place) → turn A B B ≡ pos 0
+turn-to A B = ring4 (λ a b c d. (Turn a b c d c d, K (pos 0))) (A .x) (A .y) (B .x) (B .y) tt
+
+-- on the line of A and B, and on that of B and A
+pub turn-back : (A B P : Place) → turn A B P ≡ pos 0 → turn B A P ≡ pos 0
+turn-back A B P e = turn-cycle B A P ∙ turn-mirror A B P ∙ ap negℤ e
 
 -- each child of (P, Q, R), bisected at M, has half the father's
 pub left-half : (P Q R M : Place) → Middle M Q R → turn M P Q +ℤ turn M P Q ≡ turn P Q R

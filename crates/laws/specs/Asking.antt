@@ -14,7 +14,6 @@ use Rattle.lists.specs.declared.Found.the-variants.{At, Nothing}
 use Rattle.lists.specs.Lists.{isFound}
 use Rattle.lists.specs.ListsLaw.{clash, and-both, and-left, and-right, All-getD}
 use Rattle.lists.specs.Search.{lowest}
-use Rattle.lists.specs.SearchLaw.{lowest-nothing}
 use Rattle.lists.specs.ByNumberLaw.{where-lowest}
 use Rattle.lists.specs.MembersLaw.{mem-at, count-some}
 use Rattle.whole.specs.Tests.{leZ-true, le-leZ}
@@ -27,8 +26,8 @@ use Rattle.meaning.specs.Lawful.{InBounds, Named, Lawful, Lowest, First, Names,
 use Rattle.meaning.specs.Rounding.{Floor}
 use Rattle.meaning.specs.Asking.{HoldsPoint, holdsPoint, weightP, weightQ, weightR, weighted, meanIn, RowHolds, Covered, rowHolding, dxOf, dyOf, correctionIn, correctionBy, correctionAt}
 use Rattle.meaning.specs.Calls.{culpritOf, askNo, toldAs, told, asks}
-use Rattle.laws.specs.Faults.{first-at}
-use Rattle.laws.specs.Culprit.{names-one, first-one, culprit-names, ask-due}
+use Rattle.laws.specs.Culprit.{names-one, culprit-names, ask-due}
+use Rattle.laws.specs.Searched.{lowest-exact, found-exact}
 use Rattle.laws.specs.Late.{LateSays, late-exact, late-done, late-own, late-lowest}
 use Rattle.laws.specs.RowMean.{CornerOf, corner-of, corner-holds, mean-same, mean-floor, mean-only, mean-from-least, mean-to-greatest, mean-corner, side-same}
 
@@ -61,35 +60,20 @@ module _ (m : Mesh) (P : Place) where
   unfolding rowHolding rowTest
   row-search = where-lowest (holdsPoint m P) (m .tris) (tri 0 0 0)
 
-  no-row : (j : ℕ) → rowTest j ≡ false → ¬ RowHolds m P j
+  test-exact : (j : ℕ) → j < length (m .tris) → (rowTest j ≡ true) ↔ RowHolds m P j
   unfolding rowTest
-  no-row j e h = clash (sym (holds-exact m P (rowOf (m .tris) j) .1 h) ∙ e)
-
-  row-first : (i : ℕ) → rowHolding m P ≡ At i → LowestHolding i
-  unfolding rowTest
-  row-first i e = first-at rowTest (length (m .tris)) (λ j l. holds-exact m P (rowOf (m .tris) j) .0) (λ j l. no-row j) i (sym row-search ∙ e)
-
-  row-none : rowHolding m P ≡ Nothing → (j : ℕ) → j < length (m .tris) → ¬ RowHolds m P j
-  row-none e j l = no-row j (lowest-nothing rowTest (length (m .tris)) j (sym row-search ∙ e) l)
+  test-exact j l = holds-exact m P (rowOf (m .tris) j)
 
   -- THE ROW USED IS THE LOWEST THAT HOLDS THE POINT.
   pub row-exact : (i : ℕ) → (rowHolding m P ≡ At i) ↔ LowestHolding i
-  row-exact i = (row-first i, λ f. go f (rowHolding m P) refl)
-    where
-      go : LowestHolding i → (o : Found) → rowHolding m P ≡ o → rowHolding m P ≡ At i
-      go f (At j) e = e ∙ ap At (first-one (λ k x y. y x) (row-first j e) f)
-      go f Nothing e = absurd (row-none e i (f .below) (f .at-fault))
+  row-exact i = subst⁻¹ (λ o. (o ≡ At i) ↔ LowestHolding i) row-search (lowest-exact rowTest (length (m .tris)) test-exact i)
 
   pub covered-exact : (isFound (rowHolding m P) ≡ true) ↔ Covered m P
-  covered-exact = (λ h. there (rowHolding m P) refl h, λ c. back c (rowHolding m P) refl)
-    where
-      there : (o : Found) → rowHolding m P ≡ o → isFound o ≡ true → Covered m P
-      there (At i) e h = let f = row-first i e in record { row = i; row-below = f .below; row-holds = f .at-fault }
-      there Nothing e h = clash (sym h)
-
-      back : Covered m P → (o : Found) → rowHolding m P ≡ o → isFound (rowHolding m P) ≡ true
-      back c (At i) e = rw e
-      back c Nothing e = absurd (row-none e (c .row) (c .row-below) (c .row-holds))
+  covered-exact =
+      let h = subst⁻¹ (λ o. (isFound o ≡ true) ↔ ((j : ℕ) × (j < length (m .tris)) × RowHolds m P j)) row-search (found-exact rowTest (length (m .tris)) test-exact) in (
+        λ e. (let r = h .0 e in record { row = r .0; row-below = r .1; row-holds = r .2 }),
+        λ c. h .1 (c .row, c .row-below, c .row-holds),
+      )
 
   -- ---- the number
 
@@ -145,7 +129,7 @@ module _ (m : Mesh) (P : Place) where
     where
       go : Lawful m → (o : Found) → rowHolding m P ≡ o → isFound (rowHolding m P) ≡ true → (i : ℕ) × MeanOf i (correctionAt m P)
       go law (At i) q h =
-          let f = row-first i q in
+          let f = row-exact i .0 q in
           let a = above law i (f .below) in
           (i, subst⁻¹ (MeanOf i) (by-row i q) (record { lowest-holding = f; area-above = a; dx-down = mean-floor (dxOf m) m (rowOf (m .tris) i) a P; dy-down = mean-floor (dyOf m) m (rowOf (m .tris) i) a P }))
       go law Nothing q h = clash (sym h ∙ ap isFound q)

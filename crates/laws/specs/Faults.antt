@@ -155,7 +155,7 @@ once-hit n (t ∷ ts) (cons p ps) h e = go (holdsArrow e t) refl (once-hit n ts 
     go false q below = omega (arith, not-held e t q)
 
 -- a row has each of its own arrows
-holds-own : (e : Arrow) {t : Tri} → List·Memᴰ e (arrows t) → holdsArrow e t ≡ true
+pub holds-own : (e : Arrow) {t : Tri} → List·Memᴰ e (arrows t) → holdsArrow e t ≡ true
 holds-own e i = any-at (sameArrow e) (eq-arrow e (e .from) (e .to) refl refl) i
 
 -- a row with an arrow of a lower row: that arrow occurs twice
@@ -164,9 +164,16 @@ take-tally f [] i h = absurd (omega arith)
 take-tally f (t ∷ ts) zero h = omega arith
 take-tally f (t ∷ ts) (suc i) h = omega (arith, take-tally f ts i (omega arith))
 
-lower-row : (ts : List Tri) (i j : ℕ) → j < i → i ≤ length ts → List·Memᴰ (rowOf ts j) (take i ts)
+-- the first i rows are the lower ones
+pub lower-row : (ts : List Tri) (i j : ℕ) → j < i → i ≤ length ts → List·Memᴰ (rowOf ts j) (take i ts)
 lower-row ts i j h l =
     subst (λ t. List·Memᴰ t (take i ts)) (getD-take i ts j (tri 0 0 0) h) (at-mem (take i ts) j (tri 0 0 0) (omega (arith, length-take-le i ts l)))
+
+pub row-lower : (ts : List Tri) (i : ℕ) {t : Tri} → List·Memᴰ t (take i ts) → i ≤ length ts → (j : ℕ) × (j < i) × (rowOf ts j ≡ t)
+row-lower ts i among l =
+    let (j, below, is) = mem-at (tri 0 0 0) among in
+    let b : j < i = omega (arith, length-take-le i ts l) in
+    (j, b, sym (getD-take i ts j (tri 0 0 0) b) ∙ is)
 
 pub repeat-twice : (ts : List Tri) (i : ℕ) → i < length ts → (r : Repeats ts i) → 2 ≤ count (sameArrow (r .edge)) (joined arrows ts)
 repeat-twice ts i h r =
@@ -189,15 +196,14 @@ repeats-exact ts i h = (
     there t =
         let (e, here, lower) = any-row (λ d. any (holdsArrow d) (take i ts)) (arrows (rowOf ts i)) t in
         let (u, among, held) = any-row (holdsArrow e) (take i ts) lower in
-        let (j, below, is) = mem-at (tri 0 0 0) among in
+        let (j, below, is) = row-lower ts i among (omega arith) in
         let (d, own, same) = any-row (sameArrow e) (arrows u) held in
-        let b : j < i = omega (arith, length-take-le i ts (omega arith)) in
         record {
           edge = e;
           other = j;
-          other-lower = b;
+          other-lower = below;
           here = here;
-          there = subst (λ v. List·Memᴰ e (arrows v)) (sym is ∙ getD-take i ts j (tri 0 0 0) b) (subst (λ x. List·Memᴰ x (arrows u)) (sym (sameArrow-eq e d same)) own);
+          there = subst (λ v. List·Memᴰ e (arrows v)) (sym is) (subst (λ x. List·Memᴰ x (arrows u)) (sym (sameArrow-eq e d same)) own);
         }
 
 -- ---- 6

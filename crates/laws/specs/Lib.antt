@@ -5,6 +5,7 @@ pub mod Lawful
 pub mod Culprit
 pub mod Numbers
 pub mod Exact
+pub mod Searched
 pub mod Late
 pub mod Check
 pub mod Closure

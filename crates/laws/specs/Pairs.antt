@@ -1,7 +1,7 @@
 -- G2's pairs: the rows round a node, paired off from the lowest on. A pairing that leaves none over is the one G2 reads off, and its
 -- pairs are these rows, each once. Assumes nothing.
 use mathlib.Core.Bool.{Bool, true, false, not, _||_}
-use mathlib.Core.List.{List, [], _∷_, List·Memᴰ}
+use mathlib.Core.List.{List, [], _∷_, List·Memᴰ, List·Memᴰ·head}
 use mathlib.Core.Option.{Option}
 use mathlib.Core.Logic.{_≢_}
 use mathlib.Core.Path.{_≡_, refl, sym, subst, ap, _∙_}
@@ -21,6 +21,7 @@ use Rattle.meaning.specs.Mesh.{Mesh, Arrow, tri, arrow, sameArrow, sameTri, hol
 use Rattle.meaning.specs.Lawful.{Named, Lawful, rowOf}
 use Rattle.meaning.specs.Good.{Brothers, brothers, addPair, pairOff}
 use Rattle.laws.specs.Edges.{sameTri-eq, sameTri-refl, arrow-eq, hits, hit-self, count-arrows, held-hit}
+use Rattle.laws.specs.Faults.{holds-own}
 
 -- no row stands twice, no arrow occurs twice
 abbrev pub RowsOnce : List Tri → Type 0
@@ -125,6 +126,13 @@ holder-place e ts o i j h k p q = go (decLt i j) (decLt j i)
     go (yes l) b = absurd (twice i j l k p q)
     go (no a) (yes l) = absurd (twice j i l h q p)
     go (no a) (no b) = omega arith
+
+-- no row stands twice
+pub same-row : (m : Mesh) → Lawful m → (i j : ℕ) → i < length (m .tris) → j < length (m .tris) → rowOf (m .tris) i ≡ rowOf (m .tris) j → i ≡ j
+same-row m law i j h k e =
+    let d = arrow (rowOf (m .tris) i .p) (rowOf (m .tris) i .q) in
+    let own = holds-own d (List·Memᴰ·head refl) in
+    holder-place d (m .tris) (arrows-once m law) i j h k own (subst (λ t. holdsArrow d t ≡ true) e own)
 
 pub holder-item : (e : Arrow) (rowBy : ℕ → Tri) (t : ℕ) → ArrowsOnce (items rowBy 0 t) → (i j : ℕ) → i < t → j < t →
     holdsArrow e (rowBy i) ≡ true → holdsArrow e (rowBy j) ≡ true → i ≡ j

@@ -10,13 +10,13 @@ use lib.IntN.{ℤ, pos, negℤ, _+ℤ_, _*ℤ_}
 use lib.Signed.{_≤ℤ_, _<ℤ_}
 use borrow.Author.Tests.{eqb-true}
 use Rattle.whole.specs.Diff.{onℤ}
-use Rattle.whole.specs.Ring.{K, _:+_, _:-_, _:*_, neg, combine₁, ring4, ring6, ring10}
+use Rattle.whole.specs.Ring.{K, _:+_, _:-_, _:*_, neg, combine₁, ring6, ring10}
 use Rattle.meaning.specs.declared.Place.{Place}
 use Rattle.meaning.specs.declared.Tri.{Tri}
 use Rattle.meaning.specs.Mesh.{Mesh, Arrow, tri, arrow, arrows, holdsNode, at, turn, twiceArea}
 use Rattle.meaning.specs.Rounding.{Floor, floor, SameFraction}
 use Rattle.meaning.specs.Asking.{HoldsPoint, weightP, weightQ, weightR, weighted, weights, meanIn}
-use Rattle.laws.specs.Area.{Turn, turn-cycle, turn-mirror}
+use Rattle.laws.specs.Area.{Turn, turn-cycle, turn-from, turn-to, turn-back}
 use Rattle.laws.specs.Floor.{floor-is, floor-only, floor-exact, floor-same, floor-greatest, floor-least}
 use Rattle.laws.specs.Weights.{weights-sum, turned, weighted-turned, area-turned, weighted-corner, mean-not-below, mean-not-above}
 
@@ -53,13 +53,6 @@ weighted-at f m t is-q = weighted-turned f m (at m (t .q)) t ∙ weighted-corner
 weighted-at f m t is-r =
     weighted-turned f m (at m (t .r)) t ∙ weighted-turned f m (at m (t .r)) (turned t) ∙ weighted-corner f m (turned (turned t))
     ∙ ap (λ d. f (t .r) *ℤ d) (sym (area-turned m t ∙ area-turned m (turned t)))
-
--- a place makes no area with a side that it ends
-turn-from : (A B : Place) → turn A B A ≡ pos 0
-turn-from A B = ring4 (λ a b c d. (Turn a b c d a b, K (pos 0))) (A .x) (A .y) (B .x) (B .y) tt
-
-turn-to : (A B : Place) → turn A B B ≡ pos 0
-turn-to A B = ring4 (λ a b c d. (Turn a b c d c d, K (pos 0))) (A .x) (A .y) (B .x) (B .y) tt
 
 -- A ROW HOLDS ITS CORNERS.
 pub corner-holds : (m : Mesh) (t : Tri) → pos 0 <ℤ twiceArea m t → {k : ℕ} → CornerOf t k → HoldsPoint m (at m k) t
@@ -142,10 +135,6 @@ shares-mean a b c d a′ b′ c′ d′ u v w w′ none none′ e g =
     ∙ (λ i. e i *ℤ u +ℤ g i *ℤ v)
     ∙ ring6 (λ a b d u v w. (b :* d :* u :+ a :* d :* v, (a :* v :+ b :* u :+ K (pos 0) :* w) :* d)) a′ b′ d u v w′ tt
     ∙ sym (λ i. (a′ *ℤ v +ℤ b′ *ℤ u +ℤ none′ i *ℤ w′) *ℤ d)
-
--- on the line of A and B, and on that of B and A
-turn-back : (A B P : Place) → turn A B P ≡ pos 0 → turn B A P ≡ pos 0
-turn-back A B P e = turn-cycle B A P ∙ turn-mirror A B P ∙ ap negℤ e
 
 edge-same : (f : ℕ → ℤ) (m : Mesh) (P : Place) (x y z z′ : ℕ) → turn (at m x) (at m y) P ≡ pos 0 →
     SameFraction (weighted f m P (tri x y z)) (twiceArea m (tri x y z)) (weighted f m P (tri y x z′)) (twiceArea m (tri y x z′))

@@ -181,10 +181,10 @@ module _ (m : Mesh) (z : ℕ) (law : Lawful m) (newest : All (λ t. t .p ≡ z) 
 
 -- ---- the tests tell the facts
 
-sameZ-eq : (a b : ℤ) → sameZ a b ≡ true → a ≡ b
+pub sameZ-eq : (a b : ℤ) → sameZ a b ≡ true → a ≡ b
 sameZ-eq a b t = le-antisymm (leZ-true a b (and-left (leZ a b) (leZ b a) t)) (leZ-true b a (and-right (leZ a b) (leZ b a) t))
 
-eq-sameZ : (a b : ℤ) → a ≡ b → sameZ a b ≡ true
+pub eq-sameZ : (a b : ℤ) → a ≡ b → sameZ a b ≡ true
 eq-sameZ a b e = and-both (le-leZ a b (le-of-eq e)) (le-leZ b a (le-of-eq (sym e)))
 
 is-middle : (M A B : Place) → isMiddle M A B ≡ true → Middle M A B

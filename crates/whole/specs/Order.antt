@@ -1,10 +1,10 @@
 -- The order of ℤ: what to name where a proof is by hand. Anything linear is `omega (arith, onℤ)`; a sum, a difference or a product in it wants its line: `sumℤ x y`, `subℤ x y`, `mulℤ x y`.
 use mathlib.Core.Bool.{Bool, true, false}
 use mathlib.Core.Logic.{_⊎_, inl, inr}
-use mathlib.Core.Path.{_≡_, refl}
+use mathlib.Core.Path.{_≡_, refl, sym}
 use Prim.Native.Nat.{zero, suc}
 use native.Mathlib.Omega.{arith}
-use lib.IntN.{ℤ, pos, negsuc, _-ℤ_, _*ℤ_}
+use lib.IntN.{ℤ, pos, negsuc, _-ℤ_, _*ℤ_, *ℤ-comm}
 use lib.Signed.{ltZ, _≤ℤ_, _<ℤ_}
 use Rattle.whole.specs.Diff.{onℤ, subℤ}
 use Rattle.whole.specs.Ring.{_:-_, _:*_, ring3}
@@ -20,7 +20,7 @@ pub lt-not-le : {a b : ℤ} → a <ℤ b → b ≤ℤ a → ⊥
 lt-not-le h i = omega (arith, onℤ)
 
 -- one of the two, by the test
-lt-or-le : (a b : ℤ) → (a <ℤ b) ⊎ (b ≤ℤ a)
+pub lt-or-le : (a b : ℤ) → (a <ℤ b) ⊎ (b ≤ℤ a)
 lt-or-le a b = go (ltZ a b) refl
   where
     go : (t : Bool) → ltZ a b ≡ t → (a <ℤ b) ⊎ (b ≤ℤ a)
@@ -29,17 +29,21 @@ lt-or-le a b = go (ltZ a b) refl
 
 -- ---- products by what is not below 0
 
-nonneg-times : (a b : ℤ) → pos 0 ≤ℤ a → pos 0 ≤ℤ b → pos 0 ≤ℤ (a *ℤ b)
+pub nonneg-times : (a b : ℤ) → pos 0 ≤ℤ a → pos 0 ≤ℤ b → pos 0 ≤ℤ (a *ℤ b)
 nonneg-times (pos a) (pos b) h i = omega (arith, onℤ)
 nonneg-times (pos a) (negsuc b) h i = absurd (omega (arith, onℤ))
 nonneg-times (negsuc a) b h i = absurd (omega (arith, onℤ))
 
-positive-times : (a b : ℤ) → pos 0 <ℤ a → pos 0 <ℤ b → pos 0 <ℤ (a *ℤ b)
+pub positive-times : (a b : ℤ) → pos 0 <ℤ a → pos 0 <ℤ b → pos 0 <ℤ (a *ℤ b)
 positive-times (pos zero) b h i = absurd (omega (arith, onℤ))
 positive-times (pos (suc a)) (pos zero) h i = absurd (omega (arith, onℤ))
 positive-times (pos (suc a)) (pos (suc b)) h i = omega (arith, onℤ)
 positive-times (pos (suc a)) (negsuc b) h i = absurd (omega (arith, onℤ))
 positive-times (negsuc a) b h i = absurd (omega (arith, onℤ))
+
+pub nonneg-square : (a : ℤ) → pos 0 ≤ℤ (a *ℤ a)
+nonneg-square (pos a) = omega (arith, onℤ)
+nonneg-square (negsuc a) = omega (arith, onℤ)
 
 difference : (a b d : ℤ) → b *ℤ d -ℤ a *ℤ d ≡ (b -ℤ a) *ℤ d
 difference a b d = ring3 (λ a b d. (b :* d :- a :* d, (b :- a) :* d)) a b d tt
@@ -49,6 +53,9 @@ scale-le d a b h l =
     let p = nonneg-times (b -ℤ a) d (omega (arith, onℤ, subℤ b a)) h in
     let q : pos 0 ≤ℤ (b *ℤ d -ℤ a *ℤ d) = rw (difference a b d) p in
     omega (arith, onℤ, subℤ (b *ℤ d) (a *ℤ d))
+
+pub times-le : (d a b : ℤ) → pos 0 ≤ℤ d → a ≤ℤ b → (d *ℤ a) ≤ℤ (d *ℤ b)
+times-le d a b h l = rw (*ℤ-comm d a, *ℤ-comm d b) (scale-le d a b h l)
 
 pub scale-lt : (d a b : ℤ) → pos 0 <ℤ d → a <ℤ b → (a *ℤ d) <ℤ (b *ℤ d)
 scale-lt d a b h l =
@@ -70,3 +77,8 @@ unscale-lt d a b h l = go (lt-or-le a b)
     go : (a <ℤ b) ⊎ (b ≤ℤ a) → a <ℤ b
     go (inl k) = k
     go (inr k) = absurd (lt-not-le l (scale-le d b a (omega (arith, onℤ)) k))
+
+pub times-cancel : (d a b : ℤ) → pos 0 <ℤ d → d *ℤ a ≡ d *ℤ b → a ≡ b
+times-cancel d a b h e =
+    let f : a *ℤ d ≡ b *ℤ d = rw (*ℤ-comm a d, *ℤ-comm b d) e in
+    le-antisymm (unscale-le d a b h (le-of-eq f)) (unscale-le d b a h (le-of-eq (sym f)))

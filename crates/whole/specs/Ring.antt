@@ -199,7 +199,7 @@ zero-ok (x ∷ ρ) p t = all-ok (value ρ) x (zeroP ρ) (zero-ok ρ) p t
 apart : (a b : ℤ) → a -ℤ b ≡ pos 0 → a ≡ b
 apart a b = rw (rep a, rep b) (simp diffs (omega arith))
 
-solve : (ρ : List ℤ) (e f : Expr) → T (zeroP ρ (norm ρ (e :- f))) → eval ρ e ≡ eval ρ f
+pub solve : (ρ : List ℤ) (e f : Expr) → T (zeroP ρ (norm ρ (e :- f))) → eval ρ e ≡ eval ρ f
 solve ρ e f t = apart (eval ρ e) (eval ρ f) (sym (norm-ok ρ (e :- f)) ∙ zero-ok ρ (norm ρ (e :- f)) t)
 
 -- ---- with the variables bound by a λ: `ring3 (λ x y z. ((x :+ y) :* z, x :* z :+ y :* z)) a b c tt`
@@ -224,8 +224,14 @@ ring3 q a b c t = by-check (a ∷ b ∷ c ∷ []) (q (X 0) (X 1) (X 2)) t
 pub ring4 : (q : Expr → Expr → Expr → Expr → Expr × Expr) (a b c d : ℤ) → Checks (a ∷ b ∷ c ∷ d ∷ []) (q (X 0) (X 1) (X 2) (X 3)) → Holds (a ∷ b ∷ c ∷ d ∷ []) (q (X 0) (X 1) (X 2) (X 3))
 ring4 q a b c d t = by-check (a ∷ b ∷ c ∷ d ∷ []) (q (X 0) (X 1) (X 2) (X 3)) t
 
+pub ring5 : (q : Expr → Expr → Expr → Expr → Expr → Expr × Expr) (a b c d e : ℤ) → Checks (a ∷ b ∷ c ∷ d ∷ e ∷ []) (q (X 0) (X 1) (X 2) (X 3) (X 4)) → Holds (a ∷ b ∷ c ∷ d ∷ e ∷ []) (q (X 0) (X 1) (X 2) (X 3) (X 4))
+ring5 q a b c d e t = by-check (a ∷ b ∷ c ∷ d ∷ e ∷ []) (q (X 0) (X 1) (X 2) (X 3) (X 4)) t
+
 pub ring6 : (q : Expr → Expr → Expr → Expr → Expr → Expr → Expr × Expr) (a b c d e f : ℤ) → Checks (a ∷ b ∷ c ∷ d ∷ e ∷ f ∷ []) (q (X 0) (X 1) (X 2) (X 3) (X 4) (X 5)) → Holds (a ∷ b ∷ c ∷ d ∷ e ∷ f ∷ []) (q (X 0) (X 1) (X 2) (X 3) (X 4) (X 5))
 ring6 q a b c d e f t = by-check (a ∷ b ∷ c ∷ d ∷ e ∷ f ∷ []) (q (X 0) (X 1) (X 2) (X 3) (X 4) (X 5)) t
+
+pub ring7 : (q : Expr → Expr → Expr → Expr → Expr → Expr → Expr → Expr × Expr) (a b c d e f g : ℤ) → Checks (a ∷ b ∷ c ∷ d ∷ e ∷ f ∷ g ∷ []) (q (X 0) (X 1) (X 2) (X 3) (X 4) (X 5) (X 6)) → Holds (a ∷ b ∷ c ∷ d ∷ e ∷ f ∷ g ∷ []) (q (X 0) (X 1) (X 2) (X 3) (X 4) (X 5) (X 6))
+ring7 q a b c d e f g t = by-check (a ∷ b ∷ c ∷ d ∷ e ∷ f ∷ g ∷ []) (q (X 0) (X 1) (X 2) (X 3) (X 4) (X 5) (X 6)) t
 
 pub ring8 : (q : Expr → Expr → Expr → Expr → Expr → Expr → Expr → Expr → Expr × Expr) (a b c d e f g h : ℤ) → Checks (a ∷ b ∷ c ∷ d ∷ e ∷ f ∷ g ∷ h ∷ []) (q (X 0) (X 1) (X 2) (X 3) (X 4) (X 5) (X 6) (X 7)) → Holds (a ∷ b ∷ c ∷ d ∷ e ∷ f ∷ g ∷ h ∷ []) (q (X 0) (X 1) (X 2) (X 3) (X 4) (X 5) (X 6) (X 7))
 ring8 q a b c d e f g h t = by-check (a ∷ b ∷ c ∷ d ∷ e ∷ f ∷ g ∷ h ∷ []) (q (X 0) (X 1) (X 2) (X 3) (X 4) (X 5) (X 6) (X 7)) t

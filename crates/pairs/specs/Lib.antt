@@ -1,1 +1,3 @@
 pub mod Pair
+pub mod Seen
+pub mod SeenLaw

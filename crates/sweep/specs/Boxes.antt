@@ -1,27 +1,28 @@
 -- W7: two rows of which one has all its corners below those of the other, along x or along y, have nothing to do with each other. P gives the
 -- place of each node. Assumes nothing.
 use mathlib.Core.Bool.{Bool, true, false}
-use mathlib.Core.List.{List·Memᴰ}
-use mathlib.Core.Logic.{_⊎_, inl, inr, _↔_}
-use mathlib.Core.Path.{_≡_, refl, sym, _∙_}
+use mathlib.Core.Logic.{_⊎_, inl, inr}
+use mathlib.Core.Path.{_≡_, refl}
 use Prim.Native.Nat.{ℕ, _≤_, _<_}
 use native.Mathlib.Omega.{arith}
 use lib.IntN.{ℤ, pos, natAbs, _+ℤ_, _-ℤ_, _*ℤ_}
 use lib.Signed.{_≤ℤ_, _<ℤ_}
 use Rattle.lists.specs.Lists.{cases, All, nil, cons}
-use Rattle.lists.specs.ListsLaw.{clash, All·head, All·tail, All-at, All-imp, All-both}
+use Rattle.lists.specs.ListsLaw.{All·head, All·tail, All-at, All-imp, All-both}
 use Rattle.whole.specs.Diff.{onℤ, sumℤ, subℤ, mulℤ}
 use Rattle.whole.specs.Bound.{absℤ}
-use Rattle.whole.specs.Ring.{Expr, X, K, _:+_, _:-_, _:*_, ring2, ring10}
-use Rattle.whole.specs.Order.{scale-lt, scale-le}
+use Rattle.whole.specs.Ring.{Expr, _:+_, _:-_, _:*_, ring10}
+use Rattle.whole.specs.Order.{lt-or-le, positive-times, times-le}
 use Rattle.meaning.specs.declared.Place.{Place}
 use Rattle.meaning.specs.declared.Tri.{Tri}
-use Rattle.meaning.specs.Mesh.{Arrow, arrows, turn}
+use Rattle.meaning.specs.Mesh.{arrows}
 use Rattle.meaning.specs.Lawful.{InRange}
-use Rattle.meaning.specs.Proper.{Shape, Point, left, area, Inside, Share, apart}
-use Rattle.pairs.specs.Pair.{shapeBy, corners, touches, grave}
+use Rattle.meaning.specs.Proper.{Shape, Point, left, area, Inside, Share}
+use Rattle.laws.specs.Area.{Turn}
+use Rattle.proper.specs.Tested.{share-exact}
+use Rattle.pairs.specs.Pair.{shapeBy, corners, grave}
 use Rattle.columns.specs.Columns.{shifted, along, low, high}
-use Rattle.sweep.specs.OnLine.{lt-or-le, times-above, coord, not-above, not-below}
+use Rattle.sweep.specs.Between.{coord, not-above, not-below}
 use Rattle.sweep.specs.Touch.{Touching, touches-is}
 use Rattle.sweep.specs.Gravest.{GraveIs, touch, overlap, clear, grave-is}
 
@@ -30,9 +31,6 @@ use Rattle.sweep.specs.Gravest.{GraveIs, touch, overlap, clear, grave-is
 -- a coordinate of a point, times its W
 abbrev across : Bool → Point → ℤ
 across y s = cases y (s .Y) (s .X)
-
-abbrev Turn : Expr → Expr → Expr → Expr → Expr → Expr → Expr
-Turn ax ay bx by cx cy = (bx :- ax) :* (cy :- ay) :- (cx :- ax) :* (by :- ay)
 
 abbrev Left : Expr → Expr → Expr → Expr → Expr → Expr → Expr → Expr
 Left ax ay bx by x y w = (bx :- ax) :* (y :- ay :* w) :- (x :- ax :* w) :* (by :- ay)
@@ -48,9 +46,7 @@ weights false t s v = ring10 (λ a b c d e f x y w v.
     (t .p .x) (t .p .y) (t .q .x) (t .q .y) (t .r .x) (t .r .y) (s .X) (s .Y) (s .W) v tt
 
 times-below : (a b : ℤ) → pos 0 <ℤ a → b ≤ℤ pos 0 → (a *ℤ b) ≤ℤ pos 0
-times-below a b h k =
-    let e = ring2 (λ a b. (a :* b, b :* a)) a b tt in
-    omega (arith, onℤ, mulℤ (pos 0) a, scale-le a b (pos 0) (omega (arith, onℤ)) k)
+times-below a b h k = omega (arith, onℤ, mulℤ a (pos 0), times-le a b (pos 0) (omega (arith, onℤ)) k)
 
 module _ (y : Bool) (t : Shape) (s : Point) (v : ℤ) (h : pos 0 <ℤ area t) (i : Inside t s) where
   abbrev excess : Place → ℤ
@@ -76,7 +72,7 @@ module _ (y : Bool) (t : Shape) (s : Point) (v : ℤ) (h : pos 0 <ℤ area t) (i
 
       go : (pos 0 <ℤ (across y s -ℤ v *ℤ s .W)) ⊎ ((across y s -ℤ v *ℤ s .W) ≤ℤ pos 0) → (across y s -ℤ v *ℤ s .W) ≤ℤ pos 0
       go (inl k) =
-          let a = times-above (area t) (across y s -ℤ v *ℤ s .W) h k in
+          let a = positive-times (area t) (across y s -ℤ v *ℤ s .W) h k in
           let b = sum wp wq wr (area t *ℤ (across y s -ℤ v *ℤ s .W)) (weights y t s v) (term _ (coord y (t .p)) (i .qr) p) (term _ (coord y (t .q)) (i .rp) q) (term _ (coord y (t .r)) (i .pq) r) in
           absurd (omega (arith, onℤ))
       go (inr k) = k
@@ -85,7 +81,7 @@ module _ (y : Bool) (t : Shape) (s : Point) (v : ℤ) (h : pos 0 <ℤ area t) (i
   point-above p q r = go (lt-or-le (pos 0) (across y s -ℤ v *ℤ s .W))
     where
       term : (w a : ℤ) → pos 0 <ℤ w → v <ℤ a → pos 0 <ℤ (w *ℤ (a -ℤ v))
-      term w a k l = times-above w (a -ℤ v) k (omega (arith, onℤ, subℤ a v))
+      term w a k l = positive-times w (a -ℤ v) k (omega (arith, onℤ, subℤ a v))
 
       sum : (a b c d : ℤ) → d ≡ a +ℤ b +ℤ c → pos 0 <ℤ a → pos 0 <ℤ b → pos 0 <ℤ c → pos 0 <ℤ d
       sum a b c d e k l n = omega (arith, onℤ, sumℤ a b, sumℤ (a +ℤ b) c)
@@ -156,8 +152,8 @@ module _ (y : Bool) (P : ℕ → Place) (t u : Tri) (a : Sound P t) (b : Sound P
   }
 
   -- ROWS WITH ALL CORNERS OF ONE BELOW THOSE OF THE OTHER HAVE NOTHING TO DO WITH EACH OTHER
-  pub boxes-clear : (apart-is : (s t : Shape) → pos 0 <ℤ area s → pos 0 <ℤ area t → (apart s t ≡ true) ↔ (¬ Share s t)) → grave P t u ≡ 0
-  boxes-clear apart-is = go (grave-is P t u)
+  pub boxes-clear : grave P t u ≡ 0
+  boxes-clear = go (grave-is P t u)
     where
       v : ℤ
       v = pos (high y P t) -ℤ pos 1_048_576
@@ -165,5 +161,5 @@ module _ (y : Bool) (P : ℕ → Place) (t u : Tri) (a : Sound P t) (b : Sound P
       go : {k : ℕ} → GraveIs P t u k → k ≡ 0
       go (touch (inl e)) = absurd (low-side y v P t u parted (touches-is P t u e))
       go (touch (inr e)) = absurd (high-side y v P t u parted (touches-is P u t e))
-      go (overlap e) = clash (sym (apart-is (shapeBy P t) (shapeBy P u) (a .area-above) (b .area-above) .1 (unshared y v P t u parted (a .area-above) (b .area-above))) ∙ e)
+      go (overlap e) = absurd (unshared y v P t u parted (a .area-above) (b .area-above) (share-exact (shapeBy P t) (shapeBy P u) (a .area-above) (b .area-above) .0 e))
       go clear = refl

@@ -2,7 +2,7 @@
 -- is crowded, or its twin. Assumes nothing.
 use mathlib.Core.Bool.{Bool, true, false, _||_}
 use mathlib.Core.List.{List·Memᴰ}
-use mathlib.Core.Logic.{_⊎_, inl, inr, _↔_, _≢_}
+use mathlib.Core.Logic.{_⊎_, inl, inr, _≢_}
 use mathlib.Core.Path.{_≡_, refl, sym, ap, subst, _∙_}
 use Prim.Native.Nat.{ℕ, _≤_, _<_}
 use native.Mathlib.Omega.{arith}
@@ -14,15 +14,18 @@ use Rattle.lists.specs.Lists.{cases, All, nil, cons}
 use Rattle.lists.specs.ListsLaw.{clash, or-left, or-right, All-at}
 use Rattle.lists.specs.MembersLaw.{mem-at, at-mem, count-some}
 use Rattle.whole.specs.Diff.{onℤ}
-use Rattle.whole.specs.Order.{le-of-eq, le-antisymm}
+use Rattle.whole.specs.Order.{le-of-eq, le-antisymm, lt-or-le}
 use Rattle.whole.specs.Ring.{Expr, K, _:+_, _:-_, _:*_, ring4}
 use Rattle.meaning.specs.declared.Place.{Place}
 use Rattle.meaning.specs.declared.Tri.{Tri}
 use Rattle.meaning.specs.Mesh.{Mesh, Arrow, tri, arrows, holdsNode, at, turn, twiceArea}
 use Rattle.meaning.specs.Lawful.{Lawful, Named, rowOf}
 use Rattle.meaning.specs.Proper.{Shape, shape, area, facing, StrictlyInside, Share, Crowded, at-one-place, inside-edge, Overlaps, with-lower, apart, uncrowded, disjoint}
+use Rattle.laws.specs.Area.{Turn, turn-from}
+use Rattle.proper.specs.ProperLaw.{uncrowded-exact, disjoint-exact}
+use Rattle.proper.specs.Tested.{share-exact}
 use Rattle.pairs.specs.Pair.{corners, touches, grave}
-use Rattle.sweep.specs.OnLine.{lt-or-le, at-end}
+use Rattle.sweep.specs.Between.{at-end}
 use Rattle.sweep.specs.Touch.{On, Touching, touches-is, is-touches, across, own-corner, holds-corner, corner-side}
 use Rattle.sweep.specs.Severity.{severity, graveOf, Met, none, of-rows, Gravest}
 
@@ -78,18 +81,12 @@ share-back h = record { point = h .point; weight = h .weight; in-first = h .in-s
 abbrev Dot : Expr → Expr → Expr → Expr → Expr → Expr → Expr
 Dot ax ay bx by px py = (ax :- px) :* (bx :- px) :+ (ay :- py) :* (by :- py)
 
-abbrev Turn : Expr → Expr → Expr → Expr → Expr → Expr → Expr
-Turn ax ay bx by cx cy = (bx :- ax) :* (cy :- ay) :- (cx :- ax) :* (by :- ay)
-
 module _ (A B : Place) where
   facing-from : facing A B A ≡ pos 0
   facing-from = ring4 (λ a b c d. (Dot a b c d a b, K (pos 0))) (A .x) (A .y) (B .x) (B .y) tt
 
   facing-to : facing A B B ≡ pos 0
   facing-to = ring4 (λ a b c d. (Dot a b c d c d, K (pos 0))) (A .x) (A .y) (B .x) (B .y) tt
-
-  turn-from : turn A B A ≡ pos 0
-  turn-from = ring4 (λ a b c d. (Turn a b c d a b, K (pos 0))) (A .x) (A .y) (B .x) (B .y) tt
 
   turn-same : turn A A B ≡ pos 0
   turn-same = ring4 (λ a b c d. (Turn a b a b c d, K (pos 0))) (A .x) (A .y) (B .x) (B .y) tt
@@ -201,10 +198,7 @@ module _ (m : Mesh) (law : Lawful m) where
 
   -- ---- the gravest
 
-  module _ (r : ℕ) (g : Gravest m r)
-      (uncrowded-is : (uncrowded m ≡ true) ↔ ((k : ℕ) → k < length (m .nodes) → ¬ Crowded m k))
-      (disjoint-is : (disjoint m ≡ true) ↔ ((i : ℕ) → i < length (m .tris) → ¬ Overlaps m i))
-      (apart-is : (s t : Shape) → pos 0 <ℤ area s → pos 0 <ℤ area t → (apart s t ≡ true) ↔ (¬ Share s t)) where
+  module _ (r : ℕ) (g : Gravest m r) where
     row-in : (i : ℕ) → i < length (m .tris) → List·Memᴰ (rowOf (m .tris) i) (m .tris)
     row-in i h = at-mem (m .tris) i (tri 0 0 0) h
 
@@ -217,7 +211,7 @@ module _ (m : Mesh) (law : Lawful m) where
 
     -- below 2 none is crowded
     none-crowded : r < 2 → uncrowded m ≡ true
-    none-crowded h = uncrowded-is .1 (λ k l c. (let t = crowded-touches k l c in found (t .0) (t .1) (t .2) (t .3) (t .4) (t .5) (decLt (t .0) (t .1))))
+    none-crowded h = uncrowded-exact m .1 (λ k l c. (let t = crowded-touches k l c in found (t .0) (t .1) (t .2) (t .3) (t .4) (t .5) (decLt (t .0) (t .1))))
       where
         found : (i j : ℕ) → i < length (m .tris) → j < length (m .tris) → i ≢ j → touches (at m) (rowOf (m .tris) i) (rowOf (m .tris) j) ≡ true → Dec (i < j) → ⊥
         found i j a b n t (yes l) =
@@ -229,14 +223,12 @@ module _ (m : Mesh) (law : Lawful m) where
 
     -- at 0 none overlap
     none-overlap : r < 1 → disjoint m ≡ true
-    none-overlap h = disjoint-is .1 (λ i l o. found i l o)
+    none-overlap h = disjoint-exact m law .1 found
       where
         found : (i : ℕ) → i < length (m .tris) → Overlaps m i → ⊥
-        found i l (with-lower j b s) = go (apart (shape m (rowOf (m .tris) j)) (shape m (rowOf (m .tris) i))) refl
-          where
-            go : (c : Bool) → apart (shape m (rowOf (m .tris) j)) (shape m (rowOf (m .tris) i)) ≡ c → ⊥
-            go true e = apart-is (shape m (rowOf (m .tris) j)) (shape m (rowOf (m .tris) i)) (above (row-in j (omega arith))) (above (row-in i l)) .0 e s
-            go false e = let k = grave-overlap (at m) (rowOf (m .tris) j) (rowOf (m .tris) i) e in omega (arith, g .most j i b l)
+        found i l (with-lower j b s) =
+            let e = share-exact (shape m (rowOf (m .tris) j)) (shape m (rowOf (m .tris) i)) (above (row-in j (omega arith))) (above (row-in i l)) .1 s in
+            omega (arith, g .most j i b l, grave-overlap (at m) (rowOf (m .tris) j) (rowOf (m .tris) i) e)
 
     r-touch : uncrowded m ≡ true → r ≤ 1
     r-touch u = go (g .met)
@@ -246,7 +238,7 @@ module _ (m : Mesh) (law : Lawful m) where
         go (of-rows i j h l n e) = at-most (grave-is (at m) (rowOf (m .tris) i) (rowOf (m .tris) j)) e
           where
             out : {X : Type 0} → (x : ℕ) × (x < length (m .nodes)) × Crowded m x → X
-            out c = absurd (uncrowded-is .0 u (c .0) (c .1) (c .2))
+            out c = absurd (uncrowded-exact m .0 u (c .0) (c .1) (c .2))
 
             at-most : {k : ℕ} → GraveIs (at m) (rowOf (m .tris) i) (rowOf (m .tris) j) k → k ≡ r → r ≤ 1
             at-most (touch (inl t)) e = out (touches-crowded (row-in i h) (row-in j l) t)
@@ -262,7 +254,7 @@ module _ (m : Mesh) (law : Lawful m) where
         go (of-rows i j h l n e) = by (grave-is (at m) (rowOf (m .tris) i) (rowOf (m .tris) j)) e
           where
             unshared : (a b : ℕ) → a < b → b < length (m .tris) → ¬ Share (shape m (rowOf (m .tris) a)) (shape m (rowOf (m .tris) b))
-            unshared a b x y s = disjoint-is .0 d b y (with-lower a x s)
+            unshared a b x y s = disjoint-exact m law .0 d b y (with-lower a x s)
 
             neither : Dec (i < j) → ¬ Share (shape m (rowOf (m .tris) i)) (shape m (rowOf (m .tris) j))
             neither (yes x) = unshared i j x l
@@ -270,7 +262,7 @@ module _ (m : Mesh) (law : Lawful m) where
 
             by : {k : ℕ} → GraveIs (at m) (rowOf (m .tris) i) (rowOf (m .tris) j) k → k ≡ r → r ≡ 0
             by (touch t) e = let z = r-touch u in absurd (omega arith)
-            by (overlap t) e = clash (sym (apart-is (shape m (rowOf (m .tris) i)) (shape m (rowOf (m .tris) j)) (above (row-in i h)) (above (row-in j l)) .1 (neither (decLt i j))) ∙ t)
+            by (overlap t) e = absurd (neither (decLt i j) (share-exact (shape m (rowOf (m .tris) i)) (shape m (rowOf (m .tris) j)) (above (row-in i h)) (above (row-in j l)) .0 t))
             by clear e = sym e
 
     -- THE GRAVEST OF ANY TWO ROWS IS THE SEVERITY

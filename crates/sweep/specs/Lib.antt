@@ -1,4 +1,4 @@
-pub mod OnLine
+pub mod Between
 pub mod Touch
 pub mod Severity
 pub mod Gravest

@@ -6,13 +6,12 @@ use mathlib.Core.Path.{_≡_, refl, sym, ap, subst, _∙_}
 use Prim.Native.Nat.{ℕ}
 use native.Mathlib.Omega.{arith}
 use lib.Dec.{eqb}
-use lib.IntN.{ℤ, pos}
+use lib.IntN.{pos}
 use lib.Signed.{leZ, _≤ℤ_, _<ℤ_}
 use borrow.Author.Tests.{eqb-true, eqb-false, ne-eqb, not-true}
 use Rattle.lists.specs.Lists.{any, All, nil, cons}
 use Rattle.lists.specs.ListsLaw.{clash, and-both, and-left, and-right, or-no, All-at, any-at, any-row}
 use Rattle.whole.specs.Diff.{onℤ}
-use Rattle.whole.specs.Order.{le-of-eq, le-antisymm}
 use Rattle.whole.specs.Tests.{leZ-true, le-leZ}
 use Rattle.meaning.specs.declared.Place.{Place}
 use Rattle.meaning.specs.declared.Tri.{Tri}
@@ -20,13 +19,8 @@ use Rattle.meaning.specs.Mesh.{Arrow, arrow, arrows, turn, holdsNode}
 use Rattle.meaning.specs.Good.{sameZ}
 use Rattle.meaning.specs.Proper.{area, facing}
 use Rattle.laws.specs.Area.{turn-cycle}
+use Rattle.laws.specs.Star.{sameZ-eq, eq-sameZ}
 use Rattle.pairs.specs.Pair.{shapeBy, corners, onSide, touches}
-
-sameZ-eq : (a b : ℤ) → sameZ a b ≡ true → a ≡ b
-sameZ-eq a b t = le-antisymm (leZ-true a b (and-left (leZ a b) (leZ b a) t)) (leZ-true b a (and-right (leZ a b) (leZ b a) t))
-
-eq-sameZ : (a b : ℤ) → a ≡ b → sameZ a b ≡ true
-eq-sameZ a b e = and-both (le-leZ a b (le-of-eq e)) (le-leZ b a (le-of-eq (sym e)))
 
 module _ (P : ℕ → Place) where
   -- node k is no end of e, and on its line and not beyond an end

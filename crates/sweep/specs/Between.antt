@@ -2,34 +2,20 @@
 use mathlib.Core.Bool.{Bool, true, false}
 use mathlib.Core.Logic.{_⊎_, inl, inr}
 use mathlib.Core.Path.{_≡_, refl, sym, ap, _∙_}
-use Prim.Native.Nat.{ℕ, zero, suc}
+use Prim.Native.Nat.{zero, suc}
 use native.Mathlib.Omega.{arith}
 use lib.IntN.{ℤ, pos, negsuc, _+ℤ_, _-ℤ_, _*ℤ_}
-use lib.Signed.{ltZ, _≤ℤ_, _<ℤ_}
+use lib.Signed.{_≤ℤ_, _<ℤ_}
 use Rattle.lists.specs.Lists.{cases}
-use Rattle.whole.specs.Diff.{onℤ, sumℤ, subℤ, mulℤ}
+use Rattle.whole.specs.Diff.{onℤ, sumℤ, subℤ}
 use Rattle.whole.specs.Ring.{Expr, K, _:+_, _:-_, _:*_, ring2, ring4, ring6}
-use Rattle.whole.specs.Order.{scale-lt}
-use Rattle.whole.specs.Tests.{ltZ-true, ltZ-false}
+use Rattle.whole.specs.Order.{lt-or-le, positive-times, nonneg-square}
 use Rattle.meaning.specs.declared.Place.{Place}
 use Rattle.meaning.specs.Mesh.{turn}
 use Rattle.meaning.specs.Proper.{facing}
+use Rattle.laws.specs.Area.{Turn}
 
 -- ---- signs
-
-pub lt-or-le : (a b : ℤ) → (a <ℤ b) ⊎ (b ≤ℤ a)
-lt-or-le a b = go (ltZ a b) refl
-  where
-    go : (t : Bool) → ltZ a b ≡ t → (a <ℤ b) ⊎ (b ≤ℤ a)
-    go true e = inl (ltZ-true a b e)
-    go false e = inr (ltZ-false a b e)
-
-pub times-above : (a b : ℤ) → pos 0 <ℤ a → pos 0 <ℤ b → pos 0 <ℤ (a *ℤ b)
-times-above a b h k = omega (arith, onℤ, mulℤ (pos 0) b, scale-lt b (pos 0) a k h)
-
-square-above : (a : ℤ) → pos 0 ≤ℤ (a *ℤ a)
-square-above (pos a) = omega (arith, onℤ)
-square-above (negsuc a) = omega (arith, onℤ)
 
 square-none : (a : ℤ) → (a *ℤ a) ≤ℤ pos 0 → a ≡ pos 0
 square-none (pos zero) h = refl
@@ -47,15 +33,12 @@ not-far A P h =
     let u = A .x -ℤ P .x in
     let v = A .y -ℤ P .y in
     let s = sumℤ (u *ℤ u) (v *ℤ v) in
-    let p = same (P .x) (A .x) (square-none u (omega (arith, onℤ, square-above v))) in
-    let q = same (P .y) (A .y) (square-none v (omega (arith, onℤ, square-above u))) in
+    let p = same (P .x) (A .x) (square-none u (omega (arith, onℤ, nonneg-square v))) in
+    let q = same (P .y) (A .y) (square-none v (omega (arith, onℤ, nonneg-square u))) in
     λ i. record { x = p i; y = q i }
   where
     same : (a b : ℤ) → b -ℤ a ≡ pos 0 → a ≡ b
     same a b e = omega (arith, onℤ, subℤ b a)
-
-abbrev Turn : Expr → Expr → Expr → Expr → Expr → Expr → Expr
-Turn ax ay bx by cx cy = (bx :- ax) :* (cy :- ay) :- (cx :- ax) :* (by :- ay)
 
 abbrev Dot : Expr → Expr → Expr → Expr → Expr → Expr → Expr
 Dot ax ay bx by px py = (ax :- px) :* (bx :- px) :+ (ay :- py) :* (by :- py)
@@ -71,7 +54,7 @@ at-end A B P e f = go (lt-or-le (pos 0) (far A P)) (lt-or-le (pos 0) (far B P))
     none u v w g h k = g ∙ rw (h, k) refl
 
     go : (pos 0 <ℤ far A P) ⊎ (far A P ≤ℤ pos 0) → (pos 0 <ℤ far B P) ⊎ (far B P ≤ℤ pos 0) → (P ≡ A) ⊎ (P ≡ B)
-    go (inl h) (inl k) = absurd (omega (arith, onℤ, times-above (far A P) (far B P) h k, none (facing A B P) (turn A B P) (far A P *ℤ far B P) lagrange f e))
+    go (inl h) (inl k) = absurd (omega (arith, onℤ, positive-times (far A P) (far B P) h k, none (facing A B P) (turn A B P) (far A P *ℤ far B P) lagrange f e))
     go (inr h) k = inl (not-far A P h)
     go (inl h) (inr k) = inr (not-far B P k)
 
@@ -90,7 +73,7 @@ opposed a b c d e h = go (lt-or-le (pos 0) (a *ℤ c))
 
     below : (u v : ℤ) → pos 0 <ℤ u → v <ℤ pos 0 → (u *ℤ v) <ℤ pos 0
     below u v h k =
-        let p = times-above u (pos 0 -ℤ v) h (omega (arith, onℤ, subℤ (pos 0) v)) in
+        let p = positive-times u (pos 0 -ℤ v) h (omega (arith, onℤ, subℤ (pos 0) v)) in
         let r = ring2 (λ u v. (u :* (K (pos 0) :- v), K (pos 0) :- u :* v)) u v tt in
         omega (arith, onℤ, subℤ (pos 0) (u *ℤ v))
 
@@ -98,7 +81,7 @@ opposed a b c d e h = go (lt-or-le (pos 0) (a *ℤ c))
     go (inl l) =
         let k = below (a *ℤ c) (b *ℤ d) l (omega (arith, onℤ, sumℤ (a *ℤ c) (b *ℤ d))) in
         let s = square in
-        absurd (omega (arith, onℤ, square-above (b *ℤ c)))
+        absurd (omega (arith, onℤ, nonneg-square (b *ℤ c)))
     go (inr l) = l
 
 -- A PLACE ON THE LINE AND NOT BEYOND AN END HAS EACH COORDINATE BETWEEN THOSE OF THE ENDS
@@ -128,7 +111,7 @@ not-above y A B P v e f h k = go (lt-or-le v (coord y P))
   where
     apart : (a b p : ℤ) → a <ℤ p → b <ℤ p → ((a -ℤ p) *ℤ (b -ℤ p)) ≤ℤ pos 0 → ⊥
     apart a b p h k l =
-        let m = times-above (p -ℤ a) (p -ℤ b) (omega (arith, onℤ, subℤ p a)) (omega (arith, onℤ, subℤ p b)) in
+        let m = positive-times (p -ℤ a) (p -ℤ b) (omega (arith, onℤ, subℤ p a)) (omega (arith, onℤ, subℤ p b)) in
         let r = ring4 (λ a b p z. ((p :- a) :* (p :- b), (a :- p) :* (b :- p))) a b p p tt in
         omega (arith, onℤ)
 
@@ -141,7 +124,7 @@ not-below y A B P v e f h k = go (lt-or-le v (coord y P))
   where
     apart : (a b p : ℤ) → p <ℤ a → p <ℤ b → ((a -ℤ p) *ℤ (b -ℤ p)) ≤ℤ pos 0 → ⊥
     apart a b p h k l =
-        let m = times-above (a -ℤ p) (b -ℤ p) (omega (arith, onℤ, subℤ a p)) (omega (arith, onℤ, subℤ b p)) in
+        let m = positive-times (a -ℤ p) (b -ℤ p) (omega (arith, onℤ, subℤ a p)) (omega (arith, onℤ, subℤ b p)) in
         omega (arith, onℤ)
 
     go : (v <ℤ coord y P) ⊎ (coord y P ≤ℤ v) → v <ℤ coord y P

@@ -6,3 +6,4 @@ pub mod Boxes
 pub mod Highest
 pub mod Sweep
 pub mod Swept
+pub mod SweptMesh

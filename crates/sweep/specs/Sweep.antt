@@ -18,9 +18,13 @@ use Rattle.sweep.specs.Highest.{highest}
 abbrev pub meeting : Boxed → Boxed → Bool
 meeting b c = leb (c .low) (b .high) && leb (b .low) (c .high)
 
--- how grave it is of the row at b and the one at place q, if they meet
-unfoldable pub visited : (ℕ → Place) → List ℕ → List ℕ → ℕ → Boxed → ℕ → ℕ
-visited P rows scratch o b q = cases (meeting b (boxAt scratch o q)) (graveAt P rows (b .row) (boxAt scratch o q .row)) 0
+-- how grave it is of two rows, if they meet
+unfoldable pub compared : (ℕ → Place) → List ℕ → Boxed → Boxed → ℕ
+compared P rows b c = cases (meeting b c) (graveAt P rows (b .row) (c .row)) 0
+
+-- of the row at b and the one at place q
+abbrev pub visited : (ℕ → Place) → List ℕ → List ℕ → ℕ → Boxed → ℕ → ℕ
+visited P rows scratch o b q = compared P rows b (boxAt scratch o q)
 
 -- where the last column that row i reaches ends
 unfoldable pub reach : Scale → (ℕ → Place) → List ℕ → List ℕ → ℕ → ℕ

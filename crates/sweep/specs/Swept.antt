@@ -22,7 +22,7 @@ use Rattle.columns.specs.Columns.{low, high, column, home, before, rank, boxAt,
 use Rattle.columns.specs.Rank.{before-most, before-mono, rank-below, rank-most, rank-apart, column-mono, column-below}
 use Rattle.sweep.specs.Boxes.{Sound, boxes-clear}
 use Rattle.sweep.specs.Highest.{highest, highest-most, highest-met}
-use Rattle.sweep.specs.Sweep.{meeting, visited, reach, sweptPlace, swept}
+use Rattle.sweep.specs.Sweep.{meeting, compared, visited, reach, sweptPlace, swept}
 
 -- some two rows are as grave as r, or r is 0
 pub data SomeTwo (P : ℕ → Place) (rows : List ℕ) (t r : ℕ) : Type 0 where
@@ -71,9 +71,9 @@ module _ (s : Scale) (P : ℕ → Place) (rows scratch : List ℕ) (t : ℕ) (o 
         before-last c = omega (arith, rank-below h t j b, before-mono h t (column s (low (s .tall) P (rowAt rows j)) + 1) (column s (high (s .tall) P (rowAt rows i)) + 1) (omega arith))
 
     visit-is : (i j : ℕ) → i < t → j < t → i ≢ j → 0 < graveOf i j → visited P rows scratch (s .count) (box (at i)) (at j) ≡ graveOf i j
-    unfolding visited boxOf graveAt
+    unfolding compared boxOf graveAt
     visit-is i j a b n g =
-        (λ k. cases (meeting (o .standing i a k) (o .standing j b k)) (graveAt P rows (o .standing i a k .row) (o .standing j b k .row)) 0)
+        ap₂ (compared P rows) (o .standing i a) (o .standing j b)
         ∙ ap (λ c. cases c (graveAt P rows i j) 0) meets ∙ different
       where
         meets : meeting (boxOf s P rows i) (boxOf s P rows j) ≡ true
@@ -104,7 +104,7 @@ module _ (s : Scale) (P : ℕ → Place) (rows scratch : List ℕ) (t : ℕ) (o 
   -- ---- some two rows are as grave
 
   visit-met : (p q r : ℕ) → p < t → q < t → visited P rows scratch (s .count) (box p) q ≡ r → SomeTwo P rows t r
-  unfolding visited graveAt
+  unfolding compared graveAt
   visit-met p q r a b e = go (meeting (box p) (box q)) (eqb (box p .row) (box q .row)) refl e
     where
       go : (c d : Bool) → eqb (box p .row) (box q .row) ≡ d → cases c (cases d 0 (graveOf (box p .row) (box q .row))) 0 ≡ r → SomeTwo P rows t r

@@ -7,3 +7,4 @@ pub mod Highest
 pub mod Sweep
 pub mod Swept
 pub mod SweptMesh
+pub mod Lined

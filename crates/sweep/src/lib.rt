@@ -1,1 +1,67 @@
 // W7: the rows of a lawful mesh compared two by two, those alone whose boxes can meet: how grave it is.
+ghost use mathlib.Core.Path.{_≡_};
+ghost use Prim.Native.Nat.{ℕ, _+_, _*_, _≤_, _<_};
+ghost use lib.ListN.{length};
+ghost use Rattle.meaning.specs.Tables.{placeAt};
+ghost use Rattle.sweep.specs.Highest.{raised, highest};
+ghost use Rattle.sweep.specs.Sweep.{compared, visited};
+ghost use Rattle.sweep.specs.Lined.{Known, KnownAt};
+use columns::Boxed;
+
+// 2, 1 or 0, as `pairs::grave_at` says; 0 where the extents of the two do not meet.
+fn compare(nodes: &[i32], rows: &[u32], b: Boxed, c: Boxed) -> u32
+    requires { ⌜ Known (now nodes) (now rows) (b .row) × Known (now nodes) (now rows) (c .row) ⌝ }
+    ensures { λ r. ⌜ r ≡ compared (placeAt (now (nodes .entry))) (now (rows .entry)) b c ⌝ }
+{
+    if c.low > b.high {
+        return 0;
+    }
+    if b.low > c.high {
+        return 0;
+    }
+    pairs::grave_at(nodes, rows, b.row as usize, c.row as usize)
+}
+
+// The row at b and the one at place q, if that is graver than the worst so far.
+fn visit(
+    nodes: &[i32],
+    rows: &[u32],
+    scratch: &[u32],
+    o: usize,
+    b: Boxed,
+    q: usize,
+    worst: u32,
+) -> u32
+    requires { ⌜ Known (now nodes) (now rows) (b .row) ⌝ }
+    requires { ⌜ KnownAt (now nodes) (now rows) (now scratch) o q ⌝ }
+    ensures { λ r. ⌜ r ≡ raised (visited (placeAt (now (nodes .entry))) (now (rows .entry)) (now (scratch .entry)) o b) q worst ⌝ }
+{
+    let k = compare(nodes, rows, b, columns::box_at(scratch, o, q));
+    if k > worst {
+        return k;
+    }
+    worst
+}
+
+// The gravest of the row at b and those at the places from first to last - 1.
+fn worst_behind(
+    nodes: &[i32],
+    rows: &[u32],
+    scratch: &[u32],
+    o: usize,
+    b: Boxed,
+    first: usize,
+    last: usize,
+) -> u32
+    requires { ⌜ Known (now nodes) (now rows) (b .row) ⌝ }
+    requires { ⌜ ((q : ℕ) → q < last → KnownAt (now nodes) (now rows) (now scratch) o q) ⌝ }
+    ensures { λ r. ⌜ r ≡ highest (visited (placeAt (now (nodes .entry))) (now (rows .entry)) (now (scratch .entry)) o b) first last ⌝ }
+{
+    let mut worst = 0;
+    let mut q = first;
+    while q < last {
+        worst = visit(nodes, rows, scratch, o, b, q, worst);
+        q += 1;
+    }
+    worst
+}

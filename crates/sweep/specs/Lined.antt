@@ -7,7 +7,7 @@ use native.Mathlib.Omega.{arith}
 use borrow.Author.Tests.{le-leb, lt-leb}
 use lib.Dec.{leb}
 use lib.IntN.{ℤ}
-use lib.ListN.{length}
+use lib.ListN.{length, getD}
 use Rattle.lists.specs.Lists.{cases}
 use Rattle.lists.specs.Search.{iter}
 use Rattle.meaning.specs.declared.Place.{Place}
@@ -16,9 +16,11 @@ use Rattle.laws.specs.Meshes.{Standing}
 use Rattle.pairs.specs.Pair.{graveAt}
 use Rattle.columns.specs.declared.Scale.{Scale}
 use Rattle.columns.specs.declared.Boxed.{Boxed}
-use Rattle.columns.specs.Columns.{boxAt, Ordered}
+use Rattle.columns.specs.Columns.{high, column, boxAt, Ordered}
+use Rattle.columns.specs.Rank.{column-below}
 use Rattle.sweep.specs.Highest.{raised, highest}
-use Rattle.sweep.specs.Sweep.{compared}
+use Rattle.sweep.specs.Sweep.{compared, visited, reach, sweptPlace, swept}
+use Rattle.sweep.specs.Swept.{reach-most}
 
 -- row i is in its table, and its corners in theirs
 pub record Known (nodes : List ℤ) (rows : List ℕ) (i : ℕ) : Type 0 where
@@ -32,6 +34,50 @@ pub record KnownAt (nodes : List ℤ) (rows scratch : List ℕ) (o q : ℕ) : Ty
 
 pub known-box : (nodes : List ℤ) (rows scratch : List ℕ) (o q : ℕ) (c : Boxed) → c ≡ boxAt scratch o q → KnownAt nodes rows scratch o q → Known nodes rows (c .row)
 known-box nodes rows scratch o q c e h = rw e (h .known)
+
+-- rows that stand in order in scratch, with all that is read of them
+pub record Lined (s : Scale) (nodes : List ℤ) (rows scratch : List ℕ) (t : ℕ) : Type 0 where
+  pub ordered : Ordered s (placeAt nodes) rows scratch t
+  pub wide : 0 < s .width
+  pub some : 0 < s .count
+  pub places : s .count + 3 * t ≤ length scratch
+  pub room : 3 * t ≤ length rows
+  pub stands : (i : ℕ) → i < t → Standing nodes (rowAt rows i)
+
+-- p is the place of one of them
+pub record LinedAt (s : Scale) (nodes : List ℤ) (rows scratch : List ℕ) (p : ℕ) : Type 0 where
+  pub t : ℕ
+  pub lined : Lined s nodes rows scratch t
+  pub below : p < t
+
+pub lined-at : (s : Scale) (nodes : List ℤ) (rows scratch : List ℕ) (t p : ℕ) → Lined s nodes rows scratch t → p < t → LinedAt s nodes rows scratch p
+lined-at s nodes rows scratch t p h l = record { t = t; lined = h; below = l }
+
+module _ (s : Scale) (nodes : List ℤ) (rows scratch : List ℕ) where
+  lined-known : (t q : ℕ) → Lined s nodes rows scratch t → q < t → KnownAt nodes rows scratch (s .count) q
+  lined-known t q h l =
+      let n = h .ordered .naming q l in
+      record { inside = omega (arith, h .places); known = record { inside = omega (arith, h .room); stands = h .stands (boxAt scratch (s .count) q .row) n } }
+
+  module _ (p : ℕ) (h : LinedAt s nodes rows scratch p) where
+    pub lined-box : s .count + 3 * p + 3 ≤ length scratch
+    lined-box = lined-known (h .t) p (h .lined) (h .below) .inside
+
+    -- b is what stands there
+    module _ (b : Boxed) (e : b ≡ boxAt scratch (s .count) p) where
+      pub lined-row : Known nodes rows (b .row)
+      lined-row = known-box nodes rows scratch (s .count) p b e (lined-known (h .t) p (h .lined) (h .below))
+
+      pub lined-behind : (last : ℕ) → last ≡ reach s (placeAt nodes) rows scratch (b .row) → (q : ℕ) → q < last → KnownAt nodes rows scratch (s .count) q
+      lined-behind last f q l =
+          let o = h .lined .ordered in
+          let r = reach-most s (placeAt nodes) rows scratch (h .t) o (h .lined .some) (b .row) in
+          lined-known (h .t) q (h .lined) (omega arith)
+
+      pub place-swept : (last k worst r : ℕ) → last ≡ reach s (placeAt nodes) rows scratch (b .row) → k ≡ highest (visited (placeAt nodes) rows scratch (s .count) b) (p + 1) last →
+          r ≡ max worst k → r ≡ max worst (sweptPlace s (placeAt nodes) rows scratch p)
+      unfolding sweptPlace
+      place-swept last k worst r f g w = w ∙ ap (max worst) (g ∙ rw (f, e))
 
 -- ---- two boxed rows
 
@@ -53,12 +99,20 @@ module _ (P : ℕ → Place) (rows : List ℕ) (b c : Boxed) where
   compared-met r h k e = rw (le-leb (c .low) (b .high) h, le-leb (b .low) (c .high) k) e
 
   -- c is what stands at some place
-  pub raised-to : (c′ : Boxed) (k worst : ℕ) → c ≡ c′ → k ≡ compared P rows b c → worst < k → k ≡ max worst (compared P rows b c′)
-  raised-to c′ k worst q e h = let f : k ≡ compared P rows b c′ = e ∙ ap (compared P rows b) q in omega arith
-
-  pub raised-not : (c′ : Boxed) (k worst : ℕ) → c ≡ c′ → k ≡ compared P rows b c → k ≤ worst → worst ≡ max worst (compared P rows b c′)
-  raised-not c′ k worst q e h = let f : k ≡ compared P rows b c′ = e ∙ ap (compared P rows b) q in omega arith
+  pub place-visited : (c′ : Boxed) (k worst r : ℕ) → c ≡ c′ → k ≡ compared P rows b c → r ≡ max worst k → r ≡ max worst (compared P rows b c′)
+  place-visited c′ k worst r q e w = w ∙ ap (max worst) (e ∙ ap (compared P rows b) q)
 
 pub highest-start : (f : ℕ → ℕ) (i t : ℕ) → iter (raised f) i t 0 ≡ highest f i t
 unfolding highest
 highest-start f i t = refl
+
+pub swept-start : (s : Scale) (P : ℕ → Place) (rows scratch : List ℕ) (t : ℕ) → iter (raised (sweptPlace s P rows scratch)) 0 t 0 ≡ swept s P rows scratch t
+unfolding swept highest
+swept-start s P rows scratch t = refl
+
+pub reach-made : (s : Scale) (P : ℕ → Place) (rows scratch : List ℕ) (i v c r : ℕ) → v ≡ high (s .tall) P (rowAt rows i) → c ≡ column s v → r ≡ getD scratch c 0 → r ≡ reach s P rows scratch i
+unfolding reach
+reach-made s P rows scratch i v c r e f g = g ∙ ap (λ x. getD scratch x 0) (f ∙ ap (column s) e)
+
+pub column-inside : (s : Scale) (v c l : ℕ) → c ≡ column s v → 0 < s .count → s .count ≤ l → c < l
+column-inside s v c l e h k = let b = column-below s v h in omega arith

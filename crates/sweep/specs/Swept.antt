@@ -29,7 +29,15 @@ pub data SomeTwo (P : ℕ → Place) (rows : List ℕ) (t r : ℕ) : Type 0 wher
   none : r ≡ 0 → SomeTwo P rows t r
   two : (i j : ℕ) → i < t → j < t → i ≢ j → grave P (rowAt rows i) (rowAt rows j) ≡ r → SomeTwo P rows t r
 
-module _ (s : Scale) (P : ℕ → Place) (rows scratch : List ℕ) (t : ℕ) (o : Ordered s P rows scratch t) (wide : 0 < s .width) (some : 0 < s .count) where
+module _ (s : Scale) (P : ℕ → Place) (rows scratch : List ℕ) (t : ℕ) (o : Ordered s P rows scratch t) (some : 0 < s .count) where
+  reach-is : (i : ℕ) → reach s P rows scratch i ≡ before (home s P rows) t (column s (high (s .tall) P (rowAt rows i)) + 1)
+  unfolding reach
+  reach-is i = o .ends (column s (high (s .tall) P (rowAt rows i))) (column-below s (high (s .tall) P (rowAt rows i)) some)
+
+  pub reach-most : (i : ℕ) → reach s P rows scratch i ≤ t
+  reach-most i = rw (reach-is i) (before-most (home s P rows) t (column s (high (s .tall) P (rowAt rows i)) + 1))
+
+module _ (s : Scale) (P : ℕ → Place) (rows scratch : List ℕ) (t : ℕ) (o : Ordered s P rows scratch t) (some : 0 < s .count) where
   abbrev box : ℕ → Boxed
   box = boxAt scratch (s .count)
 
@@ -42,13 +50,9 @@ module _ (s : Scale) (P : ℕ → Place) (rows scratch : List ℕ) (t : ℕ) (o 
   abbrev graveOf : ℕ → ℕ → ℕ
   graveOf i j = grave P (rowAt rows i) (rowAt rows j)
 
-  reach-is : (i : ℕ) → reach s P rows scratch i ≡ before h t (column s (high (s .tall) P (rowAt rows i)) + 1)
-  unfolding reach
-  reach-is i = o .ends (column s (high (s .tall) P (rowAt rows i))) (column-below s (high (s .tall) P (rowAt rows i)) some)
-
   -- ---- no two rows are graver
 
-  module _ (sound : (i : ℕ) → i < t → Sound P (rowAt rows i)) where
+  module _ (wide : 0 < s .width) (sound : (i : ℕ) → i < t → Sound P (rowAt rows i)) where
     -- the boxes of rows that are grave meet, along both axes
     reaches : (y : Bool) (i j : ℕ) → i < t → j < t → 0 < graveOf i j → low y P (rowAt rows j) ≤ high y P (rowAt rows i)
     reaches y i j a b g = go (decLt (high y P (rowAt rows i)) (low y P (rowAt rows j)))
@@ -65,7 +69,7 @@ module _ (s : Scale) (P : ℕ → Place) (rows scratch : List ℕ) (t : ℕ) (o 
     unfolding home
     in-reach i j a b g =
         let c = column-mono s (low (s .tall) P (rowAt rows j)) (high (s .tall) P (rowAt rows i)) wide (reaches (s .tall) i j a b g) in
-        rw (reach-is i) (before-last c)
+        rw (reach-is s P rows scratch t o some i) (before-last c)
       where
         before-last : column s (low (s .tall) P (rowAt rows j)) ≤ column s (high (s .tall) P (rowAt rows i)) → at j < before h t (column s (high (s .tall) P (rowAt rows i)) + 1)
         before-last c = omega (arith, rank-below h t j b, before-mono h t (column s (low (s .tall) P (rowAt rows j)) + 1) (column s (high (s .tall) P (rowAt rows i)) + 1) (omega arith))
@@ -121,8 +125,7 @@ module _ (s : Scale) (P : ℕ → Place) (rows scratch : List ℕ) (t : ℕ) (o 
           → SomeTwo P rows t r
       go (inl z) = none (sym e ∙ z)
       go (inr w) =
-          let l = reach-is (box p .row) in
-          let u = before-most h t (column s (high (s .tall) P (rowAt rows (box p .row))) + 1) in
+          let l = reach-most s P rows scratch t o some (box p .row) in
           visit-met p (w .0) r a (omega (arith, w .2)) (w .3 ∙ e)
 
   pub swept-met : SomeTwo P rows t (swept s P rows scratch t)

@@ -74,8 +74,8 @@ module _ (nodes : List ℤ) (rows : List ℕ) (n t : ℕ) (law : Lawful (meshAt 
     gravest = record {
       most = λ i j l h.
           (let b : j < t = rw count-rows at h in
-          rw (grave-is i j (omega arith) b) (swept-most s (placeAt nodes) rows scratch t o wide some (sound fit) i j (omega arith) b (omega arith)));
-      met = go (swept-met s (placeAt nodes) rows scratch t o wide some);
+          rw (grave-is i j (omega arith) b) (swept-most s (placeAt nodes) rows scratch t o some wide (sound fit) i j (omega arith) b (omega arith)));
+      met = go (swept-met s (placeAt nodes) rows scratch t o some);
     }
       where
         go : {r : ℕ} → SomeTwo (placeAt nodes) rows t r → Met m r

@@ -86,17 +86,17 @@ module _ (P : ℕ → Place) where
 
   pub across : (t : Tri) → All (Across t) (arrows t)
   across t = cons (record {
-      apex = t .r;
-      area-is = refl;
-      only = cons (λ n m. absurd (n refl)) (cons (λ n m. absurd (m refl)) (cons (λ n m. refl) nil));
+    apex = t .r;
+    area-is = refl;
+    only = cons (λ n m. absurd (n refl)) (cons (λ n m. absurd (m refl)) (cons (λ n m. refl) nil));
   }) (cons (record {
-      apex = t .p;
-      area-is = sym (turn-cycle (P (t .p)) (P (t .q)) (P (t .r)));
-      only = cons (λ n m. refl) (cons (λ n m. absurd (n refl)) (cons (λ n m. absurd (m refl)) nil));
+    apex = t .p;
+    area-is = sym (turn-cycle (P (t .p)) (P (t .q)) (P (t .r)));
+    only = cons (λ n m. refl) (cons (λ n m. absurd (n refl)) (cons (λ n m. absurd (m refl)) nil));
   }) (cons (record {
-      apex = t .q;
-      area-is = turn-cycle (P (t .r)) (P (t .p)) (P (t .q));
-      only = cons (λ n m. absurd (m refl)) (cons (λ n m. refl) (cons (λ n m. absurd (n refl)) nil));
+    apex = t .q;
+    area-is = turn-cycle (P (t .r)) (P (t .p)) (P (t .q));
+    only = cons (λ n m. absurd (m refl)) (cons (λ n m. refl) (cons (λ n m. absurd (n refl)) nil));
   }) nil))
 
   -- a corner of a row with an area is on no side of its own

@@ -1,12 +1,22 @@
 // W7: the rows of a lawful mesh compared two by two, those alone whose boxes can meet: how grave it is.
 ghost use mathlib.Core.Path.{_≡_};
-ghost use Prim.Native.Nat.{ℕ, _+_, _*_, _≤_, _<_};
+ghost use Prim.Native.Nat.{ℕ, _+_, _*_, _≤_, _<_, max};
 ghost use lib.ListN.{length};
 ghost use Rattle.meaning.specs.Tables.{placeAt};
 ghost use Rattle.sweep.specs.Highest.{raised, highest};
-ghost use Rattle.sweep.specs.Sweep.{compared, visited};
-ghost use Rattle.sweep.specs.Lined.{Known, KnownAt};
+ghost use Rattle.sweep.specs.Sweep.{compared, visited, reach, sweptPlace, swept};
+ghost use Rattle.sweep.specs.Lined.{Known, KnownAt, Lined, LinedAt};
 use columns::Boxed;
+use columns::Scale;
+
+fn graver(worst: u32, k: u32) -> u32
+    ensures { λ r. ⌜ r ≡ max worst k ⌝ }
+{
+    if k > worst {
+        return k;
+    }
+    worst
+}
 
 // 2, 1 or 0, as `pairs::grave_at` says; 0 where the extents of the two do not meet.
 fn compare(nodes: &[i32], rows: &[u32], b: Boxed, c: Boxed) -> u32
@@ -36,11 +46,8 @@ fn visit(
     requires { ⌜ KnownAt (now nodes) (now rows) (now scratch) o q ⌝ }
     ensures { λ r. ⌜ r ≡ raised (visited (placeAt (now (nodes .entry))) (now (rows .entry)) (now (scratch .entry)) o b) q worst ⌝ }
 {
-    let k = compare(nodes, rows, b, columns::box_at(scratch, o, q));
-    if k > worst {
-        return k;
-    }
-    worst
+    let c = columns::box_at(scratch, o, q);
+    graver(worst, compare(nodes, rows, b, c))
 }
 
 // The gravest of the row at b and those at the places from first to last - 1.
@@ -62,6 +69,45 @@ fn worst_behind(
     while q < last {
         worst = visit(nodes, rows, scratch, o, b, q, worst);
         q += 1;
+    }
+    worst
+}
+
+// ---- all places
+
+// Where the last column that row i reaches ends.
+fn reach_of(nodes: &[i32], rows: &[u32], scratch: &[u32], s: Scale, i: usize) -> usize
+    requires { ⌜ Known (now nodes) (now rows) i ⌝ }
+    requires { ⌜ 0 < s .width ⌝ }
+    requires { ⌜ 0 < s .count ⌝ }
+    requires { ⌜ s .count ≤ length (now scratch) ⌝ }
+    ensures { λ r. ⌜ r ≡ reach s (placeAt (now (nodes .entry))) (now (rows .entry)) (now (scratch .entry)) i ⌝ }
+{
+    let c = columns::column(s, columns::high(nodes, rows, s.tall, i));
+    columns::end_of(scratch, c)
+}
+
+// The row at place p and those behind it, if that is graver than the worst so far.
+fn sweep_place(nodes: &[i32], rows: &[u32], scratch: &[u32], s: Scale, p: usize, worst: u32) -> u32
+    requires { ⌜ LinedAt s (now nodes) (now rows) (now scratch) p ⌝ }
+    ensures { λ r. ⌜ r ≡ raised (sweptPlace s (placeAt (now (nodes .entry))) (now (rows .entry)) (now (scratch .entry))) p worst ⌝ }
+{
+    let b = columns::box_at(scratch, s.count, p);
+    let last = reach_of(nodes, rows, scratch, s, b.row as usize);
+    let k = worst_behind(nodes, rows, scratch, s.count, b, p + 1, last);
+    graver(worst, k)
+}
+
+// Rows that stand in order.
+fn sweep(nodes: &[i32], rows: &[u32], scratch: &[u32], s: Scale, t: usize) -> u32
+    requires { ⌜ Lined s (now nodes) (now rows) (now scratch) t ⌝ }
+    ensures { λ r. ⌜ r ≡ swept s (placeAt (now (nodes .entry))) (now (rows .entry)) (now (scratch .entry)) t ⌝ }
+{
+    let mut worst = 0;
+    let mut p = 0;
+    while p < t {
+        worst = sweep_place(nodes, rows, scratch, s, p, worst);
+        p += 1;
     }
     worst
 }

@@ -9,9 +9,6 @@ use mathlib.Core.Path.{_≡_}
 use borrow.Author.Needs.{needs}
 use Rattle.sweep.proofs.worst_behind.Statement.{statement}
 use Rattle.sweep.proofs.worst_behind.Tie as tie
-use Rattle.sweep.proofs.worst_behind.Reads as reads
-use Rattle.sweep.proofs.worst_behind.Lts as lts
-use Rattle.sweep.proofs.visit.Reads as visit-reads
 
 abbrev Inv-loop : tie.InvT-loop
 Inv-loop nodes rows scratch o b first last worst₀ q₀ worst q = iter (raised (visited (placeAt nodes) rows scratch o b)) q last worst ≡ highest (visited (placeAt nodes) rows scratch o b) first last
@@ -19,31 +16,20 @@ Inv-loop nodes rows scratch o b first last worst₀ q₀ worst q = iter (raised 
 abbrev μ-loop : tie.MeasureT-loop
 μ-loop nodes rows scratch o b first last worst₀ q₀ worst q = last - q
 
--- src/lib.rt:62:5
 loop-holds : tie.Need-loop-holds Inv-loop μ-loop
 loop-holds c = search (needs, highest-start)
 
--- src/lib.rt:63:9
 visit-requires : tie.Need-visit-requires Inv-loop μ-loop
 visit-requires c κs = (search needs, c .before .before .before .before .pre .1 _ (c .loop-test .taken))
 
--- src/lib.rt:64:9
-add-q : tie.Need-add-q Inv-loop μ-loop
-add-q c = search needs
-
--- src/lib.rt:62:5
-loop-less : tie.Need-loop-less Inv-loop μ-loop
-loop-less c = search needs
-
--- src/lib.rt:62:5
 loop-again : tie.Need-loop-again Inv-loop μ-loop
 loop-again c = search (needs, looping)
 
--- src/lib.rt:47:1
 returns : tie.Need-returns Inv-loop μ-loop
 returns c = search (needs, looping)
 
 pub worst-behind-spec : {M : Type 1} → statement M
 worst-behind-spec =
     tie.close
-    (tie.spec Inv-loop μ-loop loop-holds visit-requires add-q loop-less loop-again returns)
+    (tie.spec
+    Inv-loop μ-loop loop-holds visit-requires (λ c. search needs) (λ c. search needs) loop-again returns)

@@ -28,7 +28,10 @@ pub fn extent_of(nodes: &[i32], n: usize, y: bool) -> Extent
     ensures { λ r. ⌜ Reaches r ⌝ }
 {
     let first = crate::coords::along(y, tables::place_at(nodes, 0));
-    let mut e = Extent { least: first, most: first };
+    let mut e = Extent {
+        least: first,
+        most: first,
+    };
     let mut k = 1;
     while k < n {
         e = wider(e, crate::coords::along(y, tables::place_at(nodes, k)));

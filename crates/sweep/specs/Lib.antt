@@ -6,5 +6,5 @@ pub mod Boxes
 pub mod Highest
 pub mod Sweep
 pub mod Swept
-pub mod SweptMesh
 pub mod Lined
+pub mod SweptMesh

@@ -1,7 +1,7 @@
 -- W7: the mesh in the tables: what the sweep of its rows gives is its severity. Assumes nothing.
 use mathlib.Core.List.{List}
-use mathlib.Core.Path.{_≡_, sym, ap, subst, _∙_}
-use Prim.Native.Nat.{ℕ, _*_, _≤_, _<_}
+use mathlib.Core.Path.{_≡_, refl, sym, ap, subst, _∙_}
+use Prim.Native.Nat.{ℕ, _+_, _*_, _≤_, _<_}
 use native.Mathlib.Omega.{arith}
 use lib.IntN.{ℤ, pos}
 use lib.ListN.{length}
@@ -24,6 +24,7 @@ use Rattle.sweep.specs.Boxes.{Sound}
 use Rattle.sweep.specs.Severity.{severity, graveOf, Met, Gravest}
 use Rattle.sweep.specs.Gravest.{gravest-is}
 use Rattle.sweep.specs.Sweep.{swept}
+use Rattle.sweep.specs.Lined.{Lined}
 use Rattle.sweep.specs.Swept.{SomeTwo, swept-most, swept-met}
 
 -- the corners of a row are at the same places
@@ -85,3 +86,29 @@ module _ (nodes : List ℤ) (rows : List ℕ) (n t : ℕ) (law : Lawful (meshAt 
     -- THE SWEEP GIVES THE SEVERITY
     pub swept-is : swept s (placeAt nodes) rows scratch t ≡ severity m
     swept-is = gravest-is m law (swept s (placeAt nodes) rows scratch t) gravest
+
+  -- ---- in the form of the needs of code
+
+  -- no rows, nothing grave
+  pub severity-none : t ≡ 0 → 0 ≡ severity m
+  severity-none z = gravest-is m law 0 (record { most = λ i j l h. (let e = count-rows in absurd (omega arith)); met = Met.none refl })
+
+  pub some-node : (t ≡ 0 → ⊥) → 0 < n
+  some-node some = let N = row-named nodes rows n t law 0 (omega arith) in omega (arith, N .p-below)
+
+  pub some-column : (t ≡ 0 → ⊥) → (c : ℕ) → c ≡ n → 0 < c
+  some-column some c e = rw e (some-node some)
+
+  module _ (fit : 4 * n ≤ length nodes) (s : Scale) (count : s .count ≡ n) (wide : 0 < s .width) (some : t ≡ 0 → ⊥) (scratch : List ℕ) (o : Ordered s (placeAt nodes) rows scratch t) where
+    pub all-lined : 3 * t ≤ length rows → (len : ℕ) → n + 3 * t ≤ len → length scratch ≡ len → Lined s nodes rows scratch t
+    all-lined room len places long = record {
+      ordered = o;
+      wide = wide;
+      some = some-column some (s .count) count;
+      places = rw (count, long) places;
+      room = room;
+      stands = row-stands nodes rows n t law fit;
+    }
+
+    pub severity-swept : (r : ℕ) → r ≡ swept s (placeAt nodes) rows scratch t → r ≡ severity m
+    severity-swept r e = e ∙ swept-is fit s scratch o wide (some-column some (s .count) count)

@@ -1,8 +1,11 @@
 // W7: the rows of a lawful mesh compared two by two, those alone whose boxes can meet: how grave it is.
 ghost use mathlib.Core.Path.{_≡_};
 ghost use Prim.Native.Nat.{ℕ, _+_, _*_, _≤_, _<_, max};
-ghost use lib.ListN.{length};
+ghost use lib.ListN.{length, replicate};
+ghost use Rattle.meaning.specs.Lawful.{Lawful};
 ghost use Rattle.meaning.specs.Tables.{placeAt};
+ghost use Rattle.laws.specs.Meshes.{meshAt};
+ghost use Rattle.sweep.specs.Severity.{severity};
 ghost use Rattle.sweep.specs.Highest.{raised, highest};
 ghost use Rattle.sweep.specs.Sweep.{compared, visited, reach, sweptPlace, swept};
 ghost use Rattle.sweep.specs.Lined.{Known, KnownAt, Lined, LinedAt};
@@ -110,4 +113,24 @@ fn sweep(nodes: &[i32], rows: &[u32], scratch: &[u32], s: Scale, t: usize) -> u3
         p += 1;
     }
     worst
+}
+
+// ---- a lawful mesh
+
+// 2: it draws 11; 1: it draws 12, and not 11; 0: neither. Scratch is all zero before; what it holds after does not matter.
+pub fn severity(nodes: &[i32], rows: &[u32], scratch: &mut [u32], n: usize, t: usize) -> u32
+    requires { ⌜ Lawful (meshAt (now nodes) (now rows) n t) ⌝ }
+    requires { ⌜ 4 * n ≤ length (now nodes) ⌝ }
+    requires { ⌜ 3 * t ≤ length (now rows) ⌝ }
+    requires { ⌜ t ≤ 262_144 ⌝ }
+    requires { ⌜ n + 3 * t ≤ length (now scratch) ⌝ }
+    requires { ⌜ now scratch ≡ replicate (length (now scratch)) 0 ⌝ }
+    ensures { λ r. ⌜ r ≡ severity (meshAt (now (nodes .entry)) (now (rows .entry)) n t) ⌝ }
+{
+    if t == 0 {
+        return 0;
+    }
+    let s = columns::scale_of(nodes, n);
+    columns::order(nodes, rows, scratch, s, t);
+    sweep(nodes, rows, scratch, s, t)
 }

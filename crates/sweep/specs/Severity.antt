@@ -1,0 +1,28 @@
+-- W7: how grave it is of a whole mesh, by its tests and by its rows two by two. Definitions. Assumes nothing.
+use mathlib.Core.Logic.{_≢_}
+use mathlib.Core.Path.{_≡_}
+use Prim.Native.Nat.{ℕ, _≤_, _<_}
+use lib.ListN.{length}
+use Rattle.lists.specs.Lists.{cases}
+use Rattle.meaning.specs.Mesh.{Mesh, at}
+use Rattle.meaning.specs.Lawful.{rowOf}
+use Rattle.meaning.specs.Proper.{uncrowded, disjoint}
+use Rattle.pairs.specs.Pair.{grave}
+
+-- 2: 11 is drawn; 1: 12 is, and not 11; 0: neither
+unfoldable pub severity : Mesh → ℕ
+severity m = cases (uncrowded m) (cases (disjoint m) 0 1) 2
+
+-- rows i and j of the mesh
+abbrev pub graveOf : Mesh → ℕ → ℕ → ℕ
+graveOf m i j = grave (at m) (rowOf (m .tris) i) (rowOf (m .tris) j)
+
+-- r is 0, or how grave it is of some two rows
+pub data Met (m : Mesh) (r : ℕ) : Type 0 where
+  none : r ≡ 0 → Met m r
+  of-rows : (i j : ℕ) → i < length (m .tris) → j < length (m .tris) → i ≢ j → graveOf m i j ≡ r → Met m r
+
+-- r is the gravest of any two rows
+pub record Gravest (m : Mesh) (r : ℕ) : Type 0 where
+  pub most : (i j : ℕ) → i < j → j < length (m .tris) → graveOf m i j ≤ r
+  pub met : Met m r

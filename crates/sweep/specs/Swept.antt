@@ -1,0 +1,137 @@
+-- W7: rows that stand in order, compared where their boxes meet, give the gravest of any two. Assumes nothing.
+use mathlib.Core.Bool.{Bool, true, false, not, _&&_}
+use mathlib.Core.List.{List}
+use mathlib.Core.Logic.{_⊎_, inl, inr, _≢_}
+use mathlib.Core.Path.{_≡_, refl, sym, ap, ap₂, _∙_}
+use Prim.Native.Nat.{ℕ, zero, suc, _+_, _≤_, _<_}
+use native.Mathlib.Omega.{arith}
+use native.Mathlib.Decide.{decLt, ℕ-discrete}
+use borrow.Author.Tests.{le-leb, ne-eqb, eqb-false}
+use lib.Dec.{eqb, leb}
+use lib.ListN.{getD}
+use Rattle.lists.specs.Lists.{cases}
+use Rattle.lists.specs.ListsLaw.{and-both}
+use Rattle.meaning.specs.declared.Place.{Place}
+use Rattle.meaning.specs.declared.Tri.{Tri}
+use Rattle.meaning.specs.Tables.{rowAt}
+use Rattle.pairs.specs.Pair.{grave, graveAt}
+use Rattle.pairs.specs.SeenLaw.{grave-sym}
+use Rattle.columns.specs.declared.Scale.{Scale}
+use Rattle.columns.specs.declared.Boxed.{Boxed}
+use Rattle.columns.specs.Columns.{low, high, column, home, before, rank, boxAt, boxOf, Ordered}
+use Rattle.columns.specs.Rank.{before-most, before-mono, rank-below, rank-most, rank-apart, column-mono, column-below}
+use Rattle.sweep.specs.Boxes.{Sound, boxes-clear}
+use Rattle.sweep.specs.Highest.{highest, highest-most, highest-met}
+use Rattle.sweep.specs.Sweep.{meeting, compared, visited, reach, sweptPlace, swept}
+
+-- some two rows are as grave as r, or r is 0
+pub data SomeTwo (P : ℕ → Place) (rows : List ℕ) (t r : ℕ) : Type 0 where
+  none : r ≡ 0 → SomeTwo P rows t r
+  two : (i j : ℕ) → i < t → j < t → i ≢ j → grave P (rowAt rows i) (rowAt rows j) ≡ r → SomeTwo P rows t r
+
+module _ (s : Scale) (P : ℕ → Place) (rows scratch : List ℕ) (t : ℕ) (o : Ordered s P rows scratch t) (some : 0 < s .count) where
+  reach-is : (i : ℕ) → reach s P rows scratch i ≡ before (home s P rows) t (column s (high (s .tall) P (rowAt rows i)) + 1)
+  unfolding reach
+  reach-is i = o .ends (column s (high (s .tall) P (rowAt rows i))) (column-below s (high (s .tall) P (rowAt rows i)) some)
+
+  pub reach-most : (i : ℕ) → reach s P rows scratch i ≤ t
+  reach-most i = rw (reach-is i) (before-most (home s P rows) t (column s (high (s .tall) P (rowAt rows i)) + 1))
+
+module _ (s : Scale) (P : ℕ → Place) (rows scratch : List ℕ) (t : ℕ) (o : Ordered s P rows scratch t) (some : 0 < s .count) where
+  abbrev box : ℕ → Boxed
+  box = boxAt scratch (s .count)
+
+  abbrev h : ℕ → ℕ
+  h = home s P rows
+
+  abbrev at : ℕ → ℕ
+  at = rank h t
+
+  abbrev graveOf : ℕ → ℕ → ℕ
+  graveOf i j = grave P (rowAt rows i) (rowAt rows j)
+
+  -- ---- no two rows are graver
+
+  module _ (wide : 0 < s .width) (sound : (i : ℕ) → i < t → Sound P (rowAt rows i)) where
+    -- the boxes of rows that are grave meet, along both axes
+    reaches : (y : Bool) (i j : ℕ) → i < t → j < t → 0 < graveOf i j → low y P (rowAt rows j) ≤ high y P (rowAt rows i)
+    reaches y i j a b g = go (decLt (high y P (rowAt rows i)) (low y P (rowAt rows j)))
+      where
+        go : Dec (high y P (rowAt rows i) < low y P (rowAt rows j)) → low y P (rowAt rows j) ≤ high y P (rowAt rows i)
+        go (yes l) = let z = boxes-clear y P (rowAt rows i) (rowAt rows j) (sound i a) (sound j b) l in absurd (omega arith)
+        go (no l) = omega arith
+
+    back : (i j : ℕ) → 0 < graveOf i j → 0 < graveOf j i
+    back i j g = rw (grave-sym P (rowAt rows j) (rowAt rows i)) g
+
+    -- row j begins in a column that row i reaches
+    in-reach : (i j : ℕ) → i < t → j < t → 0 < graveOf i j → at j < reach s P rows scratch i
+    unfolding home
+    in-reach i j a b g =
+        let c = column-mono s (low (s .tall) P (rowAt rows j)) (high (s .tall) P (rowAt rows i)) wide (reaches (s .tall) i j a b g) in
+        rw (reach-is s P rows scratch t o some i) (before-last c)
+      where
+        before-last : column s (low (s .tall) P (rowAt rows j)) ≤ column s (high (s .tall) P (rowAt rows i)) → at j < before h t (column s (high (s .tall) P (rowAt rows i)) + 1)
+        before-last c = omega (arith, rank-below h t j b, before-mono h t (column s (low (s .tall) P (rowAt rows j)) + 1) (column s (high (s .tall) P (rowAt rows i)) + 1) (omega arith))
+
+    visit-is : (i j : ℕ) → i < t → j < t → i ≢ j → 0 < graveOf i j → visited P rows scratch (s .count) (box (at i)) (at j) ≡ graveOf i j
+    unfolding compared boxOf graveAt
+    visit-is i j a b n g =
+        ap₂ (compared P rows) (o .standing i a) (o .standing j b)
+        ∙ ap (λ c. cases c (graveAt P rows i j) 0) meets ∙ different
+      where
+        meets : meeting (boxOf s P rows i) (boxOf s P rows j) ≡ true
+        meets = and-both (le-leb _ _ (reaches (not (s .tall)) i j a b g)) (le-leb _ _ (reaches (not (s .tall)) j i b a (back i j g)))
+
+        different : graveAt P rows i j ≡ graveOf i j
+        different = rw (ne-eqb i j n)
+
+    -- the one that stands first meets the other
+    ordered-most : (i j : ℕ) → i < t → j < t → i ≢ j → at i < at j → 0 < graveOf i j → graveOf i j ≤ swept s P rows scratch t
+    unfolding swept sweptPlace boxOf
+    ordered-most i j a b n l g =
+        let v = visit-is i j a b n g in
+        let r : reach s P rows scratch (box (at i) .row) ≡ reach s P rows scratch i = ap (λ (c : Boxed). reach s P rows scratch (c .row)) (o .standing i a) in
+        let x = highest-most (visited P rows scratch (s .count) (box (at i))) (at i + 1) (reach s P rows scratch (box (at i) .row)) (at j) (omega arith) (omega (arith, in-reach i j a b g)) in
+        let y = highest-most (sweptPlace s P rows scratch) 0 t (at i) (omega arith) (rank-most h t i a) in
+        omega arith
+
+    pub swept-most : (i j : ℕ) → i < t → j < t → i ≢ j → graveOf i j ≤ swept s P rows scratch t
+    swept-most i j a b n = go (decLt 0 (graveOf i j)) (decLt (at i) (at j)) (ℕ-discrete (at i) (at j))
+      where
+        go : Dec (0 < graveOf i j) → Dec (at i < at j) → Dec (at i ≡ at j) → graveOf i j ≤ swept s P rows scratch t
+        go (no g) d e = omega arith
+        go (yes g) (yes d) e = ordered-most i j a b n d g
+        go (yes g) (no d) (yes e) = absurd (n (rank-apart h t i j a b e))
+        go (yes g) (no d) (no e) = rw (grave-sym P (rowAt rows i) (rowAt rows j)) (ordered-most j i b a (λ q. n (sym q)) (omega arith) (back i j g))
+
+  -- ---- some two rows are as grave
+
+  visit-met : (p q r : ℕ) → p < t → q < t → visited P rows scratch (s .count) (box p) q ≡ r → SomeTwo P rows t r
+  unfolding compared graveAt
+  visit-met p q r a b e = go (meeting (box p) (box q)) (eqb (box p .row) (box q .row)) refl e
+    where
+      go : (c d : Bool) → eqb (box p .row) (box q .row) ≡ d → cases c (cases d 0 (graveOf (box p .row) (box q .row))) 0 ≡ r → SomeTwo P rows t r
+      go false d n e = none (sym e)
+      go true true n e = none (sym e)
+      go true false n e = two (box p .row) (box q .row) (o .naming p a) (o .naming q b) (eqb-false (box p .row) (box q .row) n) e
+
+  place-met : (p r : ℕ) → p < t → sweptPlace s P rows scratch p ≡ r → SomeTwo P rows t r
+  unfolding sweptPlace
+  place-met p r a e = go (highest-met (visited P rows scratch (s .count) (box p)) (p + 1) (reach s P rows scratch (box p .row)))
+    where
+      go : (highest (visited P rows scratch (s .count) (box p)) (p + 1) (reach s P rows scratch (box p .row)) ≡ 0)
+          ⊎ ((q : ℕ) × (p + 1 ≤ q) × (q < reach s P rows scratch (box p .row)) × (visited P rows scratch (s .count) (box p) q ≡ highest (visited P rows scratch (s .count) (box p)) (p + 1) (reach s P rows scratch (box p .row))))
+          → SomeTwo P rows t r
+      go (inl z) = none (sym e ∙ z)
+      go (inr w) =
+          let l = reach-most s P rows scratch t o some (box p .row) in
+          visit-met p (w .0) r a (omega (arith, w .2)) (w .3 ∙ e)
+
+  pub swept-met : SomeTwo P rows t (swept s P rows scratch t)
+  unfolding swept
+  swept-met = go (highest-met (sweptPlace s P rows scratch) 0 t)
+    where
+      go : (highest (sweptPlace s P rows scratch) 0 t ≡ 0) ⊎ ((p : ℕ) × (0 ≤ p) × (p < t) × (sweptPlace s P rows scratch p ≡ highest (sweptPlace s P rows scratch) 0 t)) → SomeTwo P rows t (highest (sweptPlace s P rows scratch) 0 t)
+      go (inl z) = none z
+      go (inr w) = place-met (w .0) (highest (sweptPlace s P rows scratch) 0 t) (w .2) (w .3)

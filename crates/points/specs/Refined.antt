@@ -104,14 +104,17 @@ module _ (m : Mesh) (start : List Edge) (law : Lawful m) (exact : all (halves m)
     where
       -- of a part of what a node carries
       carried : (part : Correction → ℤ) → ((c d : Correction) → part (mean c d) ≡ floor (part c +ℤ part d) (pos 2)) →
-          All (λ e. even (part (nodeOf m (e .lo) .correction) +ℤ part (nodeOf m (e .hi) .correction)) ≡ true) S → (a b : ℕ) → a < n → b < n → Mean (λ k. part (nodeOf After k .correction)) a b (num a b)
+          All (λ e. even (part (nodeOf m (e .lo) .correction) +ℤ part (nodeOf m (e .hi) .correction)) ≡ true) S →
+          (a b : ℕ) → a < n → b < n → Mean (λ k. part (nodeOf After k .correction)) a b (num a b)
       carried part is evens =
           mean-if (λ k. part (nodeOf m k .correction)) (λ k. part (nodeOf After k .correction)) n S (λ k l. ap (λ (d : Node). part (d .correction)) (split-old bisected m start k l))
-          (λ i l. ap (λ (d : Node). part (d .correction)) (split-new bisected m start i (edge 0 0) l) ∙ is (nodeOf m (getD S i (edge 0 0) .lo) .correction) (nodeOf m (getD S i (edge 0 0) .hi) .correction)) evens
+          (λ i l. ap (λ (d : Node). part (d .correction)) (split-new bisected m start i (edge 0 0) l)
+          ∙ is (nodeOf m (getD S i (edge 0 0) .lo) .correction) (nodeOf m (getD S i (edge 0 0) .hi) .correction)) evens
 
       halfway : (a b : ℕ) → a < n → b < n → MidOf After a b (num a b) → HalfwayIf After a b (num a b)
       halfway a b ha hb h =
-          halfway-if After a b (num a b) h (carried (λ c. c .dx) (λ c d. refl) (All-imp (λ e x. x .even-dx) evens) a b ha hb) (carried (λ c. c .dy) (λ c d. refl) (All-imp (λ e x. x .even-dy) evens) a b ha hb)
+          halfway-if After a b (num a b) h
+          (carried (λ c. c .dx) (λ c d. refl) (All-imp (λ e x. x .even-dx) evens) a b ha hb) (carried (λ c. c .dy) (λ c d. refl) (All-imp (λ e x. x .even-dy) evens) a b ha hb)
 
   -- the nodes of a row stay as they are
   corners-stay : (t : Tri) → Named (length (m .nodes)) t → SameCorners m After t

@@ -46,7 +46,7 @@ module _ (A B P : Place) (apart : pos 0 <ℤ len A B) where
       }
 
   pub between-inside : Between A B P → StrictlyInside A B P
-  between-inside w = inside-of-along A B P flat apart (above-of-mul (pos (w .α + w .β)) (along A B P) weight (rw far (positive-times (pos (w .β)) (len A B) (omega (arith, onℤ, w .β-above)) apart))) near
+  between-inside w = inside-of-along A B P flat apart past near
     where
       weight : pos 0 <ℤ pos (w .α + w .β)
       weight = omega (arith, onℤ, w .α-above)
@@ -61,6 +61,9 @@ module _ (A B P : Place) (apart : pos 0 <ℤ len A B) where
       far = combine₂ (B .x -ℤ A .x) (B .y -ℤ A .y) (w .on-x) (w .on-y)
           (ring8 (λ a b c d e f s t. ((s :+ t) :* Along a b c d e f :- t :* Along a b c d c d, (c :- a) :* ((s :+ t) :* e :- (s :* a :+ t :* c)) :+ (d :- b) :* ((s :+ t) :* f :- (s :* b :+ t :* d))))
           (A .x) (A .y) (B .x) (B .y) (P .x) (P .y) (pos (w .α)) (pos (w .β)) tt)
+
+      past : pos 0 <ℤ along A B P
+      past = above-of-mul (pos (w .α + w .β)) (along A B P) weight (rw far (positive-times (pos (w .β)) (len A B) (omega (arith, onℤ, w .β-above)) apart))
 
       rest : pos (w .α + w .β) *ℤ (len A B -ℤ along A B P) ≡ pos (w .α) *ℤ len A B
       rest = combine₁ (pos 0 -ℤ pos 1) far

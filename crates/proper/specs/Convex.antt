@@ -31,7 +31,7 @@ val f s = f .a *ℤ s .X +ℤ f .b *ℤ s .Y +ℤ f .c *ℤ s .W
 pub val-sum : (f : Form) (s t : Point) → val f (s ⊕ t) ≡ val f s +ℤ val f t
 unfolding val
 val-sum f s t =
-    ring9 (λ a b c x y w x' y' w'. (a :* (x :+ x') :+ b :* (y :+ y') :+ c :* (w :+ w'), (a :* x :+ b :* y :+ c :* w) :+ (a :* x' :+ b :* y' :+ c :* w')))
+    ring9 (λ a b c x y w x′ y′ w′. (a :* (x :+ x′) :+ b :* (y :+ y′) :+ c :* (w :+ w′), (a :* x :+ b :* y :+ c :* w) :+ (a :* x′ :+ b :* y′ :+ c :* w′)))
     (f .a) (f .b) (f .c) (s .X) (s .Y) (s .W) (t .X) (t .Y) (t .W) tt
 
 pub val-times : (f : Form) (n : ℤ) (s : Point) → val f (n ⊙ s) ≡ n *ℤ val f s

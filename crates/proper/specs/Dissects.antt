@@ -1,7 +1,7 @@
 -- What the cut of one triangle must promise besides the laws of a cut, so that splitting keeps a mesh proper: the children are parts of
 -- the father, no child has both ends of a split edge, and a point's weights in the father tell its weights in whatever child it is in, so
 -- no two children overlap. Bisection has this. Assumes nothing.
-use mathlib.Core.List.{[], _∷_}
+use mathlib.Core.List.{List, [], _∷_}
 use mathlib.Core.Logic.{_⊎_, inl, inr}
 use mathlib.Core.Option.{Option, none, some}
 use mathlib.Core.Path.{_≡_, refl}
@@ -73,9 +73,14 @@ Nine = Expr → Expr → Expr → Expr → Expr → Expr → Expr → Expr → E
 abbrev at-nine : Nine → Expr × Expr
 at-nine q = q (X 0) (X 1) (X 2) (X 3) (X 4) (X 5) (X 6) (X 7) (X 8)
 
-nine : (t : Tri) (m u v a b c : ℕ) (φ : ℕ → ℤ) (q : Nine)
-    → Checks (pos a ∷ pos b ∷ pos c ∷ φ (t .p) ∷ φ (t .q) ∷ φ (t .r) ∷ φ m ∷ φ u ∷ φ v ∷ []) (at-nine q) → Holds (pos a ∷ pos b ∷ pos c ∷ φ (t .p) ∷ φ (t .q) ∷ φ (t .r) ∷ φ m ∷ φ u ∷ φ v ∷ []) (at-nine q)
+abbrev numbers : Tri → ℕ → ℕ → ℕ → ℕ → ℕ → ℕ → (ℕ → ℤ) → List ℤ
+numbers t m u v a b c φ = pos a ∷ pos b ∷ pos c ∷ φ (t .p) ∷ φ (t .q) ∷ φ (t .r) ∷ φ m ∷ φ u ∷ φ v ∷ []
+
+nine : (t : Tri) (m u v a b c : ℕ) (φ : ℕ → ℤ) (q : Nine) → Checks (numbers t m u v a b c φ) (at-nine q) → Holds (numbers t m u v a b c φ) (at-nine q)
 nine t m u v a b c φ q h = ring9 q (pos a) (pos b) (pos c) (φ (t .p)) (φ (t .q)) (φ (t .r)) (φ m) (φ u) (φ v) h
+
+abbrev O : Expr
+O = K (pos 0)
 
 -- ---- bisection: of q and r the lesser goes to m; of what is left of q, and p, the lesser to u; of what is left of r, and p, to v
 
@@ -89,32 +94,32 @@ bisected-back = record { qr = λ u v A B C. 2 * min B C; pq = λ u v A B C. bise
 bisected-pieces : (t : Tri) (m : ℕ) (u v : Option ℕ) → All (λ k. (a b c : ℕ) → Piece bisected-back t (some m) u v (level (mix k a b c))) (parts (bisected t (some m) u v))
 bisected-pieces t m none none =
     cons (λ a b c. piece bisected-back t m none none b c 0 a 0 0 refl refl (inr refl) tt tt
-    (λ φ. nine t m m m a b c φ (λ a b c p q r m u v. (a :* m :+ b :* p :+ c :* q, b :* p :+ c :* q :+ K (pos 0) :* r :+ (a :* m :+ K (pos 0) :+ K (pos 0)))) tt) (omega arith) (omega arith) (omega arith))
+    (λ φ. nine t m m m a b c φ (λ a b c p q r m u v. (a :* m :+ b :* p :+ c :* q, b :* p :+ c :* q :+ O :* r :+ (a :* m :+ O :+ O))) tt) (omega arith) (omega arith) (omega arith))
     (cons (λ a b c. piece bisected-back t m none none c 0 b a 0 0 refl refl (inl refl) tt tt
-    (λ φ. nine t m m m a b c φ (λ a b c p q r m u v. (a :* m :+ b :* r :+ c :* p, c :* p :+ K (pos 0) :* q :+ b :* r :+ (a :* m :+ K (pos 0) :+ K (pos 0)))) tt) (omega arith) (omega arith) (omega arith)) nil)
+    (λ φ. nine t m m m a b c φ (λ a b c p q r m u v. (a :* m :+ b :* r :+ c :* p, c :* p :+ O :* q :+ b :* r :+ (a :* m :+ O :+ O))) tt) (omega arith) (omega arith) (omega arith)) nil)
 bisected-pieces t m (some u) none =
     cons (λ a b c. piece bisected-back t m (some u) none c 0 0 b a 0 tt refl (inl refl) (inr refl) tt
-    (λ φ. nine t m u m a b c φ (λ a b c p q r m u v. (a :* u :+ b :* m :+ c :* p, c :* p :+ K (pos 0) :* q :+ K (pos 0) :* r :+ (b :* m :+ a :* u :+ K (pos 0)))) tt) (omega arith) (omega arith) (omega arith))
+    (λ φ. nine t m u m a b c φ (λ a b c p q r m u v. (a :* u :+ b :* m :+ c :* p, c :* p :+ O :* q :+ O :* r :+ (b :* m :+ a :* u :+ O))) tt) (omega arith) (omega arith) (omega arith))
     (cons (λ a b c. piece bisected-back t m (some u) none c 0 b a 0 0 tt refl (inl refl) (inr refl) tt
-    (λ φ. nine t m u m a b c φ (λ a b c p q r m u v. (a :* m :+ b :* r :+ c :* p, c :* p :+ K (pos 0) :* q :+ b :* r :+ (a :* m :+ K (pos 0) :* u :+ K (pos 0)))) tt) (omega arith) (omega arith) (omega arith))
+    (λ φ. nine t m u m a b c φ (λ a b c p q r m u v. (a :* m :+ b :* r :+ c :* p, c :* p :+ O :* q :+ b :* r :+ (a :* m :+ O :* u :+ O))) tt) (omega arith) (omega arith) (omega arith))
     (cons (λ a b c. piece bisected-back t m (some u) none 0 b 0 c a 0 tt refl (inr refl) (inl refl) tt
-    (λ φ. nine t m u m a b c φ (λ a b c p q r m u v. (a :* u :+ b :* q :+ c :* m, K (pos 0) :* p :+ b :* q :+ K (pos 0) :* r :+ (c :* m :+ a :* u :+ K (pos 0)))) tt) (omega arith) (omega arith) (omega arith)) nil))
+    (λ φ. nine t m u m a b c φ (λ a b c p q r m u v. (a :* u :+ b :* q :+ c :* m, O :* p :+ b :* q :+ O :* r :+ (c :* m :+ a :* u :+ O))) tt) (omega arith) (omega arith) (omega arith)) nil))
 bisected-pieces t m none (some v) =
     cons (λ a b c. piece bisected-back t m none (some v) b c 0 a 0 0 refl tt (inr refl) tt (inl refl)
-    (λ φ. nine t m m v a b c φ (λ a b c p q r m u v. (a :* m :+ b :* p :+ c :* q, b :* p :+ c :* q :+ K (pos 0) :* r :+ (a :* m :+ K (pos 0) :+ K (pos 0) :* v))) tt) (omega arith) (omega arith) (omega arith))
+    (λ φ. nine t m m v a b c φ (λ a b c p q r m u v. (a :* m :+ b :* p :+ c :* q, b :* p :+ c :* q :+ O :* r :+ (a :* m :+ O :+ O :* v))) tt) (omega arith) (omega arith) (omega arith))
     (cons (λ a b c. piece bisected-back t m none (some v) 0 0 c b 0 a refl tt (inl refl) tt (inr refl)
-    (λ φ. nine t m m v a b c φ (λ a b c p q r m u v. (a :* v :+ b :* m :+ c :* r, K (pos 0) :* p :+ K (pos 0) :* q :+ c :* r :+ (b :* m :+ K (pos 0) :+ a :* v))) tt) (omega arith) (omega arith) (omega arith))
+    (λ φ. nine t m m v a b c φ (λ a b c p q r m u v. (a :* v :+ b :* m :+ c :* r, O :* p :+ O :* q :+ c :* r :+ (b :* m :+ O :+ a :* v))) tt) (omega arith) (omega arith) (omega arith))
     (cons (λ a b c. piece bisected-back t m none (some v) b 0 0 c 0 a refl tt (inl refl) tt (inl refl)
-    (λ φ. nine t m m v a b c φ (λ a b c p q r m u v. (a :* v :+ b :* p :+ c :* m, b :* p :+ K (pos 0) :* q :+ K (pos 0) :* r :+ (c :* m :+ K (pos 0) :+ a :* v))) tt) (omega arith) (omega arith) (omega arith)) nil))
+    (λ φ. nine t m m v a b c φ (λ a b c p q r m u v. (a :* v :+ b :* p :+ c :* m, b :* p :+ O :* q :+ O :* r :+ (c :* m :+ O :+ a :* v))) tt) (omega arith) (omega arith) (omega arith)) nil))
 bisected-pieces t m (some u) (some v) =
     cons (λ a b c. piece bisected-back t m (some u) (some v) c 0 0 b a 0 tt tt (inl refl) (inr refl) (inl refl)
-    (λ φ. nine t m u v a b c φ (λ a b c p q r m u v. (a :* u :+ b :* m :+ c :* p, c :* p :+ K (pos 0) :* q :+ K (pos 0) :* r :+ (b :* m :+ a :* u :+ K (pos 0) :* v))) tt) (omega arith) (omega arith) (omega arith))
+    (λ φ. nine t m u v a b c φ (λ a b c p q r m u v. (a :* u :+ b :* m :+ c :* p, c :* p :+ O :* q :+ O :* r :+ (b :* m :+ a :* u :+ O :* v))) tt) (omega arith) (omega arith) (omega arith))
     (cons (λ a b c. piece bisected-back t m (some u) (some v) 0 0 c b 0 a tt tt (inl refl) (inl refl) (inr refl)
-    (λ φ. nine t m u v a b c φ (λ a b c p q r m u v. (a :* v :+ b :* m :+ c :* r, K (pos 0) :* p :+ K (pos 0) :* q :+ c :* r :+ (b :* m :+ K (pos 0) :* u :+ a :* v))) tt) (omega arith) (omega arith) (omega arith))
+    (λ φ. nine t m u v a b c φ (λ a b c p q r m u v. (a :* v :+ b :* m :+ c :* r, O :* p :+ O :* q :+ c :* r :+ (b :* m :+ O :* u :+ a :* v))) tt) (omega arith) (omega arith) (omega arith))
     (cons (λ a b c. piece bisected-back t m (some u) (some v) 0 b 0 c a 0 tt tt (inr refl) (inl refl) (inl refl)
-    (λ φ. nine t m u v a b c φ (λ a b c p q r m u v. (a :* u :+ b :* q :+ c :* m, K (pos 0) :* p :+ b :* q :+ K (pos 0) :* r :+ (c :* m :+ a :* u :+ K (pos 0) :* v))) tt) (omega arith) (omega arith) (omega arith))
+    (λ φ. nine t m u v a b c φ (λ a b c p q r m u v. (a :* u :+ b :* q :+ c :* m, O :* p :+ b :* q :+ O :* r :+ (c :* m :+ a :* u :+ O :* v))) tt) (omega arith) (omega arith) (omega arith))
     (cons (λ a b c. piece bisected-back t m (some u) (some v) b 0 0 c 0 a tt tt (inl refl) (inr refl) (inl refl)
-    (λ φ. nine t m u v a b c φ (λ a b c p q r m u v. (a :* v :+ b :* p :+ c :* m, b :* p :+ K (pos 0) :* q :+ K (pos 0) :* r :+ (c :* m :+ K (pos 0) :* u :+ a :* v))) tt) (omega arith) (omega arith) (omega arith)) nil)))
+    (λ φ. nine t m u v a b c φ (λ a b c p q r m u v. (a :* v :+ b :* p :+ c :* m, b :* p :+ O :* q :+ O :* r :+ (c :* m :+ O :* u :+ a :* v))) tt) (omega arith) (omega arith) (omega arith)) nil)))
 
 pub bisected-dissects : Dissects bisected
 bisected-dissects = record { back = bisected-back; pieces = bisected-pieces }

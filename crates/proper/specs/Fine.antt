@@ -63,10 +63,14 @@ Four i j k = K (pos 4) :* X i :+ K (pos 2) :* X j :+ K (pos 2) :* X k
 module _ {t : Tri} {o u v : Option ℕ} {F : Sum} (f : Fine t o u v F) where
   pub coarse-level : (φ : ℕ → ℤ) → Mean φ (t .q) (t .r) o → Mean φ (t .p) (t .q) u → Mean φ (t .r) (t .p) v → pos 4 *ℤ F φ ≡ level (coarse f) φ
   coarse-level φ hm hu hv =
+      let on-qr = halves φ (t .q) (t .r) o (f .on-qr) (f .qr-absent) hm in
+      let on-pq = halves φ (t .p) (t .q) u (f .on-pq) (f .pq-absent) hu in
+      let on-rp = halves φ (t .r) (t .p) v (f .on-rp) (f .rp-absent) hv in
       ap (λ z. pos 4 *ℤ z) (f .sum φ)
       ∙ solve (a ∷ b ∷ c ∷ x ∷ y ∷ z ∷ onto o (f .on-qr) φ ∷ onto u (f .on-pq) φ ∷ onto v (f .on-rp) φ ∷ [])
-      (K (pos 4) :* (X 0 :* X 3 :+ X 1 :* X 4 :+ X 2 :* X 5 :+ (X 6 :+ X 7 :+ X 8))) (K (pos 4) :* (X 0 :* X 3 :+ X 1 :* X 4 :+ X 2 :* X 5) :+ (K (pos 4) :* X 6 :+ K (pos 4) :* X 7 :+ K (pos 4) :* X 8)) tt
-      ∙ (λ i. pos 4 *ℤ (a *ℤ x +ℤ b *ℤ y +ℤ c *ℤ z) +ℤ (halves φ (t .q) (t .r) o (f .on-qr) (f .qr-absent) hm i +ℤ halves φ (t .p) (t .q) u (f .on-pq) (f .pq-absent) hu i +ℤ halves φ (t .r) (t .p) v (f .on-rp) (f .rp-absent) hv i))
+      (K (pos 4) :* (X 0 :* X 3 :+ X 1 :* X 4 :+ X 2 :* X 5 :+ (X 6 :+ X 7 :+ X 8)))
+      (K (pos 4) :* (X 0 :* X 3 :+ X 1 :* X 4 :+ X 2 :* X 5) :+ (K (pos 4) :* X 6 :+ K (pos 4) :* X 7 :+ K (pos 4) :* X 8)) tt
+      ∙ (λ i. pos 4 *ℤ (a *ℤ x +ℤ b *ℤ y +ℤ c *ℤ z) +ℤ (on-qr i +ℤ on-pq i +ℤ on-rp i))
       ∙ solve (a ∷ b ∷ c ∷ x ∷ y ∷ z ∷ pos (f .on-qr) ∷ pos (f .on-pq) ∷ pos (f .on-rp) ∷ [])
       (K (pos 4) :* (X 0 :* X 3 :+ X 1 :* X 4 :+ X 2 :* X 5) :+ (K (pos 2) :* X 6 :* (X 4 :+ X 5) :+ K (pos 2) :* X 7 :* (X 3 :+ X 4) :+ K (pos 2) :* X 8 :* (X 5 :+ X 3)))
       (Four 0 7 8 :* X 3 :+ Four 1 6 7 :* X 4 :+ Four 2 6 8 :* X 5) tt

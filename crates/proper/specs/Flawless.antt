@@ -3,6 +3,7 @@
 -- Assumes nothing.
 use mathlib.Core.Bool.{true}
 use mathlib.Core.List.{List}
+use mathlib.Core.Logic.{_↔_}
 use mathlib.Core.Path.{_≡_, sym, subst, subst₂, _∙_}
 use Prim.Native.Nat.{ℕ}
 use native.Mathlib.Omega.{arith}
@@ -11,13 +12,14 @@ use Rattle.meaning.specs.declared.Correction.{Correction}
 use Rattle.meaning.specs.declared.Place.{Place}
 use Rattle.meaning.specs.declared.Tri.{Tri}
 use Rattle.meaning.specs.Mesh.{Mesh, arrows, at}
-use Rattle.meaning.specs.Lawful.{InBounds, Lawful, rowOf}
+use Rattle.meaning.specs.Lawful.{InBounds, Lawful, rowOf, refusal}
 use Rattle.meaning.specs.Split.{Way, bisected, halves, splitEdges, started, refined}
 use Rattle.meaning.specs.Coarsen.{coarsened, pass, restored, allMarked}
 use Rattle.meaning.specs.Tables.{Room}
 use Rattle.meaning.specs.Calls.{refineNo}
 use Rattle.meaning.specs.Setting.{corrected, setFault}
-use Rattle.meaning.specs.Proper.{Shape, StrictlyInside, Share, Proper}
+use Rattle.meaning.specs.Proper.{Shape, StrictlyInside, Share, Proper, uncrowded, disjoint}
+use Rattle.laws.specs.Lawful.{refusal-lawful, lawful-refusal}
 use Rattle.laws.specs.Cut.{CutLaws}
 use Rattle.laws.specs.Bisected.{bisected-laws}
 use Rattle.laws.specs.SplitLaw.{split-lawful}
@@ -26,6 +28,7 @@ use Rattle.laws.specs.Coarsen.{coarsened-lawful}
 use Rattle.laws.specs.Restore.{restored-keeps}
 use Rattle.laws.specs.PlaceOnly.{SamePlaces, at-same, count-same}
 use Rattle.laws.specs.Setting.{corrected-places, corrected-lawful, set-0}
+use Rattle.proper.specs.ProperLaw.{proper-exact}
 use Rattle.proper.specs.Dissects.{Dissects, bisected-dissects}
 use Rattle.proper.specs.SplitProper.{split-proper}
 use Rattle.proper.specs.WithoutProper.{coarsened-proper}
@@ -34,6 +37,13 @@ use Rattle.proper.specs.WithoutProper.{coarsened-proper}
 pub record Flawless (m : Mesh) : Type 0 where
   pub lawful : Lawful m
   pub proper : Proper m
+
+-- EXACTLY THE MESHES IN WHICH THE TESTS FIND NOTHING
+pub flawless-exact : (m : Mesh) → Flawless m ↔ ((refusal m ≡ 0) × (uncrowded m ≡ true) × (disjoint m ≡ true))
+flawless-exact m = (
+  λ F. (let h = proper-exact m (F .lawful) .0 (F .proper) in (lawful-refusal m (F .lawful), h .0, h .1)),
+  λ h. (let law = refusal-lawful m (h .0) in record { lawful = law; proper = proper-exact m law .1 (h .1, h .2) }),
+)
 
 -- ---- refine
 

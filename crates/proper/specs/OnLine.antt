@@ -1,13 +1,12 @@
 -- Places on the line through A and B, by how far along it they are: between A and B, at A, or beyond. Assumes nothing.
 use mathlib.Core.Path.{_≡_, _∙_}
 use mathlib.Core.Logic.{_⊎_, inl, inr}
-use Prim.Native.Nat.{_+_, _<_}
 use native.Mathlib.Omega.{arith}
 use lib.IntN.{ℤ, pos, _+ℤ_, _-ℤ_, _*ℤ_, *ℤ-comm}
 use lib.Signed.{_≤ℤ_, _<ℤ_}
-use Rattle.whole.specs.Diff.{onℤ, sumℤ, subℤ, mulℤ, negℤ-ud}
-use Rattle.whole.specs.Ring.{Expr, K, _:+_, _:-_, _:*_, neg, ring4, ring6, ring8, combine₁}
-use Rattle.whole.specs.Order.{lt-or-le, nonneg-times, positive-times, nonneg-square, times-cancel, unscale-lt}
+use Rattle.whole.specs.Diff.{onℤ, sumℤ, subℤ, mulℤ}
+use Rattle.whole.specs.Ring.{Expr, K, _:+_, _:-_, _:*_, ring4, ring6, ring8, combine₁}
+use Rattle.whole.specs.Order.{lt-or-le, positive-times, nonneg-square, scale-le, scale-lt, times-cancel, unscale-lt}
 use Rattle.meaning.specs.declared.Place.{Place}
 use Rattle.meaning.specs.Mesh.{turn}
 use Rattle.meaning.specs.Proper.{facing, StrictlyInside}
@@ -70,10 +69,7 @@ pub len-above : (A B C : Place) → pos 0 <ℤ turn A B C → pos 0 <ℤ len A B
 len-above A B C h = go (lt-or-le (pos 0) (len A B))
   where
     flat : (l f a t : ℤ) → l ≤ℤ pos 0 → pos 0 ≤ℤ f → pos 0 <ℤ t → l *ℤ f ≡ a *ℤ a +ℤ t *ℤ t → ⊥
-    flat l f a t k n h e =
-        let p = nonneg-times f (pos 0 -ℤ l) n (omega (arith, onℤ, subℤ (pos 0) l)) in
-        let r = ring4 (λ l f a t. (f :* (K (pos 0) :- l), neg (l :* f))) l f a t tt in
-        omega (arith, onℤ, nonneg-square a, positive-times t t h h, sumℤ (a *ℤ a) (t *ℤ t), negℤ-ud (l *ℤ f))
+    flat l f a t k n h e = omega (arith, onℤ, scale-le f l (pos 0) n k, mulℤ (pos 0) f, nonneg-square a, positive-times t t h h, sumℤ (a *ℤ a) (t *ℤ t))
 
     go : (pos 0 <ℤ len A B) ⊎ (len A B ≤ℤ pos 0) → pos 0 <ℤ len A B
     go (inl l) = l
@@ -151,14 +147,11 @@ between-others A B P Q e f l h i = record {
     cross a b c d p q = rw (p, q) (ring4 (λ a b c d. (a :* K (pos 0) :- c :* K (pos 0), K (pos 0))) a b c d tt)
 
     opposite : (u v : ℤ) → u <ℤ pos 0 → pos 0 <ℤ v → (u *ℤ v) <ℤ pos 0
-    opposite u v h i =
-        let p = positive-times (pos 0 -ℤ u) v (omega (arith, onℤ, subℤ (pos 0) u)) i in
-        let r = ring4 (λ u v w z. ((K (pos 0) :- u) :* v, neg (u :* v))) u v u v tt in
-        omega (arith, onℤ, negℤ-ud (u *ℤ v))
+    opposite u v h i = omega (arith, onℤ, scale-lt v u (pos 0) i h, mulℤ (pos 0) v)
 
     below : (len A B *ℤ facing P Q A) <ℤ pos 0
     below =
-        let e' = seen A B P Q in
+        let e′ = seen A B P Q in
         let o = opposite (along A B P) (along A B Q) h i in
         let z = times-zero (turn A B P) (turn A B Q) f in
         omega (arith, onℤ, sumℤ (along A B P *ℤ along A B Q) (turn A B P *ℤ turn A B Q))

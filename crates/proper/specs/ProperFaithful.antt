@@ -117,7 +117,8 @@ module _ (m : Mesh) (law : Lawful m) (proper : Proper m) where
           (sym (third-weight m x y z α β γ) ∙ affine-same (level-linear (mix (tri x y z) α β γ)) (level-linear u) (turn-affine m x y) same)
 
       -- an edge of the other row, along x–y
-      on-edge : {x′ y′ : ℕ} → Side m x′ y′ → (α′ β′ : ℕ) → pos α′ *ℤ turnTo m x y x′ ≡ pos 0 → pos β′ *ℤ turnTo m x y y′ ≡ pos 0 → SameSum (level u) (two x′ y′ α′ β′) → SameSum (level (mix (tri x y z) α β γ)) (level u)
+      on-edge : {x′ y′ : ℕ} → Side m x′ y′ → (α′ β′ : ℕ) → pos α′ *ℤ turnTo m x y x′ ≡ pos 0 → pos β′ *ℤ turnTo m x y y′ ≡ pos 0 → SameSum (level u) (two x′ y′ α′ β′) →
+          SameSum (level (mix (tri x y z) α β γ)) (level u)
       on-edge E′ α′ β′ f g is φ =
           let here = without-third (tri x y z) α β γ (zeros .0) in
           here φ ∙ edges-meet m (proper .places-differ) E E′ α β α′ β′ f g (λ ψ k. sym (here ψ) ∙ same ψ k ∙ is ψ) φ ∙ sym (is φ)
@@ -134,7 +135,8 @@ module _ (m : Mesh) (law : Lawful m) (proper : Proper m) where
           on-edge (side-pq i) (u .a) (u .b) (zeros .1) (zeros .2) (without-third (u .row) (u .a) (u .b) (u .c) (no-weight (u .c) (turnTo m x y (u .row .r)) (zeros .3) r))
       go (inr p) (inr q) (inr r) = absurd (not-flat i x y z h (omega (arith, onℤ, o .at-p)) (omega (arith, onℤ, o .at-q)) (omega (arith, onℤ, o .at-r)))
 
-  parted-same : (s u : Mix) → List·Memᴰ (s .row) (m .tris) → List·Memᴰ (u .row) (m .tris) → PartedBy (shape m (s .row)) (shape m (u .row)) → SamePoint m (level s) (level u) → SameSum (level s) (level u)
+  parted-same : (s u : Mix) → List·Memᴰ (s .row) (m .tris) → List·Memᴰ (u .row) (m .tris) → PartedBy (shape m (s .row)) (shape m (u .row)) →
+      SamePoint m (level s) (level u) → SameSum (level s) (level u)
   parted-same s u i j (by-pq o) same φ = none-left-same (s .row .p) (s .row .q) (s .row .r) (side-pq i) (above-pqr m law i) (s .a) (s .b) (s .c) u j o same φ
   parted-same s u i j (by-qr o) same φ =
       rotated-same s φ
@@ -162,7 +164,8 @@ module _ (m : Mesh) (law : Lawful m) (proper : Proper m) where
   pub proper-faithful : Faithful m
   proper-faithful = record { one-sum = λ s u i j same. go s u i j same (sameTri (s .row) (u .row)) refl }
     where
-      apart-same : (s u : Mix) → List·Memᴰ (s .row) (m .tris) → List·Memᴰ (u .row) (m .tris) → SamePoint m (level s) (level u) → Apart (shape m (s .row)) (shape m (u .row)) → SameSum (level s) (level u)
+      apart-same : (s u : Mix) → List·Memᴰ (s .row) (m .tris) → List·Memᴰ (u .row) (m .tris) → SamePoint m (level s) (level u) →
+          Apart (shape m (s .row)) (shape m (u .row)) → SameSum (level s) (level u)
       apart-same s u i j same (by-first o) φ = parted-same s u i j o same φ
       apart-same s u i j same (by-second o) φ = sym (parted-same u s j i o (λ ψ k. sym (same ψ k)) φ)
 

@@ -29,7 +29,7 @@ use Rattle.proper.specs.Corners.{same-weight, weight-p, weight-q, weight
 use Rattle.proper.specs.FaithfulProper.{faithful-proper}
 use Rattle.proper.specs.Fine.{onto, coarse, Mean, coarse-level}
 use Rattle.proper.specs.FineEdges.{Lacks, no-p, no-q, no-r, some-edge, same-edges}
-use Rattle.proper.specs.Dissects.{Back, ifSplit, Piece, Dissects}
+use Rattle.proper.specs.Dissects.{ifSplit, Piece, Dissects}
 
 -- ---- two rows that are not one: a sum of both lacks a corner
 
@@ -49,10 +49,6 @@ mean-of f h M x y none g = tt
 mean-of f h M x y (some k) g = h (at M k) (at M x) (at M y) g
 
 -- ---- the pieces of any row, whether or not it is cut
-
--- F is a sum of a piece of row t, s being the split edges in order
-abbrev pub PieceOf : Back → ℕ → List Edge → Tri → Sum → Type 0
-PieceOf B n s t F = Piece B t (numberOf n s (edge (t .q) (t .r))) (numberOf n s (edge (t .p) (t .q))) (numberOf n s (edge (t .r) (t .p))) F
 
 module _ {c : Cutting} (laws : CutLaws c) (D : Dissects c) where
   -- a row that is not cut
@@ -85,7 +81,8 @@ module _ {c : Cutting} (laws : CutLaws c) (D : Dissects c) where
   piece-of t (some m) u v h = D .pieces t m u v
 
   -- of one row: the weights in the row tell the sum
-  same-father : {n : ℕ} (t : Tri) → Named n t → (o u v : Option ℕ) {F G : Sum} (P : Piece (D .back) t o u v F) (Q : Piece (D .back) t o u v G) → SameSum (level (coarse (P .fine))) (level (coarse (Q .fine))) → SameSum F G
+  same-father : {n : ℕ} (t : Tri) → Named n t → (o u v : Option ℕ) {F G : Sum} (P : Piece (D .back) t o u v F) (Q : Piece (D .back) t o u v G) →
+      SameSum (level (coarse (P .fine))) (level (coarse (Q .fine))) → SameSum F G
   same-father t N o u v P Q e φ =
       let f = P .fine in
       let g = Q .fine in
@@ -119,8 +116,9 @@ module _ {c : Cutting} (laws : CutLaws c) (D : Dissects c) where
     after : Mesh
     after = splitAt c m S
 
+    -- F is a sum of a piece of row t
     abbrev PieceIn : Tri → Sum → Type 0
-    PieceIn t F = PieceOf (D .back) (length (m .nodes)) S t F
+    PieceIn t F = Piece (D .back) t (num (t .q) (t .r)) (num (t .p) (t .q)) (num (t .r) (t .p)) F
 
     -- a new row is of the cut of an old one
     sources : All (λ k. (t : Tri) × List·Memᴰ t (m .tris) × List·Memᴰ k (parts (cutOf c (length (m .nodes)) S t))) (after .tris)
@@ -140,14 +138,19 @@ module _ {c : Cutting} (laws : CutLaws c) (D : Dissects c) where
         let s = coarse (P .fine) in
         let M = splitAt c m (splitEdges m start) in
         let C = centred c m (splitEdges m start) (all-yes (halves m) (splitEdges m start) even) t N in
+        let qr = mean-of f h M (t .q) (t .r) (num (t .q) (t .r)) (C .on-qr) in
+        let pq = mean-of f h M (t .p) (t .q) (num (t .p) (t .q)) (C .on-pq) in
+        let rp = mean-of f h M (t .r) (t .p) (num (t .r) (t .p)) (C .on-rp) in
         (λ d. pos (s .a) *ℤ f (old (t .p) (N .p-below) d) +ℤ pos (s .b) *ℤ f (old (t .q) (N .q-below) d) +ℤ pos (s .c) *ℤ f (old (t .r) (N .r-below) d))
-        ∙ sym (coarse-level (P .fine) (λ k. f (at M k)) (mean-of f h M (t .q) (t .r) (num (t .q) (t .r)) (C .on-qr)) (mean-of f h M (t .p) (t .q) (num (t .p) (t .q)) (C .on-pq)) (mean-of f h M (t .r) (t .p) (num (t .r) (t .p)) (C .on-rp)))
+        ∙ sym (coarse-level (P .fine) (λ k. f (at M k)) qr pq rp)
       where
         old : (k : ℕ) → k < length (m .nodes) → at m k ≡ at (splitAt c m (splitEdges m start)) k
         old k h = sym (at-old c m (splitEdges m start) k h)
 
-    father-point : {t u : Tri} {F G : Sum} → List·Memᴰ t (m .tris) → List·Memᴰ u (m .tris) → (P : PieceIn t F) (Q : PieceIn u G) → SamePoint after F G → SamePoint m (level (coarse (P .fine))) (level (coarse (Q .fine)))
-    father-point {F = F} {G = G} i j P Q = point-from m after (level (coarse (P .fine))) (level (coarse (Q .fine))) F G (λ f h e. father-level f h i P ∙ ap (λ z. pos 4 *ℤ z) e ∙ sym (father-level f h j Q))
+    father-point : {t u : Tri} {F G : Sum} → List·Memᴰ t (m .tris) → List·Memᴰ u (m .tris) → (P : PieceIn t F) (Q : PieceIn u G) → SamePoint after F G →
+        SamePoint m (level (coarse (P .fine))) (level (coarse (Q .fine)))
+    father-point {F = F} {G = G} i j P Q = point-from m after (level (coarse (P .fine))) (level (coarse (Q .fine))) F G
+        (λ f h e. father-level f h i P ∙ ap (λ z. pos 4 *ℤ z) e ∙ sym (father-level f h j Q))
 
     either : (x y : ℕ) → num x y ≡ num y x
     either x y = ap (numberOf (length (m .nodes)) S) (edge-comm x y)
@@ -178,7 +181,7 @@ module _ {c : Cutting} (laws : CutLaws c) (D : Dissects c) where
             one-sum (a .1) (b .1) (piece-here (a .1) (a .2) (s .a) (s .b) (s .c)) (piece-here (b .1) (b .2) (u .a) (u .b) (u .c)) same);
       }
 
-    pub split-faithful : Faithful m → Faithful (split c m start)
+    split-faithful : Faithful m → Faithful (split c m start)
     unfolding split after S
     split-faithful F = after-faithful F
 

@@ -206,7 +206,10 @@ module _ (m : Mesh) (zs : List ℕ) (law : Lawful m) (ok : Takeable m zs) where
   places-kept : (f : Place → ℤ) {t : Tri} → Sound m zs t → (α β γ : ℕ) → level (mix t α β γ) (λ k. f (at m k)) ≡ level (mix (renamed zs t) α β γ) (λ k. f (at (without m zs) k))
   places-kept f {t} r α β γ =
       let N = r .named in
-      λ i. pos α *ℤ f (sym (without-at m zs (t .p) (N .p-below) (r .p-stays)) i) +ℤ pos β *ℤ f (sym (without-at m zs (t .q) (N .q-below) (r .q-stays)) i) +ℤ pos γ *ℤ f (sym (without-at m zs (t .r) (N .r-below) (r .r-stays)) i)
+      let p = sym (without-at m zs (t .p) (N .p-below) (r .p-stays)) in
+      let q = sym (without-at m zs (t .q) (N .q-below) (r .q-stays)) in
+      let o = sym (without-at m zs (t .r) (N .r-below) (r .r-stays)) in
+      λ i. pos α *ℤ f (p i) +ℤ pos β *ℤ f (q i) +ℤ pos γ *ℤ f (o i)
 
   module _ (faithful : Faithful m) where
     renamed-sum : {t u : Tri} → Sound m zs t → Sound m zs u → (α β γ α′ β′ γ′ : ℕ) → Down (level (mix t α β γ)) → Down (level (mix u α′ β′ γ′))
@@ -218,7 +221,7 @@ module _ (m : Mesh) (zs : List ℕ) (law : Lawful m) (ok : Takeable m zs) where
         below = point-from m (without m zs) (level (D .child)) (level (E .child)) (level (mix (renamed zs t) α β γ)) (level (mix (renamed zs u) α′ β′ γ′))
             (λ f h e. sym (same-as-child D f h) ∙ places-kept f r α β γ ∙ e ∙ sym (places-kept f s α′ β′ γ′) ∙ same-as-child E f h) same
 
-    pub without-faithful : Faithful (without m zs)
+    without-faithful : Faithful (without m zs)
     without-faithful = record {
       one-sum = λ s u i j same φ.
           (let a = All-at rows-after i in

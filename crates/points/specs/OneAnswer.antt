@@ -77,7 +77,7 @@ module _ {m : Mesh} (law : Lawful m) (proper : Proper m) where
 
 -- ---- two meshes
 
--- row u of n holds the point; a row of m holds it too, and makes the same of it
+-- a row of m holds the point, and makes of it what row u of n makes
 pub record Likewise (m n : Mesh) (P : Place) (u : Tri) : Type 0 where
   pub row : Tri
   pub row-in : List·Memᴰ row (m .tris)

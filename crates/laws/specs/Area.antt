@@ -1,6 +1,6 @@
 -- Laws of the twice-area and of midpoints. Assumes nothing.
 use mathlib.Core.Bool.{Bool, true, false}
-use mathlib.Core.Path.{_≡_, refl, ap, subst₂, _∙_}
+use mathlib.Core.Path.{_≡_, refl, sym, ap, _∙_}
 use Prim.Native.Nat.{ℕ, min, max, _+_, _≤_}
 use native.Mathlib.Omega.{arith}
 use lib.Dec.{leb}
@@ -70,34 +70,25 @@ middle-near m a b k e p q = let s : natAbs (m +ℤ m) ≤ k + k = rw e (abs-add 
 pub middle-swap : {M A B : Place} → Middle M A B → Middle M B A
 middle-swap {M} {A} {B} h = record { x-middle = h .x-middle ∙ +ℤ-comm (A .x) (B .x); y-middle = h .y-middle ∙ +ℤ-comm (A .y) (B .y) }
 
--- an edge's lower and higher node, or the two as they were given
+-- an edge's lower and higher node, or the two as they were given: the sum of a number of each
+pub ends-sum : (f : ℕ → ℤ) (a b : ℕ) → f (min a b) +ℤ f (max a b) ≡ f a +ℤ f b
+ends-sum f a b = go (leb a b) refl
+  where
+    go : (t : Bool) → leb a b ≡ t → f (min a b) +ℤ f (max a b) ≡ f a +ℤ f b
+    go true e =
+        let l = leb-true a b e in
+        let p : min a b ≡ a = omega arith in
+        let q : max a b ≡ b = omega arith in
+        λ i. f (p i) +ℤ f (q i)
+    go false e =
+        let l = leb-false a b e in
+        let p : min a b ≡ b = omega arith in
+        let q : max a b ≡ a = omega arith in
+        (λ i. f (p i) +ℤ f (q i)) ∙ +ℤ-comm (f b) (f a)
+
 module _ (m : Mesh) (M : Place) (a b : ℕ) where
   pub middle-either : Middle M (at m (min a b)) (at m (max a b)) → Middle M (at m a) (at m b)
-  middle-either h = go (leb a b) refl
-    where
-      go : (t : Bool) → leb a b ≡ t → Middle M (at m a) (at m b)
-      go true e =
-          let l = leb-true a b e in
-          let p : min a b ≡ a = omega arith in
-          let q : max a b ≡ b = omega arith in
-          subst₂ (λ x y. Middle M (at m x) (at m y)) p q h
-      go false e =
-          let l = leb-false a b e in
-          let p : min a b ≡ b = omega arith in
-          let q : max a b ≡ a = omega arith in
-          middle-swap (subst₂ (λ x y. Middle M (at m x) (at m y)) p q h)
+  middle-either h = record { x-middle = h .x-middle ∙ ends-sum (λ k. at m k .x) a b; y-middle = h .y-middle ∙ ends-sum (λ k. at m k .y) a b }
 
   pub middle-edge : Middle M (at m a) (at m b) → Middle M (at m (min a b)) (at m (max a b))
-  middle-edge h = go (leb a b) refl
-    where
-      go : (t : Bool) → leb a b ≡ t → Middle M (at m (min a b)) (at m (max a b))
-      go true e =
-          let l = leb-true a b e in
-          let p : a ≡ min a b = omega arith in
-          let q : b ≡ max a b = omega arith in
-          subst₂ (λ x y. Middle M (at m x) (at m y)) p q h
-      go false e =
-          let l = leb-false a b e in
-          let p : b ≡ min a b = omega arith in
-          let q : a ≡ max a b = omega arith in
-          subst₂ (λ x y. Middle M (at m x) (at m y)) p q (middle-swap h)
+  middle-edge h = record { x-middle = h .x-middle ∙ sym (ends-sum (λ k. at m k .x) a b); y-middle = h .y-middle ∙ sym (ends-sum (λ k. at m k .y) a b) }

@@ -84,7 +84,7 @@ fresh {E} {n} {n′} {t} {o} {u} {v} a h = record {
 
 -- ---- places
 
-twice-half : (z : ℤ) → even z ≡ true → half z +ℤ half z ≡ z
+pub twice-half : (z : ℤ) → even z ≡ true → half z +ℤ half z ≡ z
 twice-half z e = ring1 (λ x. (x :+ x, K (pos 2) :* x)) (half z) tt ∙ half-even z (eqb-true (natAbs z % 2) 0 e)
 
 pub midpoint-middle : (m : Mesh) (e : Edge) → halves m e ≡ true → Middle (midpoint m e) (at m (e .lo)) (at m (e .hi))

@@ -37,7 +37,9 @@ turn-middle N B C X Y h =
 -- (A, B, C) bisected at N, and a point P: the halves of the side that is cut, and the cut from either side
 module _ (A B C N P : Place) (h : Middle N B C) where
   first-half : turn B N P +ℤ turn B N P ≡ turn B C P
-  first-half = omega (arith, onℤ, turn-middle N B C P B h, sumℤ (turn B N P) (turn B N P), sumℤ (turn N P B) (turn N P B), sumℤ (turn B P B) (turn C P B), turn-from B P, turn-cycle B N P, turn-cycle B C P)
+  first-half =
+      let M = turn-middle N B C P B h in
+      omega (arith, onℤ, sumℤ (turn B N P) (turn B N P), sumℤ (turn N P B) (turn N P B), sumℤ (turn B P B) (turn C P B), turn-from B P, turn-cycle B N P, turn-cycle B C P)
 
   second-half : turn N C P +ℤ turn N C P ≡ turn B C P
   second-half = omega (arith, onℤ, turn-middle N B C C P h, sumℤ (turn B C P) (turn C C P), turn-from C P, turn-cycle C C P)
@@ -48,7 +50,9 @@ module _ (A B C N P : Place) (h : Middle N B C) where
 
   cut-second : (turn A N P +ℤ turn A N P) +ℤ turn C A P ≡ turn A B P
   cut-second =
-      omega (arith, onℤ, turn-middle N B C P A h, sumℤ (turn A N P) (turn A N P), sumℤ (turn N P A) (turn N P A), sumℤ (turn A N P +ℤ turn A N P) (turn C A P), sumℤ (turn B P A) (turn C P A), turn-cycle A N P, turn-cycle A B P, turn-mirror C A P, negℤ-ud (turn C A P))
+      let M = turn-middle N B C P A h in
+      let S = sumℤ (turn A N P +ℤ turn A N P) (turn C A P) in
+      omega (arith, onℤ, sumℤ (turn A N P) (turn A N P), sumℤ (turn N P A) (turn N P A), sumℤ (turn B P A) (turn C P A), turn-cycle A N P, turn-cycle A B P, turn-mirror C A P, negℤ-ud (turn C A P))
 
 -- signs of these
 half-nonneg : (x u : ℤ) → x +ℤ x ≡ u → pos 0 ≤ℤ u → pos 0 ≤ℤ x
@@ -72,7 +76,8 @@ pub record Halfway (M : Mesh) (n b c : ℕ) : Type 0 where
   pub in-dy : dyOf M n +ℤ dyOf M n ≡ dyOf M b +ℤ dyOf M c
 
 -- twice the sum by the weights s, x, y of a half is the sum by those of the row
-twice-sum : (s x y u v : ℤ) → x +ℤ x ≡ u → (y +ℤ y) +ℤ s ≡ v → (n a b c : ℤ) → n +ℤ n ≡ b +ℤ c → (s *ℤ n +ℤ x *ℤ a +ℤ y *ℤ b) +ℤ (s *ℤ n +ℤ x *ℤ a +ℤ y *ℤ b) ≡ u *ℤ a +ℤ v *ℤ b +ℤ s *ℤ c
+twice-sum : (s x y u v : ℤ) → x +ℤ x ≡ u → (y +ℤ y) +ℤ s ≡ v → (n a b c : ℤ) → n +ℤ n ≡ b +ℤ c →
+    (s *ℤ n +ℤ x *ℤ a +ℤ y *ℤ b) +ℤ (s *ℤ n +ℤ x *ℤ a +ℤ y *ℤ b) ≡ u *ℤ a +ℤ v *ℤ b +ℤ s *ℤ c
 twice-sum s x y u v e f n a b c g =
     ring6 (λ s x y n a b. ((s :* n :+ x :* a :+ y :* b) :+ (s :* n :+ x :* a :+ y :* b), (x :+ x) :* a :+ (y :+ y) :* b :+ s :* (n :+ n))) s x y n a b tt
     ∙ (λ i. (x +ℤ x) *ℤ a +ℤ (y +ℤ y) *ℤ b +ℤ s *ℤ g i)
@@ -93,6 +98,7 @@ module _ (M : Mesh) (P : Place) where
   within-all : {t k l : Tri} → Within t k → Within k l → Within t l
   within-all a b = record { above = b .above; holds = λ h. a .holds (b .holds h); same = b .same ∙ a .same }
 
+  -- half the area, half the sums by the weights
   half-within : (t k : Tri) → pos 0 <ℤ twiceArea M t → twiceArea M k +ℤ twiceArea M k ≡ twiceArea M t → (HoldsPoint M P k → HoldsPoint M P t) →
       weighted (dxOf M) M P k +ℤ weighted (dxOf M) M P k ≡ weighted (dxOf M) M P t → weighted (dyOf M) M P k +ℤ weighted (dyOf M) M P k ≡ weighted (dyOf M) M P t → Within t k
   half-within t k above area holds dx dy =
@@ -155,11 +161,15 @@ module _ (M : Mesh) (P : Place) where
     module _ (above : pos 0 <ℤ twiceArea M (tri a b c)) (h : Halfway M n b c) where
       left-within : Within (tri a b c) (tri n a b)
       unfolding twiceArea
-      left-within = half-within (tri a b c) (tri n a b) above (left-half (at M a) (at M b) (at M c) (at M n) (h .in-place)) (left-held (h .in-place)) (twice-left (h .in-place) (dxOf M) (h .in-dx)) (twice-left (h .in-place) (dyOf M) (h .in-dy))
+      left-within =
+          let i = h .in-place in
+          half-within (tri a b c) (tri n a b) above (left-half A B C N i) (left-held i) (twice-left i (dxOf M) (h .in-dx)) (twice-left i (dyOf M) (h .in-dy))
 
       right-within : Within (tri a b c) (tri n c a)
       unfolding twiceArea
-      right-within = half-within (tri a b c) (tri n c a) above (right-half (at M a) (at M b) (at M c) (at M n) (h .in-place)) (right-held (h .in-place)) (twice-right (h .in-place) (dxOf M) (h .in-dx)) (twice-right (h .in-place) (dyOf M) (h .in-dy))
+      right-within =
+          let i = h .in-place in
+          half-within (tri a b c) (tri n c a) above (right-half A B C N i) (right-held i) (twice-right i (dxOf M) (h .in-dx)) (twice-right i (dyOf M) (h .in-dy))
 
 -- ---- the parts of a cut
 
@@ -213,7 +223,8 @@ module _ (M : Mesh) (P : Place) (t : Tri) where
       later : {x : Tri} {l : List Tri} → SomeHolds l → SomeHolds (x ∷ l)
       later (k, i, h) = (k, List·Memᴰ·tail i, h)
 
-      go : (u v : Option ℕ) → HalfwayIf M (t .p) (t .q) u → HalfwayIf M (t .r) (t .p) v → HoldsPoint M P (tri m (t .p) (t .q)) ⊎ HoldsPoint M P (tri m (t .r) (t .p)) → SomeHolds (parts (bisected t (some m) u v))
+      go : (u v : Option ℕ) → HalfwayIf M (t .p) (t .q) u → HalfwayIf M (t .r) (t .p) v →
+          HoldsPoint M P (tri m (t .p) (t .q)) ⊎ HoldsPoint M P (tri m (t .r) (t .p)) → SomeHolds (parts (bisected t (some m) u v))
       go none none e f = ⊎-elim (λ l. first l) (λ r. later (first r))
       go (some u) none e f = ⊎-elim (λ l. ⊎-elim (λ k. first k) (λ k. later (later (first k))) (half-holds M P m (t .p) (t .q) u (e .in-place) l)) (λ r. later (first r))
       go none (some v) e f = ⊎-elim (λ l. first l) (λ r. ⊎-elim (λ k. later (first k)) (λ k. later (later (first k))) (half-holds M P m (t .r) (t .p) v (f .in-place) r))

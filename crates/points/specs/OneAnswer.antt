@@ -32,7 +32,7 @@ use Rattle.points.specs.AnyRow.{any-row-correction}
 pub covered-by : {m : Mesh} {P : Place} {t : Tri} → List·Memᴰ t (m .tris) → HoldsPoint m P t → Covered m P
 covered-by {m} {P} i h = let (j, l, e) = mem-at (tri 0 0 0) i in record { row = j; row-below = l; row-holds = subst⁻¹ (HoldsPoint m P) e h }
 
--- t is a row that holds the point, and what it makes of the point is told
+-- a row holds the point, and what it makes of the point is told
 record ToldBy (m : Mesh) (P : Place) : Type 0 where
   row : Tri
   row-in : List·Memᴰ row (m .tris)
@@ -77,16 +77,16 @@ module _ {m : Mesh} (law : Lawful m) (proper : Proper m) where
 
 -- ---- two meshes
 
--- row t of m holds the point, and makes of it what row u of n makes
+-- a row of m holds the point, and makes of it what row u of n makes
 pub record Likewise (m n : Mesh) (P : Place) (u : Tri) : Type 0 where
   pub row : Tri
   pub row-in : List·Memᴰ row (m .tris)
   pub holds : HoldsPoint m P row
   pub same : correctionIn n P u ≡ correctionIn m P row
 
--- A lawful mesh n is told what m is, if a row of m makes of the point what each row of n that holds it makes, and a row of n holds it wherever one of m does.
-pub same-told : {m n : Mesh} → Lawful m → Proper m → Lawful n → (P : Place) → ((u : Tri) → List·Memᴰ u (n .tris) → HoldsPoint n P u → Likewise m n P u) → ((t : Tri) → List·Memᴰ t (m .tris) → HoldsPoint m P t → Covered n P) →
-    asks n P ≡ asks m P
+-- Two meshes tell the same of a point, if for each row of n that holds it a row of m does so likewise, and a row of n holds it wherever one of m does.
+pub same-told : {m n : Mesh} → Lawful m → Proper m → Lawful n → (P : Place) →
+    ((u : Tri) → List·Memᴰ u (n .tris) → HoldsPoint n P u → Likewise m n P u) → ((t : Tri) → List·Memᴰ t (m .tris) → HoldsPoint m P t → Covered n P) → asks n P ≡ asks m P
 same-told {m} {n} law proper lawful P back there = go (isFound (rowHolding n P)) refl
   where
     go : (b : Bool) → isFound (rowHolding n P) ≡ b → asks n P ≡ asks m P

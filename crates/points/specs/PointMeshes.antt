@@ -70,6 +70,14 @@ node-not-told = (refl, refl)
 abbrev slope : ℤ → ℤ → Mesh
 slope dx dy = mesh (bears (pos 0) (pos 6) (pos 0) (pos 0) ∷ bears (pos 0) (pos 0) (pos 0) (pos 0) ∷ bears (pos 6) (pos 0) dx dy ∷ []) (tri 0 1 2 ∷ [])
 
+-- 3 and 0 have an odd sum, 6 and 0 an even one
+abbrev odd : Mesh
+odd = slope (pos 3) (pos 6)
+
+-- 4 and 0, −2 and 0: even sums
+abbrev smooth : Mesh
+smooth = slope (pos 4) (negsuc 1)
+
 abbrev cut : Mesh → Mesh
 cut m = refined newest m (1 ∷ [])
 
@@ -83,45 +91,45 @@ points = place (pos 4) (pos 0) ∷ place (pos 2) (pos 0) ∷ place (pos 3) (pos 
 abbrev outside : Told
 outside = told 14 0 (correction (pos 0) (pos 0))
 
--- 3 and 0 have an odd sum, 6 and 0 an even one: dx was half the point's x and dy the x; node 3 carries (1, 3), the 1 rounded down from 3/2
-pub odd-before : map (asks (slope (pos 3) (pos 6))) points ≡ tells (pos 2) (pos 4) ∷ tells (pos 1) (pos 2) ∷ tells (pos 1) (pos 3) ∷ tells (pos 1) (pos 2) ∷ tells (pos 1) (pos 3) ∷ outside ∷ []
+-- dx is half the point's x, and dy the x; the new node, at (3, 0), is to carry (1, 3), the 1 rounded down from 3/2
+pub odd-before : map (asks odd) points ≡ tells (pos 2) (pos 4) ∷ tells (pos 1) (pos 2) ∷ tells (pos 1) (pos 3) ∷ tells (pos 1) (pos 2) ∷ tells (pos 1) (pos 3) ∷ outside ∷ []
 unfolding lowest lowestFrom twiceArea firstOutside firstMisnamed firstRepeat firstFlat firstUnused faultOf refusal culpritOf weighted weights meanIn rowHolding correctionAt askNo asks
 odd-before = refl
 
--- AN ODD SUM: ANSWERS CHANGE, by rounding, though the refine is accepted
-pub odd-after : (refineNo newest room (slope (pos 3) (pos 6)) (1 ∷ []) ≡ 0) ×
-    (map (asks (cut (slope (pos 3) (pos 6)))) points ≡ tells (pos 1) (pos 4) ∷ tells (pos 0) (pos 2) ∷ tells (pos 1) (pos 3) ∷ tells (pos 0) (pos 2) ∷ tells (pos 1) (pos 3) ∷ outside ∷ [])
+-- AN ODD SUM: ANSWERS CHANGE, by rounding, though the refine is accepted.
+pub odd-after : (refineNo newest room odd (1 ∷ []) ≡ 0) ×
+    (map (asks (cut odd)) points ≡ tells (pos 1) (pos 4) ∷ tells (pos 0) (pos 2) ∷ tells (pos 1) (pos 3) ∷ tells (pos 0) (pos 2) ∷ tells (pos 1) (pos 3) ∷ outside ∷ [])
 unfolding lowest lowestFrom twiceArea firstOutside firstMisnamed firstRepeat firstFlat firstUnused faultOf refusal closure splitEdges splitAt split refined culpritOf weighted weights meanIn rowHolding correctionAt refineNo askNo asks
 odd-after = (refl, refl)
 
--- even sums, one below 0: no answer changes
+-- EVEN SUMS: NO ANSWER CHANGES,
 abbrev even-told : List Told
 even-told = tells (pos 2) (negsuc 1) ∷ tells (pos 1) (negsuc 0) ∷ tells (pos 2) (negsuc 0) ∷ tells (pos 1) (negsuc 0) ∷ tells (pos 2) (negsuc 0) ∷ outside ∷ []
 
-pub even-before : map (asks (slope (pos 4) (negsuc 1))) points ≡ even-told
+pub even-before : map (asks smooth) points ≡ even-told
 unfolding lowest lowestFrom twiceArea firstOutside firstMisnamed firstRepeat firstFlat firstUnused faultOf refusal culpritOf weighted weights meanIn rowHolding correctionAt askNo asks
 even-before = refl
 
-pub even-after : map (asks (cut (slope (pos 4) (negsuc 1)))) points ≡ even-told
+pub even-after : map (asks (cut smooth)) points ≡ even-told
 unfolding lowest lowestFrom twiceArea firstOutside firstMisnamed firstRepeat firstFlat firstUnused faultOf refusal closure splitEdges splitAt split refined culpritOf weighted weights meanIn rowHolding correctionAt askNo asks
 even-after = refl
 
--- nor at any other point: the premises of `refined-asked` hold of it
-even-lawful : Lawful (slope (pos 4) (negsuc 1))
+-- NOR AT ANY OTHER POINT: the premises of `refined-asked` hold.
+even-lawful : Lawful smooth
 unfolding lowest lowestFrom twiceArea firstOutside firstMisnamed firstRepeat firstFlat firstUnused faultOf refusal
-even-lawful = refusal-lawful (slope (pos 4) (negsuc 1)) refl
+even-lawful = refusal-lawful smooth refl
 
-even-proper : Proper (slope (pos 4) (negsuc 1))
+even-proper : Proper smooth
 unfolding lowest lowestFrom noneLeft partedBy apart firstCrowded firstOverlap uncrowded disjoint
-even-proper = proper-exact (slope (pos 4) (negsuc 1)) even-lawful .1 (refl, refl)
+even-proper = proper-exact smooth even-lawful .1 (refl, refl)
 
-even-accepted : refineNo newest room (slope (pos 4) (negsuc 1)) (1 ∷ []) ≡ 0
+even-accepted : refineNo newest room smooth (1 ∷ []) ≡ 0
 unfolding lowest lowestFrom twiceArea firstOutside firstMisnamed firstRepeat firstFlat firstUnused faultOf refusal closure splitEdges splitAt split refined refineNo
 even-accepted = refl
 
-even-ends : All (EvenEnds (slope (pos 4) (negsuc 1))) (splitEdges (slope (pos 4) (negsuc 1)) (started newest (1 ∷ []) (tri 0 1 2 ∷ [])))
+even-ends : All (EvenEnds smooth) (splitEdges smooth (started newest (1 ∷ []) (tri 0 1 2 ∷ [])))
 unfolding closure splitEdges
 even-ends = cons (record { even-dx = refl; even-dy = refl }) nil
 
-pub even-keeps : (P : Place) → asks (cut (slope (pos 4) (negsuc 1))) P ≡ asks (slope (pos 4) (negsuc 1)) P
-even-keeps = refined-asked newest refl room (slope (pos 4) (negsuc 1)) (1 ∷ []) even-lawful even-proper even-accepted even-ends
+pub even-keeps : (P : Place) → asks (cut smooth) P ≡ asks smooth P
+even-keeps = refined-asked newest refl room smooth (1 ∷ []) even-lawful even-proper even-accepted even-ends

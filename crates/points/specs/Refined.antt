@@ -1,22 +1,19 @@
 -- W6 and W7: refining by bisection keeps what is told of every point, where the corrections of the two ends of every split edge have even sums: then
 -- the mean that a new node carries is exact (W5 rounds it down). Assumes nothing.
-use mathlib.Core.Bool.{Bool, true, false}
+use mathlib.Core.Bool.{true}
 use mathlib.Core.List.{List, map, List·Memᴰ, List·Memᴰ·head, List·Memᴰ·tail, Memᴰ·cast, Memᴰ·append-left, Memᴰ·append-right, Memᴰ·map}
 use mathlib.Core.Option.{Option, none, some}
 use mathlib.Core.Path.{_≡_, refl, sym, ap, subst, _∙_}
-use Prim.Native.Nat.{ℕ, min, max, _+_, _%_, _<_}
+use Prim.Native.Nat.{ℕ, _+_, _<_}
 use native.Mathlib.Omega.{arith}
-use lib.Dec.{leb}
-use lib.IntN.{ℤ, pos, natAbs, _+ℤ_, +ℤ-comm, *ℤ-comm}
+use lib.IntN.{ℤ, pos, _+ℤ_}
 use lib.ListN.{length, getD}
 use lib.Signed.{_<ℤ_}
-use borrow.Author.Tests.{eqb-true, leb-true, leb-false}
 use Rattle.lists.specs.declared.Found.{Found}
 use Rattle.lists.specs.Lists.{all, joined, All}
 use Rattle.lists.specs.ListsLaw.{All-of, All-at, All-getD, All-imp, all-yes, WhereIs, nowhere, place-of, where-is}
 use Rattle.lists.specs.MembersLaw.{joined-in}
 use Rattle.whole.specs.Diff.{onℤ}
-use Rattle.whole.specs.Half.{half-even}
 use Rattle.whole.specs.Ring.{K, _:+_, _:*_, ring1}
 use Rattle.meaning.specs.declared.Correction.{Correction}
 use Rattle.meaning.specs.declared.Node.{Node}
@@ -30,16 +27,17 @@ use Rattle.meaning.specs.Split.{Way, Cut, bisected, even, half, plus, numberOf,
 use Rattle.meaning.specs.Asking.{HoldsPoint, Covered, dxOf, dyOf}
 use Rattle.meaning.specs.Calls.{refineNo, asks}
 use Rattle.meaning.specs.Tables.{Room}
+use Rattle.laws.specs.Area.{ends-sum}
 use Rattle.laws.specs.Floor.{floor-exact}
 use Rattle.laws.specs.Edges.{sameEdge-eq}
 use Rattle.laws.specs.Cut.{MidOf, parts}
 use Rattle.laws.specs.Bisected.{bisected-laws}
-use Rattle.laws.specs.Midpoints.{centred}
+use Rattle.laws.specs.Midpoints.{twice-half, centred}
 use Rattle.laws.specs.SplitLaw.{cutRows, all-cuts, split-old, split-new, split-lawful}
 use Rattle.laws.specs.Refine.{refine-halves}
 use Rattle.proper.specs.Fine.{Mean}
 use Rattle.points.specs.OneAnswer.{Likewise, SameCorners, corners-back, corners-hold, corners-make, corners-area, covered-by, same-told}
-use Rattle.points.specs.Halves.{HalfwayIf, Halved, Within, parts-within, some-part}
+use Rattle.points.specs.Halves.{HalfwayIf, Halved, parts-within, some-part}
 
 -- ---- exact means
 
@@ -50,25 +48,9 @@ pub record EvenEnds (m : Mesh) (e : Edge) : Type 0 where
 
 twice-floor : (z : ℤ) → even z ≡ true → floor z (pos 2) +ℤ floor z (pos 2) ≡ z
 twice-floor z e =
-    let h = half-even z (eqb-true (natAbs z % 2) 0 e) in
-    let k = floor-exact {s = z} {d = pos 2} (omega (arith, onℤ)) (half z) (sym h ∙ *ℤ-comm (pos 2) (half z)) in
-    (λ j. k j +ℤ k j) ∙ ring1 (λ x. (x :+ x, K (pos 2) :* x)) (half z) tt ∙ h
-
--- an edge's lower and higher node, or the two as they were given
-ends-sum : (f : ℕ → ℤ) (a b : ℕ) → f (min a b) +ℤ f (max a b) ≡ f a +ℤ f b
-ends-sum f a b = go (leb a b) refl
-  where
-    go : (t : Bool) → leb a b ≡ t → f (min a b) +ℤ f (max a b) ≡ f a +ℤ f b
-    go true e =
-        let l = leb-true a b e in
-        let p : min a b ≡ a = omega arith in
-        let q : max a b ≡ b = omega arith in
-        λ i. f (p i) +ℤ f (q i)
-    go false e =
-        let l = leb-false a b e in
-        let p : min a b ≡ b = omega arith in
-        let q : max a b ≡ a = omega arith in
-        (λ i. f (p i) +ℤ f (q i)) ∙ +ℤ-comm (f b) (f a)
+    let h = twice-half z e in
+    let k = floor-exact {s = z} {d = pos 2} (omega (arith, onℤ)) (half z) (sym h ∙ ring1 (λ x. (x :+ x, x :* K (pos 2))) (half z) tt) in
+    (λ j. k j +ℤ k j) ∙ h
 
 -- g is f on the nodes below n, and on n + i the floor of the mean of the ends of the i-th edge, whose sum is even
 mean-if : (f g : ℕ → ℤ) (n : ℕ) (s : List Edge) → ((k : ℕ) → k < n → g k ≡ f k) →
@@ -122,14 +104,17 @@ module _ (m : Mesh) (start : List Edge) (law : Lawful m) (exact : all (halves m)
     where
       -- of a part of what a node carries
       carried : (part : Correction → ℤ) → ((c d : Correction) → part (mean c d) ≡ floor (part c +ℤ part d) (pos 2)) →
-          All (λ e. even (part (nodeOf m (e .lo) .correction) +ℤ part (nodeOf m (e .hi) .correction)) ≡ true) S → (a b : ℕ) → a < n → b < n → Mean (λ k. part (nodeOf After k .correction)) a b (num a b)
+          All (λ e. even (part (nodeOf m (e .lo) .correction) +ℤ part (nodeOf m (e .hi) .correction)) ≡ true) S →
+          (a b : ℕ) → a < n → b < n → Mean (λ k. part (nodeOf After k .correction)) a b (num a b)
       carried part is evens =
           mean-if (λ k. part (nodeOf m k .correction)) (λ k. part (nodeOf After k .correction)) n S (λ k l. ap (λ (d : Node). part (d .correction)) (split-old bisected m start k l))
-          (λ i l. ap (λ (d : Node). part (d .correction)) (split-new bisected m start i (edge 0 0) l) ∙ is (nodeOf m (getD S i (edge 0 0) .lo) .correction) (nodeOf m (getD S i (edge 0 0) .hi) .correction)) evens
+          (λ i l. ap (λ (d : Node). part (d .correction)) (split-new bisected m start i (edge 0 0) l)
+          ∙ is (nodeOf m (getD S i (edge 0 0) .lo) .correction) (nodeOf m (getD S i (edge 0 0) .hi) .correction)) evens
 
       halfway : (a b : ℕ) → a < n → b < n → MidOf After a b (num a b) → HalfwayIf After a b (num a b)
       halfway a b ha hb h =
-          halfway-if After a b (num a b) h (carried (λ c. c .dx) (λ c d. refl) (All-imp (λ e x. x .even-dx) evens) a b ha hb) (carried (λ c. c .dy) (λ c d. refl) (All-imp (λ e x. x .even-dy) evens) a b ha hb)
+          halfway-if After a b (num a b) h
+          (carried (λ c. c .dx) (λ c d. refl) (All-imp (λ e x. x .even-dx) evens) a b ha hb) (carried (λ c. c .dy) (λ c d. refl) (All-imp (λ e x. x .even-dy) evens) a b ha hb)
 
   -- the nodes of a row stay as they are
   corners-stay : (t : Tri) → Named (length (m .nodes)) t → SameCorners m After t

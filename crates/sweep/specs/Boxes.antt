@@ -21,7 +21,7 @@ use Rattle.meaning.specs.Proper.{Shape, Point, left, area, Inside, Share}
 use Rattle.laws.specs.Area.{Turn}
 use Rattle.proper.specs.Tested.{share-exact}
 use Rattle.pairs.specs.Pair.{shapeBy, corners, grave}
-use Rattle.columns.specs.Columns.{shifted, along, low, high}
+use Rattle.columns.specs.Columns.{shifted, low, high}
 use Rattle.sweep.specs.Between.{coord, not-above, not-below}
 use Rattle.sweep.specs.Touch.{Touching, touches-is}
 use Rattle.sweep.specs.Gravest.{GraveIs, touch, overlap, clear, grave-is}

@@ -7,10 +7,10 @@ use mathlib.Core.Path.{_≡_, refl, sym, ap, subst, _∙_}
 use Prim.Native.Nat.{ℕ, _≤_, _<_}
 use native.Mathlib.Omega.{arith}
 use native.Mathlib.Decide.{decLt}
-use lib.IntN.{ℤ, pos}
+use lib.IntN.{pos}
 use lib.ListN.{length}
 use lib.Signed.{_≤ℤ_, _<ℤ_}
-use Rattle.lists.specs.Lists.{cases, All, nil, cons}
+use Rattle.lists.specs.Lists.{cases, nil, cons}
 use Rattle.lists.specs.ListsLaw.{clash, or-left, or-right, All-at}
 use Rattle.lists.specs.MembersLaw.{mem-at, at-mem, count-some}
 use Rattle.whole.specs.Diff.{onℤ}
@@ -19,34 +19,28 @@ use Rattle.whole.specs.Ring.{Expr, K, _:+_, _:-_, _:*_, ring4}
 use Rattle.meaning.specs.declared.Place.{Place}
 use Rattle.meaning.specs.declared.Tri.{Tri}
 use Rattle.meaning.specs.Mesh.{Mesh, Arrow, tri, arrows, holdsNode, at, turn, twiceArea}
-use Rattle.meaning.specs.Lawful.{Lawful, Named, rowOf}
-use Rattle.meaning.specs.Proper.{Shape, shape, area, facing, StrictlyInside, Share, Crowded, at-one-place, inside-edge, Overlaps, with-lower, apart, uncrowded, disjoint}
+use Rattle.meaning.specs.Lawful.{Lawful, rowOf}
+use Rattle.meaning.specs.Proper.{Shape, shape, area, facing, Share, Crowded, at-one-place, inside-edge, Overlaps, with-lower, apart, uncrowded, disjoint}
 use Rattle.laws.specs.Area.{Turn, turn-from}
 use Rattle.proper.specs.ProperLaw.{uncrowded-exact, disjoint-exact}
 use Rattle.proper.specs.Tested.{share-exact}
-use Rattle.pairs.specs.Pair.{corners, touches, grave}
+use Rattle.pairs.specs.Pair.{shapeBy, corners, touches, grave}
 use Rattle.sweep.specs.Between.{at-end}
 use Rattle.sweep.specs.Touch.{On, Touching, touches-is, is-touches, across, own-corner, holds-corner, corner-side}
-use Rattle.sweep.specs.Severity.{severity, graveOf, Met, none, of-rows, Gravest}
+use Rattle.sweep.specs.Severity.{severity, Met, none, of-rows, Gravest}
 
 -- ---- two rows
 
 pub data GraveIs (P : ℕ → Place) (t u : Tri) : ℕ → Type 0 where
   touch : (touches P t u ≡ true) ⊎ (touches P u t ≡ true) → GraveIs P t u 2
-  overlap : apart (record { p = P (t .p); q = P (t .q); r = P (t .r) }) (record { p = P (u .p); q = P (u .q); r = P (u .r) }) ≡ false → GraveIs P t u 1
+  overlap : apart (shapeBy P t) (shapeBy P u) ≡ false → GraveIs P t u 1
   clear : GraveIs P t u 0
 
 pub grave-is : (P : ℕ → Place) (t u : Tri) → GraveIs P t u (grave P t u)
 unfolding grave
-grave-is P t u = go (touches P t u) refl (touches P u t) refl (apart s v) refl
+grave-is P t u = go (touches P t u) refl (touches P u t) refl (apart (shapeBy P t) (shapeBy P u)) refl
   where
-    s : Shape
-    s = record { p = P (t .p); q = P (t .q); r = P (t .r) }
-
-    v : Shape
-    v = record { p = P (u .p); q = P (u .q); r = P (u .r) }
-
-    go : (a : Bool) → touches P t u ≡ a → (b : Bool) → touches P u t ≡ b → (c : Bool) → apart s v ≡ c → GraveIs P t u (cases (a || b) 2 (cases c 0 1))
+    go : (a : Bool) → touches P t u ≡ a → (b : Bool) → touches P u t ≡ b → (c : Bool) → apart (shapeBy P t) (shapeBy P u) ≡ c → GraveIs P t u (cases (a || b) 2 (cases c 0 1))
     go true e b f c g = touch (inl e)
     go false e true f c g = touch (inr f)
     go false e false f true g = clear
@@ -65,7 +59,7 @@ module _ (P : ℕ → Place) (t u : Tri) where
   unfolding grave
   grave-touch e = rw e refl
 
-  grave-overlap : apart (record { p = P (t .p); q = P (t .q); r = P (t .r) }) (record { p = P (u .p); q = P (u .q); r = P (u .r) }) ≡ false → 1 ≤ grave P t u
+  grave-overlap : apart (shapeBy P t) (shapeBy P u) ≡ false → 1 ≤ grave P t u
   unfolding grave
   grave-overlap e = rw e (go (touches P t u || touches P u t))
     where

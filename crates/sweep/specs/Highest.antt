@@ -1,6 +1,5 @@
 -- The highest that a function gives of the numbers from i up to, not including, t; 0 if there are none. A counting loop gives it. Assumes nothing.
-use mathlib.Core.Logic.{_⊎_, inl, inr}
-use mathlib.Core.Path.{_≡_, refl, sym, _∙_}
+use mathlib.Core.Path.{_≡_, sym}
 use Prim.Native.Nat.{ℕ, zero, suc, max, _+_, _-_, _≤_, _<_}
 use native.Mathlib.Omega.{arith}
 use native.Mathlib.Decide.{decLt, ℕ-discrete}
@@ -12,6 +11,11 @@ raised f q r = max r (f q)
 
 unfoldable pub highest : (ℕ → ℕ) → ℕ → ℕ → ℕ
 highest f i t = iter (raised f) i t 0
+
+-- it is 0, or what f gives of some number
+pub data HighestIs (f : ℕ → ℕ) (i t : ℕ) : ℕ → Type 0 where
+  of-none : HighestIs f i t 0
+  of : (q : ℕ) → i ≤ q → q < t → HighestIs f i t (f q)
 
 -- it is r, from which it began, or what f gives of some number
 data Reached (f : ℕ → ℕ) (i k r : ℕ) : ℕ → Type 0 where
@@ -47,10 +51,10 @@ module _ (f : ℕ → ℕ) where
   unfolding highest iter
   highest-most i t q a b = from-most i (t - i) 0 q a (omega arith)
 
-  pub highest-met : (i t : ℕ) → (highest f i t ≡ 0) ⊎ ((q : ℕ) × (i ≤ q) × (q < t) × (f q ≡ highest f i t))
+  pub highest-is : (i t : ℕ) → HighestIs f i t (highest f i t)
   unfolding highest iter
-  highest-met i t = go (from-met i (t - i) 0)
+  highest-is i t = go (from-met i (t - i) 0)
     where
-      go : {w : ℕ} → Reached f i (t - i) 0 w → (w ≡ 0) ⊎ ((q : ℕ) × (i ≤ q) × (q < t) × (f q ≡ w))
-      go still = inl refl
-      go (by q a b) = inr (q, a, omega arith, refl)
+      go : {w : ℕ} → Reached f i (t - i) 0 w → HighestIs f i t w
+      go still = of-none
+      go (by q a b) = of q a (omega arith)

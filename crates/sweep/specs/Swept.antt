@@ -1,18 +1,16 @@
 -- W7: rows that stand in order, compared where their boxes meet, give the gravest of any two. Assumes nothing.
-use mathlib.Core.Bool.{Bool, true, false, not, _&&_}
+use mathlib.Core.Bool.{Bool, true, false, not}
 use mathlib.Core.List.{List}
-use mathlib.Core.Logic.{_⊎_, inl, inr, _≢_}
+use mathlib.Core.Logic.{_≢_}
 use mathlib.Core.Path.{_≡_, refl, sym, ap, ap₂, _∙_}
-use Prim.Native.Nat.{ℕ, zero, suc, _+_, _≤_, _<_}
+use Prim.Native.Nat.{ℕ, _+_, _≤_, _<_}
 use native.Mathlib.Omega.{arith}
 use native.Mathlib.Decide.{decLt, ℕ-discrete}
 use borrow.Author.Tests.{le-leb, ne-eqb, eqb-false}
-use lib.Dec.{eqb, leb}
-use lib.ListN.{getD}
+use lib.Dec.{eqb}
 use Rattle.lists.specs.Lists.{cases}
 use Rattle.lists.specs.ListsLaw.{and-both}
 use Rattle.meaning.specs.declared.Place.{Place}
-use Rattle.meaning.specs.declared.Tri.{Tri}
 use Rattle.meaning.specs.Tables.{rowAt}
 use Rattle.pairs.specs.Pair.{grave, graveAt}
 use Rattle.pairs.specs.SeenLaw.{grave-sym}
@@ -21,7 +19,7 @@ use Rattle.columns.specs.declared.Boxed.{Boxed}
 use Rattle.columns.specs.Columns.{low, high, column, home, before, rank, boxAt, boxOf, Ordered}
 use Rattle.columns.specs.Rank.{before-most, before-mono, rank-below, rank-most, rank-apart, column-mono, column-below}
 use Rattle.sweep.specs.Boxes.{Sound, boxes-clear}
-use Rattle.sweep.specs.Highest.{highest, highest-most, highest-met}
+use Rattle.sweep.specs.Highest.{HighestIs, of-none, of, highest-most, highest-is}
 use Rattle.sweep.specs.Sweep.{meeting, compared, visited, reach, sweptPlace, swept}
 
 -- some two rows are as grave as r, or r is 0
@@ -118,20 +116,16 @@ module _ (s : Scale) (P : ℕ → Place) (rows scratch : List ℕ) (t : ℕ) (o 
 
   place-met : (p r : ℕ) → p < t → sweptPlace s P rows scratch p ≡ r → SomeTwo P rows t r
   unfolding sweptPlace
-  place-met p r a e = go (highest-met (visited P rows scratch (s .count) (box p)) (p + 1) (reach s P rows scratch (box p .row)))
+  place-met p r a e = go (highest-is (visited P rows scratch (s .count) (box p)) (p + 1) (reach s P rows scratch (box p .row))) e
     where
-      go : (highest (visited P rows scratch (s .count) (box p)) (p + 1) (reach s P rows scratch (box p .row)) ≡ 0)
-          ⊎ ((q : ℕ) × (p + 1 ≤ q) × (q < reach s P rows scratch (box p .row)) × (visited P rows scratch (s .count) (box p) q ≡ highest (visited P rows scratch (s .count) (box p)) (p + 1) (reach s P rows scratch (box p .row))))
-          → SomeTwo P rows t r
-      go (inl z) = none (sym e ∙ z)
-      go (inr w) =
-          let l = reach-most s P rows scratch t o some (box p .row) in
-          visit-met p (w .0) r a (omega (arith, w .2)) (w .3 ∙ e)
+      go : {w : ℕ} → HighestIs (visited P rows scratch (s .count) (box p)) (p + 1) (reach s P rows scratch (box p .row)) w → w ≡ r → SomeTwo P rows t r
+      go of-none e = none (sym e)
+      go (of q l u) e = let m = reach-most s P rows scratch t o some (box p .row) in visit-met p q r a (omega arith) e
 
   pub swept-met : SomeTwo P rows t (swept s P rows scratch t)
   unfolding swept
-  swept-met = go (highest-met (sweptPlace s P rows scratch) 0 t)
+  swept-met = go (highest-is (sweptPlace s P rows scratch) 0 t)
     where
-      go : (highest (sweptPlace s P rows scratch) 0 t ≡ 0) ⊎ ((p : ℕ) × (0 ≤ p) × (p < t) × (sweptPlace s P rows scratch p ≡ highest (sweptPlace s P rows scratch) 0 t)) → SomeTwo P rows t (highest (sweptPlace s P rows scratch) 0 t)
-      go (inl z) = none z
-      go (inr w) = place-met (w .0) (highest (sweptPlace s P rows scratch) 0 t) (w .2) (w .3)
+      go : {w : ℕ} → HighestIs (sweptPlace s P rows scratch) 0 t w → SomeTwo P rows t w
+      go of-none = none refl
+      go (of p l u) = place-met p (sweptPlace s P rows scratch p) u refl

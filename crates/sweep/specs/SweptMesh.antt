@@ -1,21 +1,19 @@
 -- W7: the mesh in the tables: what the sweep of its rows gives is its severity. Assumes nothing.
 use mathlib.Core.List.{List}
-use mathlib.Core.Path.{_≡_, refl, sym, ap, subst, _∙_}
+use mathlib.Core.Path.{_≡_, refl, sym, _∙_}
 use Prim.Native.Nat.{ℕ, _+_, _*_, _≤_, _<_}
 use native.Mathlib.Omega.{arith}
-use lib.IntN.{ℤ, pos}
+use lib.IntN.{ℤ}
 use lib.ListN.{length}
-use lib.Signed.{_<ℤ_}
 use Rattle.lists.specs.Lists.{nil, cons}
 use Rattle.lists.specs.IterLaw.{length-items, getD-items}
 use Rattle.meaning.specs.declared.Place.{Place}
 use Rattle.meaning.specs.declared.Tri.{Tri}
 use Rattle.meaning.specs.Mesh.{Mesh, tri, at, twiceArea}
-use Rattle.meaning.specs.Lawful.{Lawful, Named, rowOf}
+use Rattle.meaning.specs.Lawful.{Lawful, rowOf}
 use Rattle.meaning.specs.Tables.{placeAt, rowAt}
-use Rattle.meaning.specs.Proper.{area}
 use Rattle.laws.specs.Meshes.{meshAt, place-is, row-named, row-stands, row-above}
-use Rattle.pairs.specs.Pair.{shapeBy, grave}
+use Rattle.pairs.specs.Pair.{grave}
 use Rattle.pairs.specs.Seen.{seenBy}
 use Rattle.pairs.specs.SeenLaw.{seen-same}
 use Rattle.columns.specs.declared.Scale.{Scale}

@@ -13,13 +13,13 @@ use Rattle.lists.specs.ListsLaw.{clash, All-at, All-getD, all-yes, any-at, any-
 use Rattle.lists.specs.MembersLaw.{mem-at, at-mem}
 use Rattle.meaning.specs.declared.Tri.{Tri}
 use Rattle.meaning.specs.Mesh.{Mesh, Edge, tri, edge, edges, sameEdge, at}
-use Rattle.meaning.specs.Lawful.{rowOf, refusal}
+use Rattle.meaning.specs.Lawful.{rowOf}
 use Rattle.meaning.specs.Good.{Middle}
 use Rattle.meaning.specs.Split.{Way, Cut, bisected, memEdge, plus, numberOf, halves, midpoint, cutOf, splitEdges, splitAt, split, started, refined}
 use Rattle.meaning.specs.Tables.{Room}
-use Rattle.meaning.specs.Calls.{marksFit, refineNo}
+use Rattle.meaning.specs.Calls.{refineNo}
 use Rattle.laws.specs.Area.{middle-either}
-use Rattle.laws.specs.Numbers.{unless-done, orElse-done}
+use Rattle.laws.specs.Refine.{refine-halves}
 use Rattle.laws.specs.Edges.{edge-comm, sameEdge-eq, memEdge-in}
 use Rattle.laws.specs.Closure.{splitEdges-within, splitEdges-apart, splitEdges-pull}
 use Rattle.laws.specs.Bisected.{bisected-laws}
@@ -251,9 +251,4 @@ from-refined base m G w cuts marks even =
 
 -- So an accepted refine does.
 pub from-refine : (base m : Mesh) → GrownFrom base m → (w : Way) → w .cutting ≡ bisected → (room : Room) (marks : List ℕ) → refineNo w room m marks ≡ 0 → GrownFrom base (refined w m marks)
-unfolding refineNo
-from-refine base m G w cuts room marks e =
-    let a = unless-done (marksFit (length (m .tris)) marks) 2 _ (omega arith) e in
-    let b = orElse-done (refusal m) _ (a .1) in
-    let c = unless-done (all (halves m) (splitEdges m (started w marks (m .tris)))) 8 _ (omega arith) (b .1) in
-    from-refined base m G w cuts marks (c .0)
+from-refine base m G w cuts room marks e = from-refined base m G w cuts marks (refine-halves w room m marks e)

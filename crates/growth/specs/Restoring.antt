@@ -7,8 +7,8 @@ use native.Mathlib.Decide.{decLt}
 use native.Mathlib.Omega.{arith}
 use lib.ListN.{length}
 use Rattle.meaning.specs.Mesh.{Mesh}
-use Rattle.meaning.specs.Coarsen.{goodNodes, allMarked, pass, Restored, restored}
-use Rattle.laws.specs.Restore.{Passes, none-good, one-pass, pass-fewer, restored-is, restored-ends}
+use Rattle.meaning.specs.Coarsen.{goodNodes, allMarked, pass, restored}
+use Rattle.laws.specs.Restore.{pass-fewer, restored-keeps, restored-ends}
 use Rattle.growth.specs.GrownFrom.{GrownFrom, grown-end-is-base}
 use Rattle.growth.specs.Goodness.{good-there}
 use Rattle.growth.specs.Coarsening.{from-coarsened}
@@ -20,10 +20,6 @@ module _ (base : Mesh) where
   from-pass : {m : Mesh} → GrownFrom base m → GrownFrom base (pass (length (base .nodes)) m)
   unfolding pass
   from-pass {m} G = from-coarsened base m G (allMarked (m .nodes))
-
-  from-passes : {m : Mesh} {r : Restored} → Passes (length (base .nodes)) m r → GrownFrom base m → GrownFrom base (r .end)
-  from-passes (none-good e) G = G
-  from-passes (one-pass z zs e p) G = from-passes p (from-pass G)
 
   module _ {m : Mesh} (G : GrownFrom base m) where
     -- A FULL PASS REMOVES A NODE while nodes are added.
@@ -44,4 +40,4 @@ module _ (base : Mesh) where
 
   -- RESTORE ENDS WITH THE BASE.
   pub restored-base : {m : Mesh} → GrownFrom base m → restored (length (base .nodes)) m .end ≡ base
-  restored-base {m} G = none-good-base (from-passes (restored-is n₀ m) G) (restored-ends n₀ m)
+  restored-base {m} G = none-good-base (restored-keeps (GrownFrom base) n₀ (λ x. from-pass) m G) (restored-ends n₀ m)

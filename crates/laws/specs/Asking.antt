@@ -1,6 +1,6 @@
 -- W6 as one statement, `asks-exact`: what a question about a point is told, exactly when. The row used is the lowest that holds the point, 14 is
 -- given exactly if no row does, any refusal gives 0, 0, and what is told is the mean of that row's corrections. Assumes nothing.
-use mathlib.Core.Bool.{Bool, true, false, _&&_}
+use mathlib.Core.Bool.{Bool, true, _&&_}
 use mathlib.Core.List.{List·Memᴰ}
 use mathlib.Core.Logic.{_↔_}
 use mathlib.Core.Path.{_≡_, refl, sym, ap, subst, subst⁻¹, _∙_}

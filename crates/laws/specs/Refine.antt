@@ -296,6 +296,14 @@ pub record Refined (w : Way) (room : Room) (m : Mesh) (marks : List ℕ) (after 
       map (λ t. cutOf (w .cutting) (length (m .nodes)) (toSplit w m marks) t .kept) (m .tris) ++
       joined (λ t. cutOf (w .cutting) (length (m .nodes)) (toSplit w m marks) t .added) (m .tris)
 
+-- when refine says 0, every edge to be split has an exact midpoint
+pub refine-halves : (w : Way) (room : Room) (m : Mesh) (marks : List ℕ) → refineNo w room m marks ≡ 0 → all (halves m) (toSplit w m marks) ≡ true
+refine-halves w room m marks e = go (refine-exact w room m marks 0 .0 e)
+  where
+    go : RefineSays w room m marks 0 → all (halves m) (toSplit w m marks) ≡ true
+    go (unlawful k g above l) = absurd (omega arith)
+    go (no-fault g law h f) = all-halves w room m marks h
+
 -- WHEN REFINE SAYS 0, it leaves a lawful mesh of the same total.
 pub refine-done : (w : Way) → CutLaws (w .cutting) → (room : Room) (m : Mesh) (marks : List ℕ) → refineNo w room m marks ≡ 0 →
     Refined w room m marks (refined w m marks)

@@ -124,6 +124,14 @@ pub restored-is : (n0 : ℕ) (m : Mesh) → Passes n0 m (restored n0 m)
 unfolding restored
 restored-is n0 m = run-is (length (m .nodes)) n0 m (omega arith)
 
+-- what a pass keeps, a restore keeps
+pub restored-keeps : (P : Mesh → Type 0) (n0 : ℕ) → ((m : Mesh) → P m → P (pass n0 m)) → (m : Mesh) → P m → P (restored n0 m .end)
+restored-keeps P n0 kept m h = go (restored-is n0 m) h
+  where
+    go : {x : Mesh} {r : Restored} → Passes n0 x r → P x → P (r .end)
+    go (none-good e) h = h
+    go {x = x} (one-pass z zs e p) h = go p (kept x h)
+
 passes-end : {n0 : ℕ} {m : Mesh} {r : Restored} → Passes n0 m r → goodNodes n0 (r .end) ≡ []
 passes-end (none-good e) = e
 passes-end (one-pass z zs e p) = passes-end p

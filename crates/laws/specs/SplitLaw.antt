@@ -31,10 +31,10 @@ use Rattle.laws.specs.Source.{source, allowed-source}
 
 -- ---- the rows of all cuts: those that keep their fathers' places, then those that are appended
 
-abbrev cutRows : (Tri → Cut) → List Tri → List Tri
+abbrev pub cutRows : (Tri → Cut) → List Tri → List Tri
 cutRows k ts = map (λ t. k t .kept) ts ++ joined (λ t. k t .added) ts
 
-all-cuts : (P : Tri → Type 0) (k : Tri → Cut) {ts : List Tri} → All (λ t. All P (parts (k t))) ts → All P (cutRows k ts)
+pub all-cuts : (P : Tri → Type 0) (k : Tri → Cut) {ts : List Tri} → All (λ t. All P (parts (k t))) ts → All P (cutRows k ts)
 all-cuts P k h = All-append (All-map (λ t. k t .kept) (All-imp (λ t g. All·head g) h)) (All-joined (λ t. k t .added) (All-imp (λ t g. All·tail g) h))
 
 tally-cuts : (f : Tri → ℕ) (k : Tri → Cut) (ts : List Tri) → tally f (cutRows k ts) ≡ tally (λ t. tally f (parts (k t))) ts
@@ -96,6 +96,22 @@ number-some n s e h = go (numberOf n s e) (number-there n s e ∙ ap bit h)
     go : (o : Option ℕ) → there o ≡ 1 → (k : ℕ) × (o ≡ some k)
     go none w = absurd (omega arith)
     go (some k) w = (k, refl)
+
+-- an edge of a row is split only with the row's refinement edge
+pub split-with-base : (m : Mesh) (start : List Edge) {t : Tri} → List·Memᴰ t (m .tris) → there (numberOf (length (m .nodes)) (splitEdges m start) (edge (t .q) (t .r))) ≡ 0 →
+    (there (numberOf (length (m .nodes)) (splitEdges m start) (edge (t .p) (t .q))) ≡ 0) × (there (numberOf (length (m .nodes)) (splitEdges m start) (edge (t .r) (t .p))) ≡ 0)
+split-with-base m start {t} i z =
+    let pull = All-at (splitEdges-pull m start) i in
+    (unsplit (edge (t .p) (t .q)) (All·head (All·tail pull)), unsplit (edge (t .r) (t .p)) (All·head (All·tail (All·tail pull))))
+  where
+    no-bit : (x y : Bool) → (x ≡ true → y ≡ true) → bit y ≡ 0 → bit x ≡ 0
+    no-bit true y f z = absurd (let w = ap bit (f refl) in omega arith)
+    no-bit false y f z = refl
+
+    unsplit : (e : Edge) → (memEdge e (splitEdges m start) ≡ true → memEdge (base t) (splitEdges m start) ≡ true) → there (numberOf (length (m .nodes)) (splitEdges m start) e) ≡ 0
+    unsplit e f =
+        let n = length (m .nodes) in
+        number-there n (splitEdges m start) e ∙ no-bit (memEdge e (splitEdges m start)) (memEdge (base t) (splitEdges m start)) f (sym (number-there n (splitEdges m start) (base t)) ∙ z)
 
 -- ---- any edges s, whether or not they are closed
 
@@ -179,19 +195,10 @@ module _ {c : Cutting} (laws : CutLaws c) (m : Mesh) (start : List Edge) where
       let a = number-there n S (edge (t .q) (t .r)) in
       let b = number-there n S (edge (t .p) (t .q)) in
       let d = number-there n S (edge (t .r) (t .p)) in
-      let pull = All-at (splitEdges-pull m start) i in
-      let g = cut-rows laws t o u v (λ z.
-      (b ∙ unsplit (edge (t .p) (t .q)) (All·head (All·tail pull)) (sym a ∙ z), d ∙ unsplit (edge (t .r) (t .p)) (All·head (All·tail (All·tail pull))) (sym a ∙ z))) in
+      let g = cut-rows laws t o u v (split-with-base m start i) in
       let h = tally-length (cutOf c n S t .added) in
       let k = count-tally (λ e. memEdge e S) (edges t) in
       omega arith
-    where
-      no-bit : (x y : Bool) → (x ≡ true → y ≡ true) → bit y ≡ 0 → bit x ≡ 0
-      no-bit true y f z = absurd (let w = ap bit (f refl) in omega arith)
-      no-bit false y f z = refl
-
-      unsplit : (e : Edge) → (memEdge e S ≡ true → memEdge (base t) S ≡ true) → bit (memEdge (base t) S) ≡ 0 → bit (memEdge e S) ≡ 0
-      unsplit e f z = no-bit (memEdge e S) (memEdge (base t) S) f z
 
   pub split-rows : length (split c m start .tris) ≡ length (m .tris) + tally splits (m .tris)
   unfolding S split splitAt

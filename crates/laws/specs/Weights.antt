@@ -3,11 +3,11 @@
 use mathlib.Core.Path.{_≡_}
 use Prim.Native.Nat.{ℕ}
 use native.Mathlib.Omega.{arith}
-use lib.IntN.{ℤ, pos, _+ℤ_, _*ℤ_, *ℤ-comm}
+use lib.IntN.{ℤ, pos, _+ℤ_, _*ℤ_}
 use lib.Signed.{_≤ℤ_}
 use Rattle.whole.specs.Diff.{onℤ, sumℤ}
 use Rattle.whole.specs.Ring.{_:+_, _:*_, ring4, ring6, ring8, ring9}
-use Rattle.whole.specs.Order.{scale-le}
+use Rattle.whole.specs.Order.{times-le}
 use Rattle.meaning.specs.declared.Place.{Place}
 use Rattle.meaning.specs.declared.Tri.{Tri}
 use Rattle.meaning.specs.Mesh.{Mesh, tri, at, twiceArea}
@@ -49,10 +49,17 @@ weighted-corner f m t =
 module _ (a b c : ℤ) (i : pos 0 ≤ℤ a) (j : pos 0 ≤ℤ b) (k : pos 0 ≤ℤ c) where
   weighted-le : (u v w u′ v′ w′ : ℤ) → u ≤ℤ u′ → v ≤ℤ v′ → w ≤ℤ w′ → (a *ℤ u +ℤ b *ℤ v +ℤ c *ℤ w) ≤ℤ (a *ℤ u′ +ℤ b *ℤ v′ +ℤ c *ℤ w′)
   weighted-le u v w u′ v′ w′ x y z =
-      let l : (a *ℤ u) ≤ℤ (a *ℤ u′) = rw (*ℤ-comm a u, *ℤ-comm a u′) (scale-le a u u′ i x) in
-      let n : (b *ℤ v) ≤ℤ (b *ℤ v′) = rw (*ℤ-comm b v, *ℤ-comm b v′) (scale-le b v v′ j y) in
-      let o : (c *ℤ w) ≤ℤ (c *ℤ w′) = rw (*ℤ-comm c w, *ℤ-comm c w′) (scale-le c w w′ k z) in
-      omega (arith, onℤ, sumℤ (a *ℤ u) (b *ℤ v), sumℤ (a *ℤ u +ℤ b *ℤ v) (c *ℤ w), sumℤ (a *ℤ u′) (b *ℤ v′), sumℤ (a *ℤ u′ +ℤ b *ℤ v′) (c *ℤ w′))
+      omega (
+        arith,
+        onℤ,
+        times-le a u u′ i x,
+        times-le b v v′ j y,
+        times-le c w w′ k z,
+        sumℤ (a *ℤ u) (b *ℤ v),
+        sumℤ (a *ℤ u +ℤ b *ℤ v) (c *ℤ w),
+        sumℤ (a *ℤ u′) (b *ℤ v′),
+        sumℤ (a *ℤ u′ +ℤ b *ℤ v′) (c *ℤ w′),
+      )
 
   spread : (l : ℤ) → l *ℤ (a +ℤ b +ℤ c) ≡ a *ℤ l +ℤ b *ℤ l +ℤ c *ℤ l
   spread l = ring4 (λ l a b c. (l :* (a :+ b :+ c), a :* l :+ b :* l :+ c :* l)) l a b c tt

@@ -41,7 +41,7 @@ module _ (m : Mesh) (zs : List ℕ) where
   unfolding without
   without-node k h s = staying-at zs (m .nodes) origin k h s
 
-  without-at : (k : ℕ) → k < length (m .nodes) → stays zs k ≡ true → at (without m zs) (renumber zs k) ≡ at m k
+  pub without-at : (k : ℕ) → k < length (m .nodes) → stays zs k ≡ true → at (without m zs) (renumber zs k) ≡ at m k
   without-at k h s = ap (λ a. a .place) (without-node k h s)
 
   pub without-below : (k : ℕ) → k < length (m .nodes) → stays zs k ≡ true → renumber zs k < length (without m zs .nodes)
@@ -76,12 +76,12 @@ sum-map f g k (cons h hs) = ap₂ _+ℤ_ h (sum-map f g k hs)
 -- ---- the rows after, with the old numbers
 
 -- a row of three nodes that stay
-record Sound (m : Mesh) (zs : List ℕ) (t : Tri) : Type 0 where
-  named : Named (length (m .nodes)) t
-  p-stays : stays zs (t .p) ≡ true
-  q-stays : stays zs (t .q) ≡ true
-  r-stays : stays zs (t .r) ≡ true
-  above : pos 0 <ℤ twiceArea m t
+pub record Sound (m : Mesh) (zs : List ℕ) (t : Tri) : Type 0 where
+  pub named : Named (length (m .nodes)) t
+  pub p-stays : stays zs (t .p) ≡ true
+  pub q-stays : stays zs (t .q) ≡ true
+  pub r-stays : stays zs (t .r) ≡ true
+  pub above : pos 0 <ℤ twiceArea m t
 
 stays-not : (zs : List ℕ) (z k : ℕ) → List·Memᴰ z zs → stays zs k ≡ true → z ≡ k → ⊥
 stays-not zs z k i s e = clash (sym s ∙ ap not (any-at (eqb k) (eq-eqb k z (sym e)) i))
@@ -138,6 +138,10 @@ module _ (m : Mesh) (zs : List ℕ) (law : Lawful m) (ok : Takeable m zs) where
         r-stays = untouched-stays t (t .r) n (holds-r t);
         above = All-at (law .positive) j;
       }
+
+  pub rows-sound : All (Sound m zs) (joined (fate (brood m zs)) (m .tris))
+  unfolding rows-after
+  rows-sound = sound
 
   -- ---- no directed edge occurs twice
 

@@ -31,7 +31,7 @@ val f s = f .a *ℤ s .X +ℤ f .b *ℤ s .Y +ℤ f .c *ℤ s .W
 pub val-sum : (f : Form) (s t : Point) → val f (s ⊕ t) ≡ val f s +ℤ val f t
 unfolding val
 val-sum f s t =
-    ring9 (λ a b c x y w x' y' w'. (a :* (x :+ x') :+ b :* (y :+ y') :+ c :* (w :+ w'), (a :* x :+ b :* y :+ c :* w) :+ (a :* x' :+ b :* y' :+ c :* w')))
+    ring9 (λ a b c x y w x′ y′ w′. (a :* (x :+ x′) :+ b :* (y :+ y′) :+ c :* (w :+ w′), (a :* x :+ b :* y :+ c :* w) :+ (a :* x′ :+ b :* y′ :+ c :* w′)))
     (f .a) (f .b) (f .c) (s .X) (s .Y) (s .W) (t .X) (t .Y) (t .W) tt
 
 pub val-times : (f : Form) (n : ℤ) (s : Point) → val f (n ⊙ s) ≡ n *ℤ val f s
@@ -92,7 +92,7 @@ pub weigh4 : (m n k l : ℕ) (a b c d : ℤ) → (m ≡ 0) ⊎ (pos 0 <ℤ a) �
 weigh4 m n k l a b c d e f g h =
     omega (arith, onℤ, weigh m a e, weigh n b f, weigh k c g, weigh l d h, sumℤ (pos m *ℤ a) (pos n *ℤ b), sumℤ (pos k *ℤ c) (pos l *ℤ d), sumℤ (pos m *ℤ a +ℤ pos n *ℤ b) (pos k *ℤ c +ℤ pos l *ℤ d))
 
-pub val-mix : (f : Form) (m n k l : ℕ) (s t u v : Point) → val f (mix m n k l s t u v) ≡ (pos m *ℤ val f s +ℤ pos n *ℤ val f t) +ℤ (pos k *ℤ val f u +ℤ pos l *ℤ val f v)
+val-mix : (f : Form) (m n k l : ℕ) (s t u v : Point) → val f (mix m n k l s t u v) ≡ (pos m *ℤ val f s +ℤ pos n *ℤ val f t) +ℤ (pos k *ℤ val f u +ℤ pos l *ℤ val f v)
 val-mix f m n k l s t u v =
     val-sum f (pos m ⊙ s ⊕ pos n ⊙ t) (pos k ⊙ u ⊕ pos l ⊙ v)
     ∙ rw (val-sum f (pos m ⊙ s) (pos n ⊙ t), val-sum f (pos k ⊙ u) (pos l ⊙ v), val-times f (pos m) s, val-times f (pos n) t, val-times f (pos k) u, val-times f (pos l) v)

@@ -12,12 +12,14 @@ use lib.Signed.{_<ℤ_}
 use Rattle.lists.specs.ListsLaw.{All-at, any-at}
 use Rattle.whole.specs.Diff.{onℤ, negℤ-ud}
 use Rattle.meaning.specs.declared.Tri.{Tri}
-use Rattle.meaning.specs.Mesh.{Mesh, Arrow, tri, arrows, sameArrow, at, turn, twiceArea}
+use Rattle.meaning.specs.Mesh.{Mesh, Arrow, arrows, sameArrow, at, turn, twiceArea}
 use Rattle.meaning.specs.Lawful.{Named, Lawful}
 use Rattle.meaning.specs.Proper.{area, shape}
 use Rattle.laws.specs.Area.{turn-cycle, turn-mirror}
 use Rattle.laws.specs.Edges.{eq-arrow, here, here-self, here-no}
+use Rattle.laws.specs.Faults.{holds-own}
 use Rattle.laws.specs.Pairs.{arrows-once, holder-one}
+use Rattle.laws.specs.Weights.{turned}
 use Rattle.proper.specs.OnLine.{len, len-above}
 use Rattle.proper.specs.Sums.{Sum, Mix, mix, level, two, SameSum, rotated, rotated-same, without-third}
 
@@ -34,6 +36,7 @@ same-weight s u e j = let f : pos (weightOf s j) ≡ pos (weightOf u j) = e (pea
 
 -- ---- corners
 
+-- node k is a corner of row t
 pub data IsCorner (k : ℕ) (t : Tri) : Type 0 where
   is-p : k ≡ t .p → IsCorner k t
   is-q : k ≡ t .q → IsCorner k t
@@ -107,7 +110,7 @@ module _ (m : Mesh) (law : Lawful m) {t : Tri} (i : List·Memᴰ t (m .tris)) wh
         to-below = N .r-below;
         apart = N .q≢r;
         long = len-above (at m (t .q)) (at m (t .r)) (at m (t .p)) above-qrp;
-        sum = λ α β. (0, α, β, λ φ. rotated-same (mix t 0 α β) φ ∙ without-third (tri (t .q) (t .r) (t .p)) α β 0 refl φ);
+        sum = λ α β. (0, α, β, λ φ. rotated-same (mix t 0 α β) φ ∙ without-third (turned t) α β 0 refl φ);
       }
 
   edge-rp : RowEdge m t (t .r) (t .p)
@@ -118,7 +121,7 @@ module _ (m : Mesh) (law : Lawful m) {t : Tri} (i : List·Memᴰ t (m .tris)) wh
         to-below = N .p-below;
         apart = N .r≢p;
         long = len-above (at m (t .r)) (at m (t .p)) (at m (t .q)) above-rpq;
-        sum = λ α β. (β, 0, α, λ φ. rotated-same (mix t β 0 α) φ ∙ rotated-same (rotated (mix t β 0 α)) φ ∙ without-third (tri (t .r) (t .p) (t .q)) α β 0 refl φ);
+        sum = λ α β. (β, 0, α, λ φ. rotated-same (mix t β 0 α) φ ∙ rotated-same (rotated (mix t β 0 α)) φ ∙ without-third (turned (turned t)) α β 0 refl φ);
       }
 
   pub row-edge : {e : Arrow} → List·Memᴰ e (arrows t) → RowEdge m t (e .from) (e .to)
@@ -131,13 +134,13 @@ module _ (m : Mesh) (law : Lawful m) {t : Tri} (i : List·Memᴰ t (m .tris)) wh
 module _ (m : Mesh) (law : Lawful m) {t u : Tri} (i : List·Memᴰ t (m .tris)) (j : List·Memᴰ u (m .tris)) where
   -- both hold one arrow
   same-arrow : {d e : Arrow} → List·Memᴰ d (arrows t) → List·Memᴰ e (arrows u) → d .from ≡ e .from → d .to ≡ e .to → t ≡ u
-  same-arrow {d} {e} k l p q = holder-one d (arrows-once m law) i (any-at (sameArrow d) (eq-arrow d (d .from) (d .to) refl refl) k) j (any-at (sameArrow d) (eq-arrow d (e .from) (e .to) p q) l)
+  same-arrow {d} {e} k l p q = holder-one d (arrows-once m law) i (holds-own d k) j (any-at (sameArrow d) (eq-arrow d (e .from) (e .to) p q) l)
 
   -- the same corners the other way round make the opposite area
-  opposed : (a b c : ℕ) → turn (at m (t .p)) (at m (t .q)) (at m (t .r)) ≡ turn (at m a) (at m c) (at m b) → turn (at m (u .p)) (at m (u .q)) (at m (u .r)) ≡ turn (at m a) (at m b) (at m c) → ⊥
-  opposed a b c e f =
-      let h = above-pqr m law i in
-      let k = above-pqr m law j in
+  opposed : {a b c : ℕ} → pos 0 <ℤ turn (at m a) (at m b) (at m c) → t .p ≡ a → t .q ≡ c → t .r ≡ b → ⊥
+  opposed {a} {b} {c} h e f g =
+      let k = above-pqr m law i in
+      let moved : area (shape m t) ≡ turn (at m a) (at m c) (at m b) = λ d. turn (at m (e d)) (at m (f d)) (at m (g d)) in
       let n = turn-mirror (at m a) (at m b) (at m c) in
       omega (arith, onℤ, negℤ-ud (turn (at m a) (at m b) (at m c)))
 
@@ -150,12 +153,6 @@ module _ (m : Mesh) (law : Lawful m) {t u : Tri} (i : List·Memᴰ t (m .tris)) 
       first : {k l o : ℕ} → k ≡ o → l ≡ o → k ≡ l
       first e f = e ∙ sym f
 
-      area-t : ℤ
-      area-t = turn (at m (t .p)) (at m (t .q)) (at m (t .r))
-
-      moved : {a b c : ℕ} → t .p ≡ a → t .q ≡ b → t .r ≡ c → area-t ≡ turn (at m a) (at m b) (at m c)
-      moved e f g = λ k. turn (at m (e k)) (at m (f k)) (at m (g k))
-
       go : IsCorner (t .p) u → IsCorner (t .q) u → IsCorner (t .r) u → t ≡ u
       go (is-p e) (is-p f) z = absurd (N .p≢q (first e f))
       go (is-q e) (is-q f) z = absurd (N .p≢q (first e f))
@@ -165,16 +162,17 @@ module _ (m : Mesh) (law : Lawful m) {t u : Tri} (i : List·Memᴰ t (m .tris)) 
       go (is-r e) (is-p f) z = same-arrow (List·Memᴰ·head refl) (List·Memᴰ·tail (List·Memᴰ·tail (List·Memᴰ·head refl))) e f
       go (is-q e) (is-p f) (is-p g) = absurd (N .q≢r (first f g))
       go (is-q e) (is-p f) (is-q g) = absurd (N .r≢p (first g e))
-      go (is-q e) (is-p f) (is-r g) = absurd (opposed (u .r) (u .p) (u .q) (moved e f g ∙ turn-cycle (at m (u .q)) (at m (u .p)) (at m (u .r)) ∙ turn-cycle (at m (u .p)) (at m (u .r)) (at m (u .q))) (sym (turn-cycle (at m (u .r)) (at m (u .p)) (at m (u .q)))))
+      go (is-q e) (is-p f) (is-r g) = absurd (opposed (above-qrp m law j) e f g)
       go (is-r e) (is-q f) (is-q g) = absurd (N .q≢r (first f g))
       go (is-r e) (is-q f) (is-r g) = absurd (N .r≢p (first g e))
-      go (is-r e) (is-q f) (is-p g) = absurd (opposed (u .p) (u .q) (u .r) (moved e f g ∙ turn-cycle (at m (u .r)) (at m (u .q)) (at m (u .p)) ∙ turn-cycle (at m (u .q)) (at m (u .p)) (at m (u .r))) refl)
+      go (is-r e) (is-q f) (is-p g) = absurd (opposed (above-rpq m law j) e f g)
       go (is-p e) (is-r f) (is-r g) = absurd (N .q≢r (first f g))
       go (is-p e) (is-r f) (is-p g) = absurd (N .r≢p (first g e))
-      go (is-p e) (is-r f) (is-q g) = absurd (opposed (u .p) (u .q) (u .r) (moved e f g) refl)
+      go (is-p e) (is-r f) (is-q g) = absurd (opposed (above-pqr m law j) e f g)
 
 -- a sum with weight at every corner tells the row
-pub full-row : (m : Mesh) → Lawful m → (s u : Mix) → List·Memᴰ (s .row) (m .tris) → List·Memᴰ (u .row) (m .tris) → SameSum (level s) (level u) → 0 < s .a → 0 < s .b → 0 < s .c → s .row ≡ u .row
+pub full-row : (m : Mesh) → Lawful m → (s u : Mix) → List·Memᴰ (s .row) (m .tris) → List·Memᴰ (u .row) (m .tris) →
+    SameSum (level s) (level u) → 0 < s .a → 0 < s .b → 0 < s .c → s .row ≡ u .row
 full-row m law s u i j e a b c =
     let N = All-at (law .named) i in
     same-corners m law i j

@@ -5,24 +5,25 @@ use mathlib.Core.Path.{_≡_, refl, sym, ap, _∙_}
 use Prim.Native.Nat.{ℕ, zero, suc, _+_, _<_}
 use native.Mathlib.Omega.{arith}
 use native.Mathlib.Decide.{decLt}
-use lib.IntN.{ℤ, pos, _+ℤ_, _-ℤ_, _*ℤ_}
+use lib.IntN.{ℤ, pos, _+ℤ_, _-ℤ_, _*ℤ_, *ℤ-comm}
 use lib.ListN.{length}
 use lib.Signed.{_≤ℤ_, _<ℤ_}
 use Rattle.whole.specs.Diff.{onℤ, sumℤ, subℤ}
 use Rattle.whole.specs.Ring.{K, _:+_, _:-_, _:*_, ring2, ring3, ring4}
-use Rattle.whole.specs.Order.{lt-or-le, positive-times, times-le, times-cancel}
+use Rattle.whole.specs.Order.{lt-or-le, positive-times, nonpos-times, times-le, times-cancel}
 use Rattle.meaning.specs.declared.Place.{Place}
 use Rattle.meaning.specs.Mesh.{Mesh, at}
 use Rattle.meaning.specs.Proper.{StrictlyInside}
 use Rattle.laws.specs.Area.{turn-back}
-use Rattle.proper.specs.OnLine.{along, len, zero-of-mul, inside-of-along, between-inside, at-start, along-swap, len-swap, between-others}
+use Rattle.proper.specs.Between.{between-inside}
+use Rattle.proper.specs.OnLine.{along, len, zero-of-mul, inside-of-along, at-start, along-swap, len-swap, between-others}
 use Rattle.proper.specs.Sums.{one, two, by-x, by-y, by-one, SamePoint, SameSum, two-linear, affine-same, turnTo, alongTo, along-affine}
 
 -- no two nodes at one place
 abbrev pub PlacesDiffer : Mesh → Type 0
 PlacesDiffer m = (j k : ℕ) → j < k → k < length (m .nodes) → at m j ≢ at m k
 
-pub one-node : (m : Mesh) → PlacesDiffer m → (j k : ℕ) → j < length (m .nodes) → k < length (m .nodes) → at m j ≡ at m k → j ≡ k
+one-node : (m : Mesh) → PlacesDiffer m → (j k : ℕ) → j < length (m .nodes) → k < length (m .nodes) → at m j ≡ at m k → j ≡ k
 one-node m differ j k hj hk e = go (decLt j k) (decLt k j)
   where
     go : Dec (j < k) → Dec (k < j) → j ≡ k
@@ -43,7 +44,7 @@ inside-swap {A} {B} {P} h = record {
   between = rw (ring4 (λ a b c d. (a :* b :+ c :* d, b :* a :+ d :* c)) (B .x -ℤ P .x) (A .x -ℤ P .x) (B .y -ℤ P .y) (A .y -ℤ P .y) tt) (h .between);
 }
 
-pub side-swap : {m : Mesh} {x y : ℕ} → Side m x y → Side m y x
+side-swap : {m : Mesh} {x y : ℕ} → Side m x y → Side m y x
 side-swap {m} {x} {y} E = record {
   from-below = E .to-below;
   to-below = E .from-below;
@@ -95,15 +96,16 @@ kind x y (suc α) (suc β) = both (omega arith) (omega arith)
 
 -- ---- two edges on one line with a point inside both
 
-data Where (ξ L : ℤ) : Type 0 where
-  before : ξ ≤ℤ pos 0 → Where ξ L
-  within : pos 0 <ℤ ξ → ξ <ℤ L → Where ξ L
-  past : L ≤ℤ ξ → Where ξ L
+-- where ξ lies, seen from 0 and from L
+data Lies (ξ L : ℤ) : Type 0 where
+  before : ξ ≤ℤ pos 0 → Lies ξ L
+  within : pos 0 <ℤ ξ → ξ <ℤ L → Lies ξ L
+  past : L ≤ℤ ξ → Lies ξ L
 
-where-is : (ξ L : ℤ) → Where ξ L
-where-is ξ L = go (lt-or-le (pos 0) ξ) (lt-or-le ξ L)
+lies : (ξ L : ℤ) → Lies ξ L
+lies ξ L = go (lt-or-le (pos 0) ξ) (lt-or-le ξ L)
   where
-    go : (pos 0 <ℤ ξ) ⊎ (ξ ≤ℤ pos 0) → (ξ <ℤ L) ⊎ (L ≤ℤ ξ) → Where ξ L
+    go : (pos 0 <ℤ ξ) ⊎ (ξ ≤ℤ pos 0) → (ξ <ℤ L) ⊎ (L ≤ℤ ξ) → Lies ξ L
     go (inr h) i = before h
     go (inl h) (inl i) = within h i
     go (inl h) (inr i) = past i
@@ -140,8 +142,10 @@ module _ (m : Mesh) (differ : PlacesDiffer m) (x y : ℕ) (E : Side m x y) (α �
         swap = along-swap (at m x) (at m y) (at m y′)
 
         go : (along (at m y) (at m x) (at m y′) <ℤ pos 0) ⊎ (pos 0 ≤ℤ along (at m y) (at m x) (at m y′)) → along (at m y) (at m x) (at m y′) ≡ pos 0
-        go (inl l) = absurd (E′ .clear y (E .to-below) (inside-swap (between-others (at m y) (at m x) (at m y′) (at m x′) (turn-back (at m x) (at m y) (at m y′) flat-y) (turn-back (at m x) (at m y) (at m x′) flat-x)
-            (side-swap E .long) l (rw back-x (E .long)))))
+        go (inl l) =
+            let flat-y′ = turn-back (at m x) (at m y) (at m y′) flat-y in
+            let flat-x′ = turn-back (at m x) (at m y) (at m x′) flat-x in
+            absurd (E′ .clear y (E .to-below) (inside-swap (between-others (at m y) (at m x) (at m y′) (at m x′) flat-y′ flat-x′ (side-swap E .long) l (rw back-x (E .long)))))
         go (inr l) = omega (arith, onℤ, swap, high, subℤ (len (at m x) (at m y)) (alongTo m x y y′))
 
     same-x : x′ ≡ x
@@ -155,7 +159,7 @@ module _ (m : Mesh) (differ : PlacesDiffer m) (x y : ℕ) (E : Side m x y) (α �
         let far : alongTo m x y y′ ≡ len (at m x) (at m y) = ap (alongTo m x y) same-y in
         let e = along-sum x′ y′ α′ β′ same ∙ two-last (pos α′) (pos β′) (alongTo m x y x′) (alongTo m x y y′) at-low ∙ ap (λ z. pos β′ *ℤ z) far in
         let f = times-cancel (len (at m x) (at m y)) (pos β) (pos β′) (E .long)
-        (ring2 (λ l b. (l :* b, b :* l)) (len (at m x) (at m y)) (pos β) tt ∙ e ∙ ring2 (λ l b. (b :* l, l :* b)) (len (at m x) (at m y)) (pos β′) tt) in
+        (*ℤ-comm (len (at m x) (at m y)) (pos β) ∙ e ∙ *ℤ-comm (pos β′) (len (at m x) (at m y))) in
         omega (arith, onℤ)
 
     ordered : SameSum (two x y α β) (two x′ y′ α′ β′)
@@ -167,7 +171,7 @@ module _ (m : Mesh) (differ : PlacesDiffer m) (x y : ℕ) (E : Side m x y) (α �
 
   overlapping : (x′ y′ : ℕ) → Side m x′ y′ → (α′ β′ : ℕ) → turnTo m x y x′ ≡ pos 0 → turnTo m x y y′ ≡ pos 0
       → SamePoint m (two x y α β) (two x′ y′ α′ β′) → SameSum (two x y α β) (two x′ y′ α′ β′)
-  overlapping x′ y′ E′ α′ β′ flat-x flat-y same = go (where-is (alongTo m x y x′) L) (where-is (alongTo m x y y′) L)
+  overlapping x′ y′ E′ α′ β′ flat-x flat-y same = go (lies (alongTo m x y x′) L) (lies (alongTo m x y y′) L)
     where
       sum : pos β *ℤ L ≡ pos α′ *ℤ alongTo m x y x′ +ℤ pos β′ *ℤ alongTo m x y y′
       sum = along-sum x′ y′ α′ β′ same
@@ -180,14 +184,17 @@ module _ (m : Mesh) (differ : PlacesDiffer m) (x y : ℕ) (E : Side m x y) (α �
         arith,
         onℤ,
         positive-times (pos β) l (omega (arith, onℤ)) g,
-        times-le (pos α′) ξ (pos 0) (omega (arith, onℤ)) h,
-        times-le (pos β′) η (pos 0) (omega (arith, onℤ)) i,
+        nonpos-times (pos α′) ξ (omega (arith, onℤ)) h,
+        nonpos-times (pos β′) η (omega (arith, onℤ)) i,
         sumℤ (pos α′ *ℤ ξ) (pos β′ *ℤ η),
       )
 
+      share : (p q : ℕ) (l : ℤ) → pos p *ℤ l +ℤ pos q *ℤ l ≡ pos (p + q) *ℤ l
+      share p q l = ring3 (λ a b l. (a :* l :+ b :* l, (a :+ b) :* l)) (pos p) (pos q) l tt
+
       too-high : (l ξ η : ℤ) → pos 0 <ℤ l → pos β *ℤ l ≡ pos α′ *ℤ ξ +ℤ pos β′ *ℤ η → α + β ≡ α′ + β′ → l ≤ℤ ξ → l ≤ℤ η → ⊥
       too-high l ξ η g e w h i =
-          let s : (pos α *ℤ l) +ℤ (pos β *ℤ l) ≡ pos α′ *ℤ l +ℤ pos β′ *ℤ l = ring3 (λ a b l. (a :* l :+ b :* l, (a :+ b) :* l)) (pos α) (pos β) l tt ∙ ap (λ (n : ℕ). pos n *ℤ l) w ∙ ring3 (λ a b l. ((a :+ b) :* l, a :* l :+ b :* l)) (pos α′) (pos β′) l tt in
+          let s = share α β l ∙ ap (λ (n : ℕ). pos n *ℤ l) w ∙ sym (share α′ β′ l) in
           omega (
             arith,
             onℤ,
@@ -199,7 +206,7 @@ module _ (m : Mesh) (differ : PlacesDiffer m) (x y : ℕ) (E : Side m x y) (α �
             sumℤ (pos α *ℤ l) (pos β *ℤ l),
           )
 
-      go : Where (alongTo m x y x′) L → Where (alongTo m x y y′) L → SameSum (two x y α β) (two x′ y′ α′ β′)
+      go : Lies (alongTo m x y x′) L → Lies (alongTo m x y y′) L → SameSum (two x y α β) (two x′ y′ α′ β′)
       go (within h i) w = absurd (inner x′ (E′ .from-below) flat-x h i)
       go (before h) (within i j) = absurd (inner y′ (E′ .to-below) flat-y i j)
       go (past h) (within i j) = absurd (inner y′ (E′ .to-below) flat-y i j)

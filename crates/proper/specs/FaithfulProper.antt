@@ -21,7 +21,7 @@ use Rattle.meaning.specs.Proper.{Shape, Point, left, area, Inside, Share, Stric
 use Rattle.laws.specs.Edges.{here, here-self, here-no}
 use Rattle.laws.specs.Pairs.{same-row}
 use Rattle.laws.specs.RowMean.{CornerOf, is-p, is-q, is-r, corner-of}
-use Rattle.proper.specs.OnLine.{Between, inside-between, as-nat}
+use Rattle.proper.specs.Between.{Between, inside-between, as-nat}
 use Rattle.proper.specs.Sums.{Sum, mix, level, one, two, by-x, by-y, by-one, SamePoint, SameSum, Faithful}
 use Rattle.proper.specs.Corners.{SumOf, above-pqr, row-edge, peak, full-row}
 
@@ -30,7 +30,10 @@ only-node : (k x y α β : ℕ) → 0 < α → 0 < β → SameSum (one k (α + �
 only-node k x y α β hα hβ f = (is x y α β (sum x y α β f) (ℕ-discrete x k) (ℕ-discrete y k) hα, is y x β α (omega (arith, sum x y α β f)) (ℕ-discrete y k) (ℕ-discrete x k) hβ)
   where
     sum : (x y α β : ℕ) → SameSum (one k (α + β)) (two x y α β) → α + β ≡ α * here k x + β * here k y
-    sum x y α β f = let e : pos ((α + β) * here k k) ≡ pos (α * here k x + β * here k y) = f (peak k) in let g : (α + β) * here k k ≡ (α + β) * 1 = ap (λ n. (α + β) * n) (here-self k) in omega (arith, onℤ)
+    sum x y α β f =
+        let e : pos ((α + β) * here k k) ≡ pos (α * here k x + β * here k y) = f (peak k) in
+        let g : (α + β) * here k k ≡ (α + β) * 1 = ap (λ n. (α + β) * n) (here-self k) in
+        omega (arith, onℤ)
 
     is : (x y α β : ℕ) → α + β ≡ α * here k x + β * here k y → Dec (x ≡ k) → Dec (y ≡ k) → 0 < α → x ≡ k
     is x y α β e (yes p) d h = p
@@ -140,7 +143,8 @@ module _ (m : Mesh) (law : Lawful m) where
         swap : (a b x : ℤ) → a *ℤ (b *ℤ x) ≡ b *ℤ (a *ℤ x)
         swap a b x = ring3 (λ a b x. (a :* (b :* x), b :* (a :* x))) a b x tt
 
-        same : (S : InsideSum (shape m t) (s .point) (area (shape m u))) (U : InsideSum (shape m u) (s .point) (area (shape m t))) → SamePoint m (level (mix t (S .a) (S .b) (S .c))) (level (mix u (U .a) (U .b) (U .c)))
+        same : (S : InsideSum (shape m t) (s .point) (area (shape m u))) (U : InsideSum (shape m u) (s .point) (area (shape m t))) →
+            SamePoint m (level (mix t (S .a) (S .b) (S .c))) (level (mix u (U .a) (U .b) (U .c)))
         same S U φ by-x = S .on-x ∙ swap (area (shape m u)) (area (shape m t)) (s .point .X) ∙ sym (U .on-x)
         same S U φ by-y = S .on-y ∙ swap (area (shape m u)) (area (shape m t)) (s .point .Y) ∙ sym (U .on-y)
         same S U φ by-one = S .on-one ∙ swap (area (shape m u)) (area (shape m t)) (s .point .W) ∙ sym (U .on-one)

@@ -19,9 +19,9 @@ part l x = ap (λ (z : ℤ). z *ℤ x) (own l) ∙ ring3 (λ a b c. ((a :- b) :*
     own : (l : ℤ) → l ≡ pos (up l) -ℤ pos (dn l)
     own l = omega (arith, onℤ, subℤ (pos (up l)) (pos (dn l)))
 
-apart8 : (a b c d a' b' c' d' : ℤ) → ((a -ℤ a') +ℤ (b -ℤ b')) +ℤ ((c -ℤ c') +ℤ (d -ℤ d')) ≡ pos 0 → (a +ℤ b) +ℤ (c +ℤ d) ≡ (a' +ℤ b') +ℤ (c' +ℤ d')
-apart8 a b c d a' b' c' d' e = combine₁ (pos 1) e
-    (ring8 (λ a b c d a' b' c' d'. ((a :+ b) :+ (c :+ d) :- ((a' :+ b') :+ (c' :+ d')), K (pos 1) :* (((a :- a') :+ (b :- b')) :+ ((c :- c') :+ (d :- d')) :- K (pos 0)))) a b c d a' b' c' d' tt)
+apart8 : (a b c d a′ b′ c′ d′ : ℤ) → ((a -ℤ a′) +ℤ (b -ℤ b′)) +ℤ ((c -ℤ c′) +ℤ (d -ℤ d′)) ≡ pos 0 → (a +ℤ b) +ℤ (c +ℤ d) ≡ (a′ +ℤ b′) +ℤ (c′ +ℤ d′)
+apart8 a b c d a′ b′ c′ d′ e = combine₁ (pos 1) e
+    (ring8 (λ a b c d a′ b′ c′ d′. ((a :+ b) :+ (c :+ d) :- ((a′ :+ b′) :+ (c′ :+ d′)), K (pos 1) :* (((a :- a′) :+ (b :- b′)) :+ ((c :- c′) :+ (d :- d′)) :- K (pos 0)))) a b c d a′ b′ c′ d′ tt)
 
 balance : (a b c d x y z w : ℤ) → dot a b c d x y z w ≡ pos 0
     → dot (pos (up a)) (pos (up b)) (pos (up c)) (pos (up d)) x y z w ≡ dot (pos (dn a)) (pos (dn b)) (pos (dn c)) (pos (dn d)) x y z w
@@ -39,13 +39,13 @@ none m n k l x y z w e =
 
 -- two sums of one weight: the first has a weight above 0
 module _ (x y z w : ℤ) (h : pos 0 <ℤ x) (i : pos 0 <ℤ y) (j : pos 0 <ℤ z) (k : pos 0 <ℤ w) where
-  weighs : (a b c d a' b' c' d' n : ℕ) → a + b + c + d ≡ n → dot (pos a) (pos b) (pos c) (pos d) x y z w ≡ dot (pos a') (pos b') (pos c') (pos d') x y z w
-      → 0 < (a + b + c + d) + (a' + b' + c' + d') → 0 < n
-  weighs a b c d a' b' c' d' zero e f g =
-      let le = weigh4 a' b' c' d' x y z w (inr h) (inr i) (inr j) (inr k) in
-      let le' : pos (a' + b' + c' + d') ≤ℤ pos 0 = subst (λ (v : ℤ). pos (a' + b' + c' + d') ≤ℤ v) (sym f ∙ none a b c d x y z w e) le in
+  weighs : (a b c d a′ b′ c′ d′ n : ℕ) → a + b + c + d ≡ n → dot (pos a) (pos b) (pos c) (pos d) x y z w ≡ dot (pos a′) (pos b′) (pos c′) (pos d′) x y z w
+      → 0 < (a + b + c + d) + (a′ + b′ + c′ + d′) → 0 < n
+  weighs a b c d a′ b′ c′ d′ zero e f g =
+      let le = weigh4 a′ b′ c′ d′ x y z w (inr h) (inr i) (inr j) (inr k) in
+      let le′ : pos (a′ + b′ + c′ + d′) ≤ℤ pos 0 = subst (λ (v : ℤ). pos (a′ + b′ + c′ + d′) ≤ℤ v) (sym f ∙ none a b c d x y z w e) le in
       omega (arith, onℤ)
-  weighs a b c d a' b' c' d' (suc n) e f g = omega arith
+  weighs a b c d a′ b′ c′ d′ (suc n) e f g = omega arith
 
 -- ---- a point with W above 0 in C
 pub record Meet (C : Point → Type 0) : Type 0 where
@@ -60,64 +60,83 @@ sign : (l : ℤ) → (up l ≡ 0) ⊎ (dn l ≡ 0)
 sign (pos n) = inr refl
 sign (negsuc n) = inl refl
 
-module _ (s t u v : Point) (hs : pos 0 <ℤ s .W) (ht : pos 0 <ℤ t .W) (hu : pos 0 <ℤ u .W) (hv : pos 0 <ℤ v .W) (g : Tied s t u v) where
+-- four points have two sums that are one: those of the weights above 0 and those of the weights below 0 in a dependency
+module _ {A B C D : Point → Type 0} (s : Meet A) (t : Meet B) (u : Meet C) (v : Meet D) where
+  abbrev g : Tied (s .at) (t .at) (u .at) (v .at)
+  g = tied (s .at) (t .at) (u .at) (v .at) (t .heavy)
+
   abbrev ups : Point
-  ups = mix (up (g .a)) (up (g .b)) (up (g .c)) (up (g .d)) s t u v
+  ups = mix (up (g .a)) (up (g .b)) (up (g .c)) (up (g .d)) (s .at) (t .at) (u .at) (v .at)
 
   abbrev dns : Point
-  dns = mix (dn (g .a)) (dn (g .b)) (dn (g .c)) (dn (g .d)) s t u v
+  dns = mix (dn (g .a)) (dn (g .b)) (dn (g .c)) (dn (g .d)) (s .at) (t .at) (u .at) (v .at)
 
-  level : dns ≡ ups
-  level i = record {
-    X = sym (balance (g .a) (g .b) (g .c) (g .d) (s .X) (t .X) (u .X) (v .X) (g .on-X)) i;
-    Y = sym (balance (g .a) (g .b) (g .c) (g .d) (s .Y) (t .Y) (u .Y) (v .Y) (g .on-Y)) i;
-    W = sym (balance (g .a) (g .b) (g .c) (g .d) (s .W) (t .W) (u .W) (v .W) (g .on-W)) i;
+  balanced : dot (pos (up (g .a))) (pos (up (g .b))) (pos (up (g .c))) (pos (up (g .d))) (s .at .W) (t .at .W) (u .at .W) (v .at .W) ≡
+      dot (pos (dn (g .a))) (pos (dn (g .b))) (pos (dn (g .c))) (pos (dn (g .d))) (s .at .W) (t .at .W) (u .at .W) (v .at .W)
+  balanced = balance (g .a) (g .b) (g .c) (g .d) (s .at .W) (t .at .W) (u .at .W) (v .at .W) (g .on-W)
+
+  one-point : dns ≡ ups
+  one-point i = record {
+    X = sym (balance (g .a) (g .b) (g .c) (g .d) (s .at .X) (t .at .X) (u .at .X) (v .at .X) (g .on-X)) i;
+    Y = sym (balance (g .a) (g .b) (g .c) (g .d) (s .at .Y) (t .at .Y) (u .at .Y) (v .at .Y) (g .on-Y)) i;
+    W = sym balanced i;
   }
 
   ups-some : 0 < up (g .a) + up (g .b) + up (g .c) + up (g .d)
-  ups-some = weighs (s .W) (t .W) (u .W) (v .W) hs ht hu hv _ _ _ _ _ _ _ _ _ refl (balance (g .a) (g .b) (g .c) (g .d) (s .W) (t .W) (u .W) (v .W) (g .on-W)) (omega (arith, g .some))
+  ups-some = weighs (s .at .W) (t .at .W) (u .at .W) (v .at .W) (s .heavy) (t .heavy) (u .heavy) (v .heavy) _ _ _ _ _ _ _ _ _ refl balanced (omega (arith, g .some))
 
   dns-some : 0 < dn (g .a) + dn (g .b) + dn (g .c) + dn (g .d)
-  dns-some = weighs (s .W) (t .W) (u .W) (v .W) hs ht hu hv _ _ _ _ _ _ _ _ _ refl (sym (balance (g .a) (g .b) (g .c) (g .d) (s .W) (t .W) (u .W) (v .W) (g .on-W))) (omega (arith, g .some))
+  dns-some = weighs (s .at .W) (t .at .W) (u .at .W) (v .at .W) (s .heavy) (t .heavy) (u .heavy) (v .heavy) _ _ _ _ _ _ _ _ _ refl (sym balanced) (omega (arith, g .some))
 
   ups-heavy : pos 0 <ℤ ups .W
-  ups-heavy = omega (arith, onℤ, ups-some, weigh4 (up (g .a)) (up (g .b)) (up (g .c)) (up (g .d)) (s .W) (t .W) (u .W) (v .W) (inr hs) (inr ht) (inr hu) (inr hv))
+  ups-heavy =
+      omega (
+        arith,
+        onℤ,
+        ups-some,
+        weigh4 (up (g .a)) (up (g .b)) (up (g .c)) (up (g .d)) (s .at .W) (t .at .W) (u .at .W) (v .at .W) (inr (s .heavy)) (inr (t .heavy)) (inr (u .heavy)) (inr (v .heavy)),
+      )
 
-  module _ (C : Point → Type 0) (c : Convex C) where
-    pick : (l : ℤ) → (up l ≡ 0 → C ups) → (dn l ≡ 0 → C dns) → C ups
+  -- a convex set that has three of the points has the sum: the fourth has no weight above 0, or none below
+  module _ (E : Point → Type 0) (e : Convex E) where
+    pick : (l : ℤ) → (up l ≡ 0 → E ups) → (dn l ≡ 0 → E dns) → E ups
     pick l i j = go (sign l)
       where
-        go : (up l ≡ 0) ⊎ (dn l ≡ 0) → C ups
-        go (inl e) = i e
-        go (inr e) = subst C level (j e)
+        go : (up l ≡ 0) ⊎ (dn l ≡ 0) → E ups
+        go (inl z) = i z
+        go (inr z) = subst E one-point (j z)
 
-    without-s : C t → C u → C v → C ups
-    without-s i j k = pick (g .a) (λ e. c .closed _ _ _ _ s t u v ups-some (inl e) (inr i) (inr j) (inr k)) (λ e. c .closed _ _ _ _ s t u v dns-some (inl e) (inr i) (inr j) (inr k))
+    among-ups : In E (up (g .a)) (s .at) → In E (up (g .b)) (t .at) → In E (up (g .c)) (u .at) → In E (up (g .d)) (v .at) → E ups
+    among-ups = e .closed _ _ _ _ (s .at) (t .at) (u .at) (v .at) ups-some
 
-    without-t : C s → C u → C v → C ups
-    without-t i j k = pick (g .b) (λ e. c .closed _ _ _ _ s t u v ups-some (inr i) (inl e) (inr j) (inr k)) (λ e. c .closed _ _ _ _ s t u v dns-some (inr i) (inl e) (inr j) (inr k))
+    among-dns : In E (dn (g .a)) (s .at) → In E (dn (g .b)) (t .at) → In E (dn (g .c)) (u .at) → In E (dn (g .d)) (v .at) → E dns
+    among-dns = e .closed _ _ _ _ (s .at) (t .at) (u .at) (v .at) dns-some
 
-    without-u : C s → C t → C v → C ups
-    without-u i j k = pick (g .c) (λ e. c .closed _ _ _ _ s t u v ups-some (inr i) (inr j) (inl e) (inr k)) (λ e. c .closed _ _ _ _ s t u v dns-some (inr i) (inr j) (inl e) (inr k))
+    without-s : E (t .at) → E (u .at) → E (v .at) → E ups
+    without-s i j k = pick (g .a) (λ z. among-ups (inl z) (inr i) (inr j) (inr k)) (λ z. among-dns (inl z) (inr i) (inr j) (inr k))
 
-    without-v : C s → C t → C u → C ups
-    without-v i j k = pick (g .d) (λ e. c .closed _ _ _ _ s t u v ups-some (inr i) (inr j) (inr k) (inl e)) (λ e. c .closed _ _ _ _ s t u v dns-some (inr i) (inr j) (inr k) (inl e))
+    without-t : E (s .at) → E (u .at) → E (v .at) → E ups
+    without-t i j k = pick (g .b) (λ z. among-ups (inr i) (inl z) (inr j) (inr k)) (λ z. among-dns (inr i) (inl z) (inr j) (inr k))
 
-pub helly : (C D E F : Point → Type 0) → Convex C → Convex D → Convex E → Convex F
+    without-u : E (s .at) → E (t .at) → E (v .at) → E ups
+    without-u i j k = pick (g .c) (λ z. among-ups (inr i) (inr j) (inl z) (inr k)) (λ z. among-dns (inr i) (inr j) (inl z) (inr k))
+
+    without-v : E (s .at) → E (t .at) → E (u .at) → E ups
+    without-v i j k = pick (g .d) (λ z. among-ups (inr i) (inr j) (inr k) (inl z)) (λ z. among-dns (inr i) (inr j) (inr k) (inl z))
+
+helly : (C D E F : Point → Type 0) → Convex C → Convex D → Convex E → Convex F
     → Meet (λ s. D s × E s × F s) → Meet (λ s. C s × E s × F s) → Meet (λ s. C s × D s × F s) → Meet (λ s. C s × D s × E s)
     → Meet (λ s. C s × D s × E s × F s)
-helly C D E F c d e f s t u v =
-    let g = tied (s .at) (t .at) (u .at) (v .at) (t .heavy) in
-    record {
-      at = ups (s .at) (t .at) (u .at) (v .at) (s .heavy) (t .heavy) (u .heavy) (v .heavy) g;
-      heavy = ups-heavy (s .at) (t .at) (u .at) (v .at) (s .heavy) (t .heavy) (u .heavy) (v .heavy) g;
-      mem = (
-        without-s (s .at) (t .at) (u .at) (v .at) (s .heavy) (t .heavy) (u .heavy) (v .heavy) g C c (t .mem .0) (u .mem .0) (v .mem .0),
-        without-t (s .at) (t .at) (u .at) (v .at) (s .heavy) (t .heavy) (u .heavy) (v .heavy) g D d (s .mem .0) (u .mem .1) (v .mem .1),
-        without-u (s .at) (t .at) (u .at) (v .at) (s .heavy) (t .heavy) (u .heavy) (v .heavy) g E e (s .mem .1) (t .mem .1) (v .mem .2),
-        without-v (s .at) (t .at) (u .at) (v .at) (s .heavy) (t .heavy) (u .heavy) (v .heavy) g F f (s .mem .2) (t .mem .2) (u .mem .2),
-      );
-    }
+helly C D E F c d e f s t u v = record {
+  at = ups s t u v;
+  heavy = ups-heavy s t u v;
+  mem = (
+    without-s s t u v C c (t .mem .0) (u .mem .0) (v .mem .0),
+    without-t s t u v D d (s .mem .0) (u .mem .1) (v .mem .1),
+    without-u s t u v E e (s .mem .1) (t .mem .1) (v .mem .2),
+    without-v s t u v F f (s .mem .2) (t .mem .2) (u .mem .2),
+  );
+}
 
 -- ---- six: three and three, where each of the one three meets all of the other
 module _ (A B C : Point → Type 0) (a : Convex A) (b : Convex B) (c : Convex C) where

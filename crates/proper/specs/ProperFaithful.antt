@@ -7,14 +7,14 @@ use mathlib.Core.Path.{_≡_, refl, sym, ap, subst, subst₂, _∙_}
 use Prim.Native.Nat.{ℕ, zero, suc, _<_}
 use native.Mathlib.Omega.{arith}
 use native.Mathlib.Decide.{decLt}
-use lib.IntN.{ℤ, pos, _+ℤ_, _*ℤ_}
+use lib.IntN.{ℤ, pos, _+ℤ_, _*ℤ_, *ℤ-comm}
 use lib.ListN.{length}
 use lib.Signed.{_≤ℤ_, _<ℤ_}
 use Rattle.lists.specs.ListsLaw.{clash, All-at}
 use Rattle.lists.specs.MembersLaw.{mem-at}
 use Rattle.whole.specs.Diff.{onℤ, sumℤ, mulℤ}
 use Rattle.whole.specs.Ring.{K, _:+_, _:*_, ring3, ring4}
-use Rattle.whole.specs.Order.{lt-or-le, lt-not-le, le-of-eq, positive-times, times-le, times-cancel}
+use Rattle.whole.specs.Order.{lt-or-le, lt-not-le, le-of-eq, positive-times, nonpos-times, times-le, times-cancel}
 use Rattle.meaning.specs.declared.Tri.{Tri}
 use Rattle.meaning.specs.Mesh.{Mesh, Arrow, tri, sameTri, arrows, at}
 use Rattle.meaning.specs.Lawful.{Lawful, rowOf}
@@ -47,11 +47,8 @@ module _ (m : Mesh) where
   third-same : (x y z α β γ α′ β′ γ′ : ℕ) → pos 0 <ℤ turnTo m x y z → SamePoint m (level (mix (tri x y z) α β γ)) (level (mix (tri x y z) α′ β′ γ′)) → γ ≡ γ′
   third-same x y z α β γ α′ β′ γ′ h same =
       let e = sym (third-weight x y z α β γ) ∙ affine-same (level-linear (mix (tri x y z) α β γ)) (level-linear (mix (tri x y z) α′ β′ γ′)) (turn-affine m x y) same ∙ third-weight x y z α′ β′ γ′ in
-      let f = times-cancel (turnTo m x y z) (pos γ) (pos γ′) h (comm (turnTo m x y z) (pos γ) ∙ e ∙ comm (pos γ′) (turnTo m x y z)) in
+      let f = times-cancel (turnTo m x y z) (pos γ) (pos γ′) h (*ℤ-comm (turnTo m x y z) (pos γ) ∙ e ∙ *ℤ-comm (pos γ′) (turnTo m x y z)) in
       omega (arith, onℤ)
-    where
-      comm : (u v : ℤ) → u *ℤ v ≡ v *ℤ u
-      comm u v = ring3 (λ u v w. (u :* v, v :* u)) u v u tt
 
   same-weights : Lawful m → (t : Tri) → List·Memᴰ t (m .tris) → (a b c a′ b′ c′ : ℕ) → SamePoint m (level (mix t a b c)) (level (mix t a′ b′ c′)) → (a ≡ a′) × (b ≡ b′) × (c ≡ c′)
   same-weights law t i a b c a′ b′ c′ same =
@@ -83,17 +80,14 @@ module _ (m : Mesh) (law : Lawful m) (proper : Proper m) where
   none-below : (k a b c : ℕ) (l u v w : ℤ) → pos 0 <ℤ l → u ≤ℤ pos 0 → v ≤ℤ pos 0 → w ≤ℤ pos 0 → pos k *ℤ l ≡ pos a *ℤ u +ℤ pos b *ℤ v +ℤ pos c *ℤ w
       → (k ≡ 0) × (pos a *ℤ u ≡ pos 0) × (pos b *ℤ v ≡ pos 0) × (pos c *ℤ w ≡ pos 0)
   none-below k a b c l u v w h i j n e =
-      let A = down a u i in
-      let B = down b v j in
-      let C = down c w n in
+      let A = nonpos-times (pos a) u (omega (arith, onℤ)) i in
+      let B = nonpos-times (pos b) v (omega (arith, onℤ)) j in
+      let C = nonpos-times (pos c) w (omega (arith, onℤ)) n in
       let S = sumℤ (pos a *ℤ u) (pos b *ℤ v) in
       let T = sumℤ (pos a *ℤ u +ℤ pos b *ℤ v) (pos c *ℤ w) in
       let N = times-le (pos k) (pos 1) l (omega (arith, onℤ)) (omega (arith, onℤ)) in
       let M = mulℤ (pos k) (pos 1) in
       (omega (arith, onℤ), omega (arith, onℤ), omega (arith, onℤ), omega (arith, onℤ))
-    where
-      down : (a : ℕ) (u : ℤ) → u ≤ℤ pos 0 → (pos a *ℤ u) ≤ℤ pos 0
-      down a u h = omega (arith, onℤ, mulℤ (pos a) (pos 0), times-le (pos a) u (pos 0) (omega (arith, onℤ)) h)
 
   no-weight : (a : ℕ) (u : ℤ) → pos a *ℤ u ≡ pos 0 → u <ℤ pos 0 → a ≡ 0
   no-weight zero u e h = refl
@@ -123,7 +117,8 @@ module _ (m : Mesh) (law : Lawful m) (proper : Proper m) where
           (sym (third-weight m x y z α β γ) ∙ affine-same (level-linear (mix (tri x y z) α β γ)) (level-linear u) (turn-affine m x y) same)
 
       -- an edge of the other row, along x–y
-      on-edge : {x′ y′ : ℕ} → Side m x′ y′ → (α′ β′ : ℕ) → pos α′ *ℤ turnTo m x y x′ ≡ pos 0 → pos β′ *ℤ turnTo m x y y′ ≡ pos 0 → SameSum (level u) (two x′ y′ α′ β′) → SameSum (level (mix (tri x y z) α β γ)) (level u)
+      on-edge : {x′ y′ : ℕ} → Side m x′ y′ → (α′ β′ : ℕ) → pos α′ *ℤ turnTo m x y x′ ≡ pos 0 → pos β′ *ℤ turnTo m x y y′ ≡ pos 0 → SameSum (level u) (two x′ y′ α′ β′) →
+          SameSum (level (mix (tri x y z) α β γ)) (level u)
       on-edge E′ α′ β′ f g is φ =
           let here = without-third (tri x y z) α β γ (zeros .0) in
           here φ ∙ edges-meet m (proper .places-differ) E E′ α β α′ β′ f g (λ ψ k. sym (here ψ) ∙ same ψ k ∙ is ψ) φ ∙ sym (is φ)
@@ -140,7 +135,8 @@ module _ (m : Mesh) (law : Lawful m) (proper : Proper m) where
           on-edge (side-pq i) (u .a) (u .b) (zeros .1) (zeros .2) (without-third (u .row) (u .a) (u .b) (u .c) (no-weight (u .c) (turnTo m x y (u .row .r)) (zeros .3) r))
       go (inr p) (inr q) (inr r) = absurd (not-flat i x y z h (omega (arith, onℤ, o .at-p)) (omega (arith, onℤ, o .at-q)) (omega (arith, onℤ, o .at-r)))
 
-  parted-same : (s u : Mix) → List·Memᴰ (s .row) (m .tris) → List·Memᴰ (u .row) (m .tris) → PartedBy (shape m (s .row)) (shape m (u .row)) → SamePoint m (level s) (level u) → SameSum (level s) (level u)
+  parted-same : (s u : Mix) → List·Memᴰ (s .row) (m .tris) → List·Memᴰ (u .row) (m .tris) → PartedBy (shape m (s .row)) (shape m (u .row)) →
+      SamePoint m (level s) (level u) → SameSum (level s) (level u)
   parted-same s u i j (by-pq o) same φ = none-left-same (s .row .p) (s .row .q) (s .row .r) (side-pq i) (above-pqr m law i) (s .a) (s .b) (s .c) u j o same φ
   parted-same s u i j (by-qr o) same φ =
       rotated-same s φ
@@ -168,7 +164,8 @@ module _ (m : Mesh) (law : Lawful m) (proper : Proper m) where
   pub proper-faithful : Faithful m
   proper-faithful = record { one-sum = λ s u i j same. go s u i j same (sameTri (s .row) (u .row)) refl }
     where
-      apart-same : (s u : Mix) → List·Memᴰ (s .row) (m .tris) → List·Memᴰ (u .row) (m .tris) → SamePoint m (level s) (level u) → Apart (shape m (s .row)) (shape m (u .row)) → SameSum (level s) (level u)
+      apart-same : (s u : Mix) → List·Memᴰ (s .row) (m .tris) → List·Memᴰ (u .row) (m .tris) → SamePoint m (level s) (level u) →
+          Apart (shape m (s .row)) (shape m (u .row)) → SameSum (level s) (level u)
       apart-same s u i j same (by-first o) φ = parted-same s u i j o same φ
       apart-same s u i j same (by-second o) φ = sym (parted-same u s j i o (λ ψ k. sym (same ψ k)) φ)
 

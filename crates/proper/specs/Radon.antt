@@ -28,10 +28,10 @@ pub record Tied (s t u v : Point) : Type 0 where
 
 -- the determinant of three points
 abbrev det : ℤ → ℤ → ℤ → ℤ → ℤ → ℤ → ℤ → ℤ → ℤ → ℤ
-det x y w x' y' w' x'' y'' w'' = x *ℤ (y' *ℤ w'' -ℤ y'' *ℤ w') +ℤ x' *ℤ (y'' *ℤ w -ℤ y *ℤ w'') +ℤ x'' *ℤ (y *ℤ w' -ℤ y' *ℤ w)
+det x y w x′ y′ w′ x″ y″ w″ = x *ℤ (y′ *ℤ w″ -ℤ y″ *ℤ w′) +ℤ x′ *ℤ (y″ *ℤ w -ℤ y *ℤ w″) +ℤ x″ *ℤ (y *ℤ w′ -ℤ y′ *ℤ w)
 
 abbrev Det : Expr → Expr → Expr → Expr → Expr → Expr → Expr → Expr → Expr → Expr
-Det x y w x' y' w' x'' y'' w'' = x :* (y' :* w'' :- y'' :* w') :+ x' :* (y'' :* w :- y :* w'') :+ x'' :* (y :* w' :- y' :* w)
+Det x y w x′ y′ w′ x″ y″ w″ = x :* (y′ :* w″ :- y″ :* w′) :+ x′ :* (y″ :* w :- y :* w″) :+ x″ :* (y :* w′ :- y′ :* w)
 
 abbrev pub volume : Point → Point → Point → ℤ
 volume s t u = det (s .X) (s .Y) (s .W) (t .X) (t .Y) (t .W) (u .X) (u .Y) (u .W)
@@ -59,32 +59,32 @@ module _ (s t u v : Point) where
 
 -- three on a line: the dependency that two of the coordinates show
 abbrev Minor : Expr → Expr → Expr → Expr → Expr → Expr → Expr → Expr → Expr → Expr → Expr
-Minor x w x' w' x'' w'' z z' z'' o = ((x' :* w'' :- x'' :* w') :* z :+ (x'' :* w :- x :* w'') :* z') :+ ((x :* w' :- x' :* w) :* z'' :+ K (pos 0) :* o)
+Minor x w x′ w′ x″ w″ z z′ z″ o = ((x′ :* w″ :- x″ :* w′) :* z :+ (x″ :* w :- x :* w″) :* z′) :+ ((x :* w′ :- x′ :* w) :* z″ :+ K (pos 0) :* o)
 
-minor-x : (x w x' w' x'' w'' o : ℤ) → dot (x' *ℤ w'' -ℤ x'' *ℤ w') (x'' *ℤ w -ℤ x *ℤ w'') (x *ℤ w' -ℤ x' *ℤ w) (pos 0) x x' x'' o ≡ pos 0
-minor-x x w x' w' x'' w'' o = ring7 (λ x w x' w' x'' w'' o. (Minor x w x' w' x'' w'' x x' x'' o, K (pos 0))) x w x' w' x'' w'' o tt
+minor-x : (x w x′ w′ x″ w″ o : ℤ) → dot (x′ *ℤ w″ -ℤ x″ *ℤ w′) (x″ *ℤ w -ℤ x *ℤ w″) (x *ℤ w′ -ℤ x′ *ℤ w) (pos 0) x x′ x″ o ≡ pos 0
+minor-x x w x′ w′ x″ w″ o = ring7 (λ x w x′ w′ x″ w″ o. (Minor x w x′ w′ x″ w″ x x′ x″ o, K (pos 0))) x w x′ w′ x″ w″ o tt
 
-minor-w : (x w x' w' x'' w'' o : ℤ) → dot (x' *ℤ w'' -ℤ x'' *ℤ w') (x'' *ℤ w -ℤ x *ℤ w'') (x *ℤ w' -ℤ x' *ℤ w) (pos 0) w w' w'' o ≡ pos 0
-minor-w x w x' w' x'' w'' o = ring7 (λ x w x' w' x'' w'' o. (Minor x w x' w' x'' w'' w w' w'' o, K (pos 0))) x w x' w' x'' w'' o tt
+minor-w : (x w x′ w′ x″ w″ o : ℤ) → dot (x′ *ℤ w″ -ℤ x″ *ℤ w′) (x″ *ℤ w -ℤ x *ℤ w″) (x *ℤ w′ -ℤ x′ *ℤ w) (pos 0) w w′ w″ o ≡ pos 0
+minor-w x w x′ w′ x″ w″ o = ring7 (λ x w x′ w′ x″ w″ o. (Minor x w x′ w′ x″ w″ w w′ w″ o, K (pos 0))) x w x′ w′ x″ w″ o tt
 
 module _ (s t u v : Point) (flat : volume s t u ≡ pos 0) where
   minor-y : dot (t .X *ℤ u .W -ℤ u .X *ℤ t .W) (u .X *ℤ s .W -ℤ s .X *ℤ u .W) (s .X *ℤ t .W -ℤ t .X *ℤ s .W) (pos 0) (s .Y) (t .Y) (u .Y) (v .Y) ≡ pos 0
   minor-y = combine₁ (negsuc 0) flat
-      (ring10 (λ x y w x' y' w' x'' y'' w'' o. (Minor x w x' w' x'' w'' y y' y'' o :- K (pos 0), K (negsuc 0) :* (Det x y w x' y' w' x'' y'' w'' :- K (pos 0))))
+      (ring10 (λ x y w x′ y′ w′ x″ y″ w″ o. (Minor x w x′ w′ x″ w″ y y′ y″ o :- K (pos 0), K (negsuc 0) :* (Det x y w x′ y′ w′ x″ y″ w″ :- K (pos 0))))
       (s .X) (s .Y) (s .W) (t .X) (t .Y) (t .W) (u .X) (u .Y) (u .W) (v .Y) tt)
 
   minor-z : dot (t .Y *ℤ u .W -ℤ u .Y *ℤ t .W) (u .Y *ℤ s .W -ℤ s .Y *ℤ u .W) (s .Y *ℤ t .W -ℤ t .Y *ℤ s .W) (pos 0) (s .X) (t .X) (u .X) (v .X) ≡ pos 0
   minor-z = combine₁ (pos 1) flat
-      (ring10 (λ x y w x' y' w' x'' y'' w'' o. (Minor y w y' w' y'' w'' x x' x'' o :- K (pos 0), K (pos 1) :* (Det x y w x' y' w' x'' y'' w'' :- K (pos 0))))
+      (ring10 (λ x y w x′ y′ w′ x″ y″ w″ o. (Minor y w y′ w′ y″ w″ x x′ x″ o :- K (pos 0), K (pos 1) :* (Det x y w x′ y′ w′ x″ y″ w″ :- K (pos 0))))
       (s .X) (s .Y) (s .W) (t .X) (t .Y) (t .W) (u .X) (u .Y) (u .W) (v .X) tt)
 
 -- two at one place
-same-place : (x w x' w' o o' : ℤ) → x *ℤ w' -ℤ x' *ℤ w ≡ pos 0 → dot w' (negℤ w) (pos 0) (pos 0) x x' o o' ≡ pos 0
-same-place x w x' w' o o' e = combine₁ (pos 1) e
-    (ring6 (λ x w x' w' o o'. ((w' :* x :+ neg w :* x') :+ (K (pos 0) :* o :+ K (pos 0) :* o') :- K (pos 0), K (pos 1) :* (x :* w' :- x' :* w :- K (pos 0)))) x w x' w' o o' tt)
+same-place : (x w x′ w′ o o′ : ℤ) → x *ℤ w′ -ℤ x′ *ℤ w ≡ pos 0 → dot w′ (negℤ w) (pos 0) (pos 0) x x′ o o′ ≡ pos 0
+same-place x w x′ w′ o o′ e = combine₁ (pos 1) e
+    (ring6 (λ x w x′ w′ o o′. ((w′ :* x :+ neg w :* x′) :+ (K (pos 0) :* o :+ K (pos 0) :* o′) :- K (pos 0), K (pos 1) :* (x :* w′ :- x′ :* w :- K (pos 0)))) x w x′ w′ o o′ tt)
 
-same-w : (w w' o o' : ℤ) → dot w' (negℤ w) (pos 0) (pos 0) w w' o o' ≡ pos 0
-same-w w w' o o' = ring4 (λ w w' o o'. ((w' :* w :+ neg w :* w') :+ (K (pos 0) :* o :+ K (pos 0) :* o'), K (pos 0))) w w' o o' tt
+same-w : (w w′ o o′ : ℤ) → dot w′ (negℤ w) (pos 0) (pos 0) w w′ o o′ ≡ pos 0
+same-w w w′ o o′ = ring4 (λ w w′ o o′. ((w′ :* w :+ neg w :* w′) :+ (K (pos 0) :* o :+ K (pos 0) :* o′), K (pos 0))) w w′ o o′ tt
 
 zero-or : (z : ℤ) → (z ≡ pos 0) ⊎ (0 < size z)
 zero-or (pos zero) = inl refl

@@ -8,7 +8,7 @@ use lib.IntN.{ℤ, pos, _+ℤ_, _*ℤ_}
 use lib.Signed.{_≤ℤ_, _<ℤ_}
 use Rattle.whole.specs.Diff.{up, dn, onℤ, sumℤ, mulℤ}
 use Rattle.whole.specs.Ring.{Expr, X, K, _:+_, _:-_, _:*_, solve, ring6}
-use Rattle.whole.specs.Order.{lt-or-le, lt-not-le, nonneg-times, positive-times, times-le}
+use Rattle.whole.specs.Order.{lt-or-le, lt-not-le, nonneg-times, nonpos-times, positive-times, times-le}
 use Rattle.meaning.specs.declared.Place.{Place}
 use Rattle.meaning.specs.Mesh.{turn}
 use Rattle.meaning.specs.Proper.{Shape, Point, left, area, Inside, Share}
@@ -32,6 +32,10 @@ val-middle f t = val-sum f (spot (t .p) ⊕ spot (t .q)) (spot (t .r)) ∙ rw (v
 -- ---- a point of t's inside where f is above 0, near a corner where f is
 abbrev Near : Shape → Form → Type 0
 Near t f = Meet (λ s. Above (side (t .p) (t .q)) s × Above (side (t .q) (t .r)) s × Above (side (t .r) (t .p)) s × Above f s)
+
+-- for each side of s a point of t's inside that is left of it
+abbrev Nears : Shape → Shape → Type 0
+Nears t s = Near t (side (s .p) (s .q)) × Near t (side (s .q) (s .r)) × Near t (side (s .r) (s .p))
 
 pushed : (n : ℕ) (u v : ℤ) → dn v < n → pos 0 <ℤ u → pos 0 <ℤ (pos n *ℤ u +ℤ v)
 pushed n u v h i = omega (arith, onℤ, mulℤ (pos n) (pos 1), sumℤ (pos n *ℤ u) v, times-le (pos n) (pos 1) u (omega (arith, onℤ)) (omega (arith, onℤ)))
@@ -58,7 +62,8 @@ module _ (t : Shape) (h : pos 0 <ℤ area t) where
   at-r = rw (side-turn (t .p) (t .q) (t .r), side-turn (t .q) (t .r) (t .r), side-turn (t .r) (t .p) (t .r))
       (omega (arith, onℤ, turn-to (t .q) (t .r), turn-from (t .r) (t .p)))
 
-  middle-of : (a b : Place) (x y z : ℤ) → turn a b (t .p) ≡ x → turn a b (t .q) ≡ y → turn a b (t .r) ≡ z → up x + up y + up z ≡ up (area t) → dn x + dn y + dn z ≡ dn (area t) → pos 0 <ℤ val (side a b) (middle t)
+  middle-of : (a b : Place) (x y z : ℤ) → turn a b (t .p) ≡ x → turn a b (t .q) ≡ y → turn a b (t .r) ≡ z →
+      up x + up y + up z ≡ up (area t) → dn x + dn y + dn z ≡ dn (area t) → pos 0 <ℤ val (side a b) (middle t)
   middle-of a b x y z e f g i j =
       rw (val-middle (side a b) t, side-turn a b (t .p), side-turn a b (t .q), side-turn a b (t .r), e, f, g) (omega (arith, onℤ, sumℤ x y, sumℤ (x +ℤ y) z))
 
@@ -95,11 +100,11 @@ module _ (t : Shape) (h : pos 0 <ℤ area t) where
       go (inr k) (inr l) (inl m) = inr (near (side a b) (t .r) at-r (rw (side-turn a b (t .r)) m))
       go (inr k) (inr l) (inr m) = inl (record { at-p = k; at-q = l; at-r = m })
 
-  parted-or-near : (s : Shape) → PartedBy s t ⊎ (Near t (side (s .p) (s .q)) × Near t (side (s .q) (s .r)) × Near t (side (s .r) (s .p)))
+  parted-or-near : (s : Shape) → PartedBy s t ⊎ Nears t s
   parted-or-near s = go (none-left-or-near (s .p) (s .q)) (none-left-or-near (s .q) (s .r)) (none-left-or-near (s .r) (s .p))
     where
-      go : NoneLeft (s .p) (s .q) t ⊎ Near t (side (s .p) (s .q)) → NoneLeft (s .q) (s .r) t ⊎ Near t (side (s .q) (s .r)) → NoneLeft (s .r) (s .p) t ⊎ Near t (side (s .r) (s .p))
-          → PartedBy s t ⊎ (Near t (side (s .p) (s .q)) × Near t (side (s .q) (s .r)) × Near t (side (s .r) (s .p)))
+      go : NoneLeft (s .p) (s .q) t ⊎ Near t (side (s .p) (s .q)) → NoneLeft (s .q) (s .r) t ⊎ Near t (side (s .q) (s .r)) → NoneLeft (s .r) (s .p) t ⊎ Near t (side (s .r) (s .p)) →
+          PartedBy s t ⊎ Nears t s
       go (inl k) m n = inl (by-pq k)
       go (inr k) (inl l) n = inl (by-qr l)
       go (inr k) (inr l) (inl m) = inl (by-rp m)
@@ -113,12 +118,17 @@ inside t s h i j = record {
   rp = rw (side-left (t .r) (t .p) s) at j;
 }
 
-share : (s t : Shape) → Near s (side (t .p) (t .q)) × Near s (side (t .q) (t .r)) × Near s (side (t .r) (t .p)) → Near t (side (s .p) (s .q)) × Near t (side (s .q) (s .r)) × Near t (side (s .r) (s .p)) → Share s t
+share : (s t : Shape) → Nears s t → Nears t s → Share s t
 share s t m n =
     let g = six _ _ _ (above (side (s .p) (s .q))) (above (side (s .q) (s .r))) (above (side (s .r) (s .p)))
     _ _ _ (above (side (t .p) (t .q))) (above (side (t .q) (t .r))) (above (side (t .r) (t .p)))
     (m .0) (m .1) (m .2) (swap (n .0)) (swap (n .1)) (swap (n .2)) in
-    record { point = g .at; weight = g .heavy; in-first = inside s (g .at) (g .mem .3 .0) (g .mem .3 .1) (g .mem .3 .2); in-second = inside t (g .at) (g .mem .0) (g .mem .1) (g .mem .2) }
+    record {
+      point = g .at;
+      weight = g .heavy;
+      in-first = inside s (g .at) (g .mem .3 .0) (g .mem .3 .1) (g .mem .3 .2);
+      in-second = inside t (g .at) (g .mem .0) (g .mem .1) (g .mem .2);
+    }
   where
     swap : {A B C D : Point → Type 0} → Meet (λ s. A s × B s × C s × D s) → Meet (λ s. D s × A s × B s × C s)
     swap m = wider (λ s h. (h .3, h .0, h .1, h .2)) m
@@ -126,8 +136,7 @@ share s t m n =
 pub apart-or-share : (s t : Shape) → pos 0 <ℤ area s → pos 0 <ℤ area t → Apart s t ⊎ Share s t
 apart-or-share s t h i = go (parted-or-near t i s) (parted-or-near s h t)
   where
-    go : PartedBy s t ⊎ (Near t (side (s .p) (s .q)) × Near t (side (s .q) (s .r)) × Near t (side (s .r) (s .p)))
-        → PartedBy t s ⊎ (Near s (side (t .p) (t .q)) × Near s (side (t .q) (t .r)) × Near s (side (t .r) (t .p))) → Apart s t ⊎ Share s t
+    go : PartedBy s t ⊎ Nears t s → PartedBy t s ⊎ Nears s t → Apart s t ⊎ Share s t
     go (inl k) m = inl (by-first k)
     go (inr k) (inl l) = inl (by-second l)
     go (inr k) (inr l) = inr (share s t l k)
@@ -149,10 +158,15 @@ weights f t s = solve (f .a ∷ f .b ∷ f .c ∷ t .p .x ∷ t .p .y ∷ t .q .
 
 sum3-le : (u v w x y z : ℤ) → pos 0 <ℤ u → pos 0 <ℤ v → pos 0 <ℤ w → x ≤ℤ pos 0 → y ≤ℤ pos 0 → z ≤ℤ pos 0 → (u *ℤ x +ℤ v *ℤ y +ℤ w *ℤ z) ≤ℤ pos 0
 sum3-le u v w x y z h i j k l m =
-    omega (arith, onℤ, down u x h k, down v y i l, down w z j m, sumℤ (u *ℤ x) (v *ℤ y), sumℤ (u *ℤ x +ℤ v *ℤ y) (w *ℤ z))
-  where
-    down : (u x : ℤ) → pos 0 <ℤ u → x ≤ℤ pos 0 → (u *ℤ x) ≤ℤ pos 0
-    down u x h k = omega (arith, onℤ, mulℤ u (pos 0), times-le u x (pos 0) (omega (arith, onℤ)) k)
+    omega (
+      arith,
+      onℤ,
+      nonpos-times u x (omega (arith, onℤ)) k,
+      nonpos-times v y (omega (arith, onℤ)) l,
+      nonpos-times w z (omega (arith, onℤ)) m,
+      sumℤ (u *ℤ x) (v *ℤ y),
+      sumℤ (u *ℤ x +ℤ v *ℤ y) (w *ℤ z),
+    )
 
 none-left-out : (a b : Place) (t : Shape) (s : Point) → pos 0 <ℤ area t → NoneLeft a b t → Inside t s → pos 0 <ℤ left a b s → ⊥
 none-left-out a b t s h o i l =

@@ -31,7 +31,9 @@ noneLeft-exact a b t = (to, λ h. and-both (and-both (le-leZ _ _ (h .at-p)) (le-
 
 partedBy-exact : (s t : Shape) → (partedBy s t ≡ true) ↔ PartedBy s t
 unfolding partedBy
-partedBy-exact s t = let h = either-exact _ _ (either-exact _ _ (noneLeft-exact (s .p) (s .q) t) (noneLeft-exact (s .q) (s .r) t)) (noneLeft-exact (s .r) (s .p) t) in (λ e. to (h .0 e), λ p. h .1 (from p))
+partedBy-exact s t =
+    let h = either-exact _ _ (either-exact _ _ (noneLeft-exact (s .p) (s .q) t) (noneLeft-exact (s .q) (s .r) t)) (noneLeft-exact (s .r) (s .p) t) in
+    (λ e. to (h .0 e), λ p. h .1 (from p))
   where
     to : (NoneLeft (s .p) (s .q) t ⊎ NoneLeft (s .q) (s .r) t) ⊎ NoneLeft (s .r) (s .p) t → PartedBy s t
     to (inl (inl h)) = by-pq h

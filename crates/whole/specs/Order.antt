@@ -6,7 +6,7 @@ use Prim.Native.Nat.{zero, suc}
 use native.Mathlib.Omega.{arith}
 use lib.IntN.{ℤ, pos, negsuc, _-ℤ_, _*ℤ_, *ℤ-comm}
 use lib.Signed.{ltZ, _≤ℤ_, _<ℤ_}
-use Rattle.whole.specs.Diff.{onℤ, subℤ}
+use Rattle.whole.specs.Diff.{onℤ, subℤ, mulℤ}
 use Rattle.whole.specs.Ring.{_:-_, _:*_, ring3}
 use Rattle.whole.specs.Tests.{ltZ-true, ltZ-false}
 
@@ -56,6 +56,9 @@ scale-le d a b h l =
 
 pub times-le : (d a b : ℤ) → pos 0 ≤ℤ d → a ≤ℤ b → (d *ℤ a) ≤ℤ (d *ℤ b)
 times-le d a b h l = rw (*ℤ-comm d a, *ℤ-comm d b) (scale-le d a b h l)
+
+pub nonpos-times : (d a : ℤ) → pos 0 ≤ℤ d → a ≤ℤ pos 0 → (d *ℤ a) ≤ℤ pos 0
+nonpos-times d a h l = omega (arith, onℤ, mulℤ d (pos 0), times-le d a (pos 0) h l)
 
 pub scale-lt : (d a b : ℤ) → pos 0 <ℤ d → a <ℤ b → (a *ℤ d) <ℤ (b *ℤ d)
 scale-lt d a b h l =

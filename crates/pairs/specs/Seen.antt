@@ -47,6 +47,10 @@ notBeyond a b c = leZ (facing (a .place) (b .place) (c .place)) (pos 0)
 unfoldable pub isOn : Corner → Corner → Corner → Bool
 isOn a b c = not (isEnd a b c) && sameZ (turn (a .place) (b .place) (c .place)) (pos 0) && notBeyond a b c
 
+-- c is an end of the side, or strictly right of its line
+unfoldable pub isClear : Corner → Corner → Corner → Bool
+isClear a b c = isEnd a b c || rightOf a b c
+
 -- ---- one side and a row
 
 unfoldable pub isOnSome : Corner → Corner → Seen → Bool
@@ -55,7 +59,15 @@ isOnSome a b t = isOn a b (t .p) || isOn a b (t .q) || isOn a b (t .r)
 unfoldable pub someLeft : Corner → Corner → Seen → Bool
 someLeft a b t = leftOf a b (t .p) || leftOf a b (t .q) || leftOf a b (t .r)
 
+-- the side is clean for the row
+unfoldable pub allClear : Corner → Corner → Seen → Bool
+allClear a b t = isClear a b (t .p) && isClear a b (t .q) && isClear a b (t .r)
+
 -- ---- two rows
+
+-- a side of t is clean for u
+unfoldable pub clean : Seen → Seen → Bool
+clean t u = allClear (t .p) (t .q) u || allClear (t .q) (t .r) u || allClear (t .r) (t .p) u
 
 -- a corner of u is on a side of t
 unfoldable pub meets : Seen → Seen → Bool

@@ -6,7 +6,8 @@ ghost use Rattle.meaning.specs.Lawful.{InRange};
 ghost use Rattle.meaning.specs.Tables.{placeAt, rowAt};
 ghost use Rattle.laws.specs.Meshes.{Stands, Standing};
 ghost use Rattle.pairs.specs.Pair.{graveAt};
-ghost use Rattle.pairs.specs.Seen.{cornerBy, seenBy, Near, isEnd, leftOf, rightOf, notBeyond, isOn, isOnSome, someLeft, meets, crosses, graveSeen};
+ghost use Rattle.pairs.specs.Seen.{cornerBy, seenBy, Near, isEnd, leftOf, rightOf, notBeyond, isOn, isClear, isOnSome, someLeft, allClear, clean, meets, crosses, graveSeen};
+ghost use Rattle.pairs.specs.Sound.{Sound};
 use meaning::Place;
 use meaning::Tri;
 
@@ -92,6 +93,14 @@ fn is_on(a: Corner, b: Corner, c: Corner) -> bool
     not_beyond(a, b, c)
 }
 
+// It is an end of the side, or strictly right of its line.
+fn is_clear(a: Corner, b: Corner, c: Corner) -> bool
+    requires { ⌜ InRange (a .place) × InRange (b .place) ⌝ }
+    ensures { λ r. ⌜ r ≡ isClear a b c ⌝ }
+{
+    is_end(a, b, c) | right_of(a, b, c)
+}
+
 // ---- one side and a row
 
 // A corner of the row is on the side.
@@ -110,7 +119,35 @@ fn some_left(a: Corner, b: Corner, t: Seen) -> bool
     left_of(a, b, t.p) | left_of(a, b, t.q) | left_of(a, b, t.r)
 }
 
+// The side is clean for the row: all of its corners are clear.
+fn all_clear(a: Corner, b: Corner, t: Seen) -> bool
+    requires { ⌜ InRange (a .place) × InRange (b .place) ⌝ }
+    ensures { λ r. ⌜ r ≡ allClear a b t ⌝ }
+{
+    if !is_clear(a, b, t.p) {
+        return false;
+    }
+    if !is_clear(a, b, t.q) {
+        return false;
+    }
+    is_clear(a, b, t.r)
+}
+
 // ---- two rows
+
+// A side of t is clean for u. Nearly all pairs of a mesh's rows have such a side.
+fn clean(t: Seen, u: Seen) -> bool
+    requires { ⌜ Near t ⌝ }
+    ensures { λ r. ⌜ r ≡ clean t u ⌝ }
+{
+    if all_clear(t.p, t.q, u) {
+        return true;
+    }
+    if all_clear(t.q, t.r, u) {
+        return true;
+    }
+    all_clear(t.r, t.p, u)
+}
 
 // A corner of u is on a side of t.
 fn meets(t: Seen, u: Seen) -> bool
@@ -145,8 +182,8 @@ fn grave_seen(t: Seen, u: Seen) -> u32
 pub fn grave_at(nodes: &[i32], rows: &[u32], i: usize, j: usize) -> u32
     requires { ⌜ 3 * i + 3 ≤ length (now rows) ⌝ }
     requires { ⌜ 3 * j + 3 ≤ length (now rows) ⌝ }
-    requires { ⌜ Standing (now nodes) (rowAt (now rows) i) ⌝ }
-    requires { ⌜ Standing (now nodes) (rowAt (now rows) j) ⌝ }
+    requires { ⌜ Sound (now nodes) (rowAt (now rows) i) ⌝ }
+    requires { ⌜ Sound (now nodes) (rowAt (now rows) j) ⌝ }
     ensures { λ r. ⌜ r ≡ graveAt (placeAt (now (nodes .entry))) (now (rows .entry)) i j ⌝ }
 {
     if i == j {
@@ -154,5 +191,11 @@ pub fn grave_at(nodes: &[i32], rows: &[u32], i: usize, j: usize) -> u32
     }
     let t = see(nodes, tables::row_at(rows, i));
     let u = see(nodes, tables::row_at(rows, j));
+    if clean(t, u) {
+        return 0;
+    }
+    if clean(u, t) {
+        return 0;
+    }
     grave_seen(t, u)
 }

@@ -1,7 +1,7 @@
 -- W7: two rows of which one has all its corners below those of the other, along x or along y, have nothing to do with each other. P gives the
 -- place of each node. Assumes nothing.
 use mathlib.Core.Bool.{Bool, true, false}
-use mathlib.Core.Logic.{_⊎_, inl, inr}
+use mathlib.Core.Logic.{inl, inr}
 use mathlib.Core.Path.{_≡_, refl}
 use Prim.Native.Nat.{ℕ, _≤_, _<_}
 use native.Mathlib.Omega.{arith}
@@ -12,13 +12,14 @@ use Rattle.lists.specs.ListsLaw.{All·head, All·tail, All-at, All-imp, All-bot
 use Rattle.whole.specs.Diff.{onℤ, sumℤ, subℤ, mulℤ}
 use Rattle.whole.specs.Bound.{absℤ}
 use Rattle.whole.specs.Ring.{Expr, _:+_, _:-_, _:*_, ring10}
-use Rattle.whole.specs.Order.{lt-or-le, positive-times, times-le}
+use Rattle.whole.specs.Order.{positive-times, times-le}
 use Rattle.meaning.specs.declared.Place.{Place}
 use Rattle.meaning.specs.declared.Tri.{Tri}
 use Rattle.meaning.specs.Mesh.{arrows}
 use Rattle.meaning.specs.Lawful.{InRange}
 use Rattle.meaning.specs.Proper.{Shape, Point, left, area, Inside, Share}
 use Rattle.laws.specs.Area.{Turn}
+use Rattle.proper.specs.OnLine.{above-of-mul}
 use Rattle.proper.specs.Tested.{share-exact}
 use Rattle.pairs.specs.Pair.{shapeBy, corners, grave}
 use Rattle.columns.specs.Columns.{shifted, low, high}
@@ -45,53 +46,31 @@ weights false t s v = ring10 (λ a b c d e f x y w v.
     (Turn a b c d e f :* (x :- v :* w), Left c d e f x y w :* (a :- v) :+ Left e f a b x y w :* (c :- v) :+ Left a b c d x y w :* (e :- v)))
     (t .p .x) (t .p .y) (t .q .x) (t .q .y) (t .r .x) (t .r .y) (s .X) (s .Y) (s .W) v tt
 
-times-below : (a b : ℤ) → pos 0 <ℤ a → b ≤ℤ pos 0 → (a *ℤ b) ≤ℤ pos 0
-times-below a b h k = omega (arith, onℤ, mulℤ a (pos 0), times-le a b (pos 0) (omega (arith, onℤ)) k)
-
 module _ (y : Bool) (t : Shape) (s : Point) (v : ℤ) (h : pos 0 <ℤ area t) (i : Inside t s) where
-  abbrev excess : Place → ℤ
-  excess A = coord y A -ℤ v
+  -- how far a corner, and the point, is beyond v
+  abbrev past : Place → ℤ
+  past A = coord y A -ℤ v
 
-  abbrev wp : ℤ
-  wp = left (t .q) (t .r) s *ℤ excess (t .p)
+  abbrev past-point : ℤ
+  past-point = across y s -ℤ v *ℤ s .W
 
-  abbrev wq : ℤ
-  wq = left (t .r) (t .p) s *ℤ excess (t .q)
-
-  abbrev wr : ℤ
-  wr = left (t .p) (t .q) s *ℤ excess (t .r)
-
-  point-below : coord y (t .p) ≤ℤ v → coord y (t .q) ≤ℤ v → coord y (t .r) ≤ℤ v → (across y s -ℤ v *ℤ s .W) ≤ℤ pos 0
-  point-below p q r = go (lt-or-le (pos 0) (across y s -ℤ v *ℤ s .W))
+  point-below : coord y (t .p) ≤ℤ v → coord y (t .q) ≤ℤ v → coord y (t .r) ≤ℤ v → pos 0 <ℤ past-point → ⊥
+  point-below p q r k = sum _ _ _ (weights y t s v) (term (i .qr) (t .p) p) (term (i .rp) (t .q) q) (term (i .pq) (t .r) r) (positive-times (area t) past-point h k)
     where
-      term : (w a : ℤ) → pos 0 <ℤ w → a ≤ℤ v → (w *ℤ (a -ℤ v)) ≤ℤ pos 0
-      term w a k l = times-below w (a -ℤ v) k (omega (arith, onℤ, subℤ a v))
+      term : {w : ℤ} → pos 0 <ℤ w → (A : Place) → coord y A ≤ℤ v → (w *ℤ past A) ≤ℤ pos 0
+      term {w} k A l = omega (arith, onℤ, mulℤ w (pos 0), times-le w (past A) (pos 0) (omega (arith, onℤ)) (omega (arith, onℤ, subℤ (coord y A) v)))
 
-      sum : (a b c d : ℤ) → d ≡ a +ℤ b +ℤ c → a ≤ℤ pos 0 → b ≤ℤ pos 0 → c ≤ℤ pos 0 → d ≤ℤ pos 0
-      sum a b c d e k l n = omega (arith, onℤ, sumℤ a b, sumℤ (a +ℤ b) c)
+      sum : (a b c : ℤ) {d : ℤ} → d ≡ a +ℤ b +ℤ c → a ≤ℤ pos 0 → b ≤ℤ pos 0 → c ≤ℤ pos 0 → pos 0 <ℤ d → ⊥
+      sum a b c e k l n o = omega (arith, onℤ, sumℤ a b, sumℤ (a +ℤ b) c)
 
-      go : (pos 0 <ℤ (across y s -ℤ v *ℤ s .W)) ⊎ ((across y s -ℤ v *ℤ s .W) ≤ℤ pos 0) → (across y s -ℤ v *ℤ s .W) ≤ℤ pos 0
-      go (inl k) =
-          let a = positive-times (area t) (across y s -ℤ v *ℤ s .W) h k in
-          let b = sum wp wq wr (area t *ℤ (across y s -ℤ v *ℤ s .W)) (weights y t s v) (term _ (coord y (t .p)) (i .qr) p) (term _ (coord y (t .q)) (i .rp) q) (term _ (coord y (t .r)) (i .pq) r) in
-          absurd (omega (arith, onℤ))
-      go (inr k) = k
-
-  point-above : v <ℤ coord y (t .p) → v <ℤ coord y (t .q) → v <ℤ coord y (t .r) → pos 0 <ℤ (across y s -ℤ v *ℤ s .W)
-  point-above p q r = go (lt-or-le (pos 0) (across y s -ℤ v *ℤ s .W))
+  point-above : v <ℤ coord y (t .p) → v <ℤ coord y (t .q) → v <ℤ coord y (t .r) → pos 0 <ℤ past-point
+  point-above p q r = above-of-mul (area t) past-point h (sum _ _ _ (weights y t s v) (term (i .qr) (t .p) p) (term (i .rp) (t .q) q) (term (i .pq) (t .r) r))
     where
-      term : (w a : ℤ) → pos 0 <ℤ w → v <ℤ a → pos 0 <ℤ (w *ℤ (a -ℤ v))
-      term w a k l = positive-times w (a -ℤ v) k (omega (arith, onℤ, subℤ a v))
+      term : {w : ℤ} → pos 0 <ℤ w → (A : Place) → v <ℤ coord y A → pos 0 <ℤ (w *ℤ past A)
+      term {w} k A l = positive-times w (past A) k (omega (arith, onℤ, subℤ (coord y A) v))
 
-      sum : (a b c d : ℤ) → d ≡ a +ℤ b +ℤ c → pos 0 <ℤ a → pos 0 <ℤ b → pos 0 <ℤ c → pos 0 <ℤ d
-      sum a b c d e k l n = omega (arith, onℤ, sumℤ a b, sumℤ (a +ℤ b) c)
-
-      go : (pos 0 <ℤ (across y s -ℤ v *ℤ s .W)) ⊎ ((across y s -ℤ v *ℤ s .W) ≤ℤ pos 0) → pos 0 <ℤ (across y s -ℤ v *ℤ s .W)
-      go (inl k) = k
-      go (inr k) =
-          let a = times-below (area t) (across y s -ℤ v *ℤ s .W) h k in
-          let b = sum wp wq wr (area t *ℤ (across y s -ℤ v *ℤ s .W)) (weights y t s v) (term _ (coord y (t .p)) (i .qr) p) (term _ (coord y (t .q)) (i .rp) q) (term _ (coord y (t .r)) (i .pq) r) in
-          absurd (omega (arith, onℤ))
+      sum : (a b c : ℤ) {d : ℤ} → d ≡ a +ℤ b +ℤ c → pos 0 <ℤ a → pos 0 <ℤ b → pos 0 <ℤ c → pos 0 <ℤ d
+      sum a b c e k l n = omega (arith, onℤ, sumℤ a b, sumℤ (a +ℤ b) c)
 
 -- ---- two rows
 
@@ -123,9 +102,8 @@ module _ (y : Bool) (v : ℤ) (P : ℕ → Place) (t u : Tri) (h : Parted y v P 
   unshared a b s =
       let l = h .lower in
       let g = h .upper in
-      let k = point-below y (shapeBy P t) (s .point) v a (s .in-first) (All·head l) (All·head (All·tail l)) (All·head (All·tail (All·tail l))) in
-      let n = point-above y (shapeBy P u) (s .point) v b (s .in-second) (All·head g) (All·head (All·tail g)) (All·head (All·tail (All·tail g))) in
-      omega (arith, onℤ)
+      point-below y (shapeBy P t) (s .point) v a (s .in-first) (All·head l) (All·head (All·tail l)) (All·head (All·tail (All·tail l)))
+      (point-above y (shapeBy P u) (s .point) v b (s .in-second) (All·head g) (All·head (All·tail g)) (All·head (All·tail (All·tail g))))
 
 -- ---- coordinates in range
 

@@ -4,6 +4,7 @@ pub mod Severity
 pub mod Gravest
 pub mod Boxes
 pub mod Highest
+pub mod Examples
 pub mod Sweep
 pub mod Swept
 pub mod Lined

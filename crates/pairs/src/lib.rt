@@ -135,7 +135,7 @@ fn all_clear(a: Corner, b: Corner, t: Seen) -> bool
 
 // ---- two rows
 
-// A side of t is clean for u. Nearly all pairs of a mesh's rows have such a side.
+// A side of t is clean for u. Most pairs of a mesh's rows have such a side.
 fn clean(t: Seen, u: Seen) -> bool
     requires { ⌜ Near t ⌝ }
     ensures { λ r. ⌜ r ≡ clean t u ⌝ }

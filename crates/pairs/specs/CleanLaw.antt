@@ -43,12 +43,14 @@ module _ (P : ℕ → Place) where
     clear-r : Clear P (P (t .p)) (P (t .q)) (t .p) (t .q) (u .r)
 
   module _ (t u : Tri) (at : Above P t) (au : Above P u) (c : AllClear t u) where
+    side-of-t : (x y : ℕ) → ((k : ℕ) → Clear P (P (t .p)) (P (t .q)) (t .p) (t .q) k → On P x y k → ⊥) → any (onSide P (arrow x y)) (corners u) ≡ false
+    side-of-t x y off = side-off x y u (off (u .p) (c .clear-p)) (off (u .q) (c .clear-q)) (off (u .r) (c .clear-r))
+
     none-on-t : touches P t u ≡ false
     unfolding touches
-    none-on-t = none
-        (side-off (t .p) (t .q) u (off-ab P (t .p) (t .q) (t .r) at (u .p) (c .clear-p)) (off-ab P (t .p) (t .q) (t .r) at (u .q) (c .clear-q)) (off-ab P (t .p) (t .q) (t .r) at (u .r) (c .clear-r)))
-        (side-off (t .q) (t .r) u (off-br P (t .p) (t .q) (t .r) at (u .p) (c .clear-p)) (off-br P (t .p) (t .q) (t .r) at (u .q) (c .clear-q)) (off-br P (t .p) (t .q) (t .r) at (u .r) (c .clear-r)))
-        (side-off (t .r) (t .p) u (off-ra P (t .p) (t .q) (t .r) at (u .p) (c .clear-p)) (off-ra P (t .p) (t .q) (t .r) at (u .q) (c .clear-q)) (off-ra P (t .p) (t .q) (t .r) at (u .r) (c .clear-r)))
+    none-on-t =
+        none (side-of-t (t .p) (t .q) (off-ab P (t .p) (t .q) (t .r) at)) (side-of-t (t .q) (t .r) (off-br P (t .p) (t .q) (t .r) at))
+        (side-of-t (t .r) (t .p) (off-ra P (t .p) (t .q) (t .r) at))
 
     side-of-u : (x y z : ℕ) → pos 0 <ℤ turn (P x) (P y) (P z) → Clear P (P (t .p)) (P (t .q)) (t .p) (t .q) x → Clear P (P (t .p)) (P (t .q)) (t .p) (t .q) y → any (onSide P (arrow x y)) (corners t) ≡ false
     side-of-u x y z h cx cy =

@@ -1,6 +1,6 @@
 -- A node is clear of a side of a row if it is an end of that, or strictly right of its line. Then it is on no side of the row; and no corner of
 -- the row is on a side between two such nodes. Assumes nothing.
-use mathlib.Core.Bool.{Bool, true, not, _&&_, _||_}
+use mathlib.Core.Bool.{true, not, _&&_, _||_}
 use mathlib.Core.Logic.{_≢_}
 use mathlib.Core.Path.{_≡_, sym, ap, subst, _∙_}
 use Prim.Native.Nat.{ℕ}
@@ -134,23 +134,23 @@ module _ (P : ℕ → Place) where
       off-r o = not-left (P x) (P y) R (o .flat) (o .between) A B far (not-above x ax) (not-above y ay) above
 
       -- k is a or b, and j is the other
-      end : (k j : ℕ) → pos 0 ≤ℤ turn A B (P k) → turn A B (P j) ≤ℤ pos 0 → pos 0 <ℤ len (P j) (P k) → Clear A B k j x → Clear A B k j y → On x y k → ⊥
-      end k j h i g (one e) cy o = o .not-from (sym e)
-      end k j h i g (other e) (one d) o = o .not-to (sym d)
-      end k j h i g (other e) (other d) o = len-same (P x) (P y) (ap P (e ∙ sym d)) far
-      end k j h i g (other e) (right l) o =
+      end : (k j : ℕ) → pos 0 ≤ℤ turn A B (P k) → pos 0 <ℤ len (P j) (P k) → Clear A B k j x → Clear A B k j y → On x y k → ⊥
+      end k j h g (one e) cy o = o .not-from (sym e)
+      end k j h g (other e) (one d) o = o .not-to (sym d)
+      end k j h g (other e) (other d) o = len-same (P x) (P y) (ap P (e ∙ sym d)) far
+      end k j h g (other e) (right l) o =
           let z = at-start (P x) (P y) (P k) (o .flat) (o .between) A B far (not-above x ax) l h in
           let w : len (P j) (P k) ≤ℤ pos 0 = subst (λ (n : ℕ). len (P n) (P k) ≤ℤ pos 0) e z in
           omega (arith, onℤ)
-      end k j h i g (right l) (one d) o = o .not-to (sym d)
-      end k j h i g (right l) (other d) o =
+      end k j h g (right l) (one d) o = o .not-to (sym d)
+      end k j h g (right l) (other d) o =
           let z = at-end (P x) (P y) (P k) (o .flat) (o .between) A B far l (not-above y ay) h in
           let w : len (P j) (P k) ≤ℤ pos 0 = subst (λ (n : ℕ). len (P n) (P k) ≤ℤ pos 0) d z in
           omega (arith, onℤ)
-      end k j h i g (right l) (right m) o = not-both (P x) (P y) (P k) (o .flat) (o .between) A B far l m h
+      end k j h g (right l) (right m) o = not-both (P x) (P y) (P k) (o .flat) (o .between) A B far l m h
 
       pub off-a : On x y a → ⊥
-      off-a = end a b (omega (arith, onℤ, at-from)) (omega (arith, onℤ, at-to)) (omega (arith, onℤ, len-above A B R above, len-swap A B)) ax ay
+      off-a = end a b (omega (arith, onℤ, at-from)) (omega (arith, onℤ, len-above A B R above, len-swap A B)) ax ay
 
       pub off-b : On x y b → ⊥
-      off-b = end b a (omega (arith, onℤ, at-to)) (omega (arith, onℤ, at-from)) (len-above A B R above) (swapped A B a b x ax) (swapped A B a b y ay)
+      off-b = end b a (omega (arith, onℤ, at-to)) (len-above A B R above) (swapped A B a b x ax) (swapped A B a b y ay)

@@ -10,7 +10,7 @@ use Rattle.meaning.specs.declared.Tri.{Tri}
 use Rattle.meaning.specs.Tables.{placeAt, rowAt}
 use Rattle.laws.specs.Meshes.{Standing}
 use Rattle.pairs.specs.declared.Seen.{Seen}
-use Rattle.pairs.specs.Pair.{grave, graveAt}
+use Rattle.pairs.specs.Pair.{graveAt}
 use Rattle.pairs.specs.Seen.{seenBy, Near, clean, graveSeen}
 use Rattle.pairs.specs.SeenLaw.{near-seen, seen-same}
 use Rattle.pairs.specs.CleanLaw.{clean-none, cleaned-none}

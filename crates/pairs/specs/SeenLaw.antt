@@ -1,4 +1,4 @@
--- Rows as the code sees them have the answers of Pair.antt. Assumes nothing.
+-- Rows as the code sees them: the steps of each test, in the form of their needs; and they have the answers of Pair.antt. Assumes nothing.
 use mathlib.Core.Path.{_≡_, refl, sym, ap, subst, _∙_}
 use mathlib.Core.Bool.{Bool, true, false, not, _&&_, _||_}
 use mathlib.Core.List.{List}
@@ -13,14 +13,13 @@ use Rattle.lists.specs.Lists.{any, cases}
 use Rattle.lists.specs.SearchLaw.{or-three}
 use Rattle.meaning.specs.declared.Place.{Place}
 use Rattle.meaning.specs.declared.Tri.{Tri}
-use Rattle.meaning.specs.Mesh.{arrow, arrows, turn}
-use Rattle.meaning.specs.Good.{sameZ}
-use Rattle.meaning.specs.Tables.{placeAt, rowAt}
+use Rattle.meaning.specs.Mesh.{arrow, turn}
+use Rattle.meaning.specs.Tables.{placeAt}
 use Rattle.meaning.specs.Proper.{noneLeft, partedBy, apart}
 use Rattle.laws.specs.Meshes.{Standing}
 use Rattle.pairs.specs.declared.Corner.{Corner}
 use Rattle.pairs.specs.declared.Seen.{Seen}
-use Rattle.pairs.specs.Pair.{shapeBy, corners, onSide, touches, grave, graveAt}
+use Rattle.pairs.specs.Pair.{shapeBy, corners, onSide, touches, grave}
 use Rattle.pairs.specs.Seen.{seenBy, cornerBy, Near, isEnd, leftOf, rightOf, notBeyond, isOn, isClear, isOnSome, someLeft, allClear, clean, meets, crosses, graveSeen}
 
 -- ---- one side and one corner, test by test
@@ -92,6 +91,20 @@ module _ (t u : Seen) (x : Bool) (d : x ≡ allClear (t .p) (t .q) u) where
     unfolding clean
     clean-rp k z f = rw (← d, h, ← e, k) f
 
+module _ (t u : Seen) (x : Bool) (d : x ≡ someLeft (t .p) (t .q) u) where
+  pub cross-not-pq : not x ≡ true → false ≡ crosses t u
+  unfolding crosses
+  cross-not-pq h = rw (← d, not-true x h)
+
+  module _ (h : not x ≡ false) (y : Bool) (e : y ≡ someLeft (t .q) (t .r) u) where
+    pub cross-not-qr : not y ≡ true → false ≡ crosses t u
+    unfolding crosses
+    cross-not-qr k = rw (← d, not-false x h, ← e, not-true y k)
+
+    pub cross-all : not y ≡ false → (z : Bool) → z ≡ someLeft (t .r) (t .p) u → z ≡ crosses t u
+    unfolding crosses
+    cross-all k z f = rw (← d, not-false x h, ← e, not-false y k) f
+
 -- ---- a row with its places
 
 pub corner-made : (nodes : List ℤ) (k : ℕ) (a : Place) → a ≡ placeAt nodes k → _≡_ {A = Corner} (record { node = k; place = a }) (cornerBy (placeAt nodes) k)
@@ -113,14 +126,19 @@ module _ (t u : Seen) where
   unfolding graveSeen
   seen-meets x y a b h = rw (← a, ← b, h)
 
-  module _ (x y : Bool) (a : x ≡ meets t u) (b : y ≡ meets u t) (h : x || y ≡ false) (v w : Bool) (c : v ≡ crosses t u) (d : w ≡ crosses u t) where
-    pub seen-crosses : v && w ≡ true → 1 ≡ graveSeen t u
+  module _ (x y : Bool) (a : x ≡ meets t u) (b : y ≡ meets u t) (h : x || y ≡ false) (v : Bool) (c : v ≡ crosses t u) where
+    pub seen-parted : not v ≡ true → 0 ≡ graveSeen t u
     unfolding graveSeen
-    seen-crosses k = rw (← a, ← b, h, ← c, ← d, k)
+    seen-parted k = rw (← a, ← b, h, ← c, not-true v k)
 
-    pub seen-neither : v && w ≡ false → 0 ≡ graveSeen t u
-    unfolding graveSeen
-    seen-neither k = rw (← a, ← b, h, ← c, ← d, k)
+    module _ (k : not v ≡ false) (w : Bool) (d : w ≡ crosses u t) where
+      pub seen-parted-back : not w ≡ true → 0 ≡ graveSeen t u
+      unfolding graveSeen
+      seen-parted-back l = rw (← a, ← b, h, ← c, not-false v k, ← d, not-true w l)
+
+      pub seen-sharing : not w ≡ false → 1 ≡ graveSeen t u
+      unfolding graveSeen
+      seen-sharing l = rw (← a, ← b, h, ← c, not-false v k, ← d, not-false w l)
 
 le-not-lt : (z : ℤ) → leZ z (pos 0) ≡ not (ltZ (pos 0) z)
 le-not-lt z = go (ltZ (pos 0) z) refl

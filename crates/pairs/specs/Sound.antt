@@ -1,9 +1,7 @@
 -- What is known of a row before it is set beside another: its corners stand in the node table, in range, and its area is above 0. Assumes nothing.
 use mathlib.Core.List.{List}
-use mathlib.Core.Path.{_≡_}
 use Prim.Native.Nat.{ℕ, _*_, _≤_, _<_}
-use lib.IntN.{ℤ, pos}
-use lib.Signed.{_<ℤ_}
+use lib.IntN.{ℤ}
 use lib.ListN.{length}
 use Rattle.meaning.specs.declared.Tri.{Tri}
 use Rattle.meaning.specs.Mesh.{twiceArea}

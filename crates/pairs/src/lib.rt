@@ -135,7 +135,7 @@ fn all_clear(a: Corner, b: Corner, t: Seen) -> bool
 
 // ---- two rows
 
-// A side of t is clean for u. Nearly all pairs of a mesh's rows have such a side.
+// A side of t is clean for u. Most pairs of a mesh's rows have such a side.
 fn clean(t: Seen, u: Seen) -> bool
     requires { ⌜ Near t ⌝ }
     ensures { λ r. ⌜ r ≡ clean t u ⌝ }
@@ -162,7 +162,13 @@ fn crosses(t: Seen, u: Seen) -> bool
     requires { ⌜ Near t ⌝ }
     ensures { λ r. ⌜ r ≡ crosses t u ⌝ }
 {
-    some_left(t.p, t.q, u) & some_left(t.q, t.r, u) & some_left(t.r, t.p, u)
+    if !some_left(t.p, t.q, u) {
+        return false;
+    }
+    if !some_left(t.q, t.r, u) {
+        return false;
+    }
+    some_left(t.r, t.p, u)
 }
 
 fn grave_seen(t: Seen, u: Seen) -> u32
@@ -172,10 +178,13 @@ fn grave_seen(t: Seen, u: Seen) -> u32
     if meets(t, u) | meets(u, t) {
         return 2;
     }
-    if crosses(t, u) & crosses(u, t) {
-        return 1;
+    if !crosses(t, u) {
+        return 0;
     }
-    0
+    if !crosses(u, t) {
+        return 0;
+    }
+    1
 }
 
 // 2: a corner of one row is on a side of the other; 1: they share an interior point; 0: neither.

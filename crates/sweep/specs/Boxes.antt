@@ -118,11 +118,11 @@ above : (z : ℤ) (k : ℕ) → natAbs z ≤ 1_048_576 → k < shifted z → (po
 above z k h l = omega (arith, onℤ, absℤ z, absℤ (z +ℤ pos 1_048_576), sumℤ z (pos 1_048_576), subℤ (pos k) (pos 1_048_576))
 
 -- the places of a row's corners are in range, and it has an area
-pub record Sound (P : ℕ → Place) (t : Tri) : Type 0 where
+pub record Solid (P : ℕ → Place) (t : Tri) : Type 0 where
   pub ranges : All (λ k. InRange (P k)) (corners t)
   pub area-above : pos 0 <ℤ area (shapeBy P t)
 
-module _ (y : Bool) (P : ℕ → Place) (t u : Tri) (a : Sound P t) (b : Sound P u) (h : high y P t < low y P u) where
+module _ (y : Bool) (P : ℕ → Place) (t u : Tri) (a : Solid P t) (b : Solid P u) (h : high y P t < low y P u) where
   parted : Parted y (pos (high y P t) -ℤ pos 1_048_576) P t u
   parted = record {
     lower = All-imp (λ k c. at-most (coord y (P k)) (high y P t) (near y (P k) (c .0)) (c .1)) (All-both (a .ranges) (cons (omega arith) (cons (omega arith) (cons (omega arith) nil))));

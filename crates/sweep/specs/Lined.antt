@@ -12,8 +12,8 @@ use Rattle.lists.specs.Lists.{cases}
 use Rattle.lists.specs.Search.{iter}
 use Rattle.meaning.specs.declared.Place.{Place}
 use Rattle.meaning.specs.Tables.{placeAt, rowAt}
-use Rattle.laws.specs.Meshes.{Standing}
 use Rattle.pairs.specs.Pair.{graveAt}
+use Rattle.pairs.specs.Sound.{Sound}
 use Rattle.columns.specs.declared.Scale.{Scale}
 use Rattle.columns.specs.declared.Boxed.{Boxed}
 use Rattle.columns.specs.Columns.{high, column, boxAt, Ordered}
@@ -22,10 +22,10 @@ use Rattle.sweep.specs.Highest.{raised, highest}
 use Rattle.sweep.specs.Sweep.{compared, visited, reach, sweptPlace, swept}
 use Rattle.sweep.specs.Swept.{reach-most}
 
--- row i is in its table, and its corners in theirs
+-- row i is in its table, and is sound
 pub record Known (nodes : List ℤ) (rows : List ℕ) (i : ℕ) : Type 0 where
   pub inside : 3 * i + 3 ≤ length rows
-  pub stands : Standing nodes (rowAt rows i)
+  pub sound : Sound nodes (rowAt rows i)
 
 -- so is the row at place q, with the places from o on
 pub record KnownAt (nodes : List ℤ) (rows scratch : List ℕ) (o q : ℕ) : Type 0 where
@@ -42,7 +42,7 @@ pub record Lined (s : Scale) (nodes : List ℤ) (rows scratch : List ℕ) (t : �
   pub some : 0 < s .count
   pub places : s .count + 3 * t ≤ length scratch
   pub room : 3 * t ≤ length rows
-  pub stands : (i : ℕ) → i < t → Standing nodes (rowAt rows i)
+  pub sound : (i : ℕ) → i < t → Sound nodes (rowAt rows i)
 
 -- p is the place of one of them
 pub record LinedAt (s : Scale) (nodes : List ℤ) (rows scratch : List ℕ) (p : ℕ) : Type 0 where
@@ -57,7 +57,7 @@ module _ (s : Scale) (nodes : List ℤ) (rows scratch : List ℕ) where
   lined-known : (t q : ℕ) → Lined s nodes rows scratch t → q < t → KnownAt nodes rows scratch (s .count) q
   lined-known t q h l =
       let n = h .ordered .naming q l in
-      record { inside = omega (arith, h .places); known = record { inside = omega (arith, h .room); stands = h .stands (boxAt scratch (s .count) q .row) n } }
+      record { inside = omega (arith, h .places); known = record { inside = omega (arith, h .room); sound = h .sound (boxAt scratch (s .count) q .row) n } }
 
   module _ (p : ℕ) (h : LinedAt s nodes rows scratch p) where
     pub lined-box : s .count + 3 * p + 3 ≤ length scratch

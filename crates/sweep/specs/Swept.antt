@@ -13,12 +13,12 @@ use Rattle.lists.specs.ListsLaw.{and-both}
 use Rattle.meaning.specs.declared.Place.{Place}
 use Rattle.meaning.specs.Tables.{rowAt}
 use Rattle.pairs.specs.Pair.{grave, graveAt}
-use Rattle.pairs.specs.SeenLaw.{grave-sym}
+use Rattle.pairs.specs.Turned.{grave-sym}
 use Rattle.columns.specs.declared.Scale.{Scale}
 use Rattle.columns.specs.declared.Boxed.{Boxed}
 use Rattle.columns.specs.Columns.{low, high, column, home, before, rank, boxAt, boxOf, Ordered}
 use Rattle.columns.specs.Rank.{before-most, before-mono, rank-below, rank-most, rank-apart, column-mono, column-below}
-use Rattle.sweep.specs.Boxes.{Sound, boxes-clear}
+use Rattle.sweep.specs.Boxes.{Solid, boxes-clear}
 use Rattle.sweep.specs.Highest.{HighestIs, of-none, of, highest-most, highest-is}
 use Rattle.sweep.specs.Sweep.{meeting, compared, visited, reach, sweptPlace, swept}
 
@@ -50,13 +50,13 @@ module _ (s : Scale) (P : ℕ → Place) (rows scratch : List ℕ) (t : ℕ) (o 
 
   -- ---- no two rows are graver
 
-  module _ (wide : 0 < s .width) (sound : (i : ℕ) → i < t → Sound P (rowAt rows i)) where
+  module _ (wide : 0 < s .width) (solid : (i : ℕ) → i < t → Solid P (rowAt rows i)) where
     -- the boxes of rows that are grave meet, along both axes
     reaches : (y : Bool) (i j : ℕ) → i < t → j < t → 0 < graveOf i j → low y P (rowAt rows j) ≤ high y P (rowAt rows i)
     reaches y i j a b g = go (decLt (high y P (rowAt rows i)) (low y P (rowAt rows j)))
       where
         go : Dec (high y P (rowAt rows i) < low y P (rowAt rows j)) → low y P (rowAt rows j) ≤ high y P (rowAt rows i)
-        go (yes l) = let z = boxes-clear y P (rowAt rows i) (rowAt rows j) (sound i a) (sound j b) l in absurd (omega arith)
+        go (yes l) = let z = boxes-clear y P (rowAt rows i) (rowAt rows j) (solid i a) (solid j b) l in absurd (omega arith)
         go (no l) = omega arith
 
     back : (i j : ℕ) → 0 < graveOf i j → 0 < graveOf j i

@@ -9,16 +9,17 @@ use Rattle.lists.specs.Lists.{nil, cons}
 use Rattle.lists.specs.IterLaw.{length-items, getD-items}
 use Rattle.meaning.specs.declared.Place.{Place}
 use Rattle.meaning.specs.declared.Tri.{Tri}
-use Rattle.meaning.specs.Mesh.{Mesh, tri, at, twiceArea}
+use Rattle.meaning.specs.Mesh.{Mesh, tri, at}
 use Rattle.meaning.specs.Lawful.{Lawful, rowOf}
 use Rattle.meaning.specs.Tables.{placeAt, rowAt}
-use Rattle.laws.specs.Meshes.{meshAt, place-is, row-named, row-stands, row-above}
+use Rattle.laws.specs.Meshes.{meshAt, place-is, row-named}
 use Rattle.pairs.specs.Pair.{grave}
+use Rattle.pairs.specs.Sound.{row-sound}
 use Rattle.pairs.specs.Seen.{seenBy}
 use Rattle.pairs.specs.SeenLaw.{seen-same}
 use Rattle.columns.specs.declared.Scale.{Scale}
 use Rattle.columns.specs.Columns.{Ordered}
-use Rattle.sweep.specs.Boxes.{Sound}
+use Rattle.sweep.specs.Boxes.{Solid}
 use Rattle.sweep.specs.Severity.{severity, graveOf, Met, Gravest}
 use Rattle.sweep.specs.Gravest.{gravest-is}
 use Rattle.sweep.specs.Sweep.{swept}
@@ -58,14 +59,12 @@ module _ (nodes : List ℤ) (rows : List ℕ) (n t : ℕ) (law : Lawful (meshAt 
   grave-is : (i j : ℕ) → i < t → j < t → graveOf m i j ≡ grave (placeAt nodes) (rowAt rows i) (rowAt rows j)
   grave-is i j a b = rw (row-is i a, row-is j b) (grave-agrees (at m) (placeAt nodes) (rowAt rows i) (rowAt rows j) (agreeing i a) (agreeing j b))
 
-  sound : 4 * n ≤ length nodes → (i : ℕ) → i < t → Sound (placeAt nodes) (rowAt rows i)
-  unfolding twiceArea
-  sound fit i h =
-      let S = row-stands nodes rows n t law fit i h in
-      let A = agreeing i h in
+  solid : 4 * n ≤ length nodes → (i : ℕ) → i < t → Solid (placeAt nodes) (rowAt rows i)
+  solid fit i h =
+      let S = row-sound nodes rows n t law fit i h in
       record {
-        ranges = cons (S .at-p .range .place-in) (cons (S .at-q .range .place-in) (cons (S .at-r .range .place-in) nil));
-        area-above = rw (A .at-p, A .at-q, A .at-r) at (row-above nodes rows n t law i h);
+        ranges = cons (S .stands .at-p .range .place-in) (cons (S .stands .at-q .range .place-in) (cons (S .stands .at-r .range .place-in) nil));
+        area-above = S .above;
       }
 
   module _ (fit : 4 * n ≤ length nodes) (s : Scale) (scratch : List ℕ) (o : Ordered s (placeAt nodes) rows scratch t) (wide : 0 < s .width) (some : 0 < s .count) where
@@ -73,7 +72,7 @@ module _ (nodes : List ℤ) (rows : List ℕ) (n t : ℕ) (law : Lawful (meshAt 
     gravest = record {
       most = λ i j l h.
           (let b : j < t = rw count-rows at h in
-          rw (grave-is i j (omega arith) b) (swept-most s (placeAt nodes) rows scratch t o some wide (sound fit) i j (omega arith) b (omega arith)));
+          rw (grave-is i j (omega arith) b) (swept-most s (placeAt nodes) rows scratch t o some wide (solid fit) i j (omega arith) b (omega arith)));
       met = go (swept-met s (placeAt nodes) rows scratch t o some);
     }
       where
@@ -105,7 +104,7 @@ module _ (nodes : List ℤ) (rows : List ℕ) (n t : ℕ) (law : Lawful (meshAt 
       some = some-column some (s .count) count;
       places = rw (count, long) places;
       room = room;
-      stands = row-stands nodes rows n t law fit;
+      sound = row-sound nodes rows n t law fit;
     }
 
     pub severity-swept : (r : ℕ) → r ≡ swept s (placeAt nodes) rows scratch t → r ≡ severity m

@@ -1,4 +1,5 @@
 //! Check, refine, quarter, coarsen, restore, the setting of a correction and the question about a point, on lent tables.
+use crate::proper::{crowded, overlapping, Place};
 use std::collections::{HashMap, HashSet};
 use std::ops::RangeInclusive;
 
@@ -200,6 +201,19 @@ impl Mesh {
         self.rows.iter().all(|&r| holders[&pair(r[1], r[2])].iter().all(|&j| pair(self.rows[j][1], self.rows[j][2]) == pair(r[1], r[2])))
     }
 
+    /// What the base check has against a lawful mesh: "in the order 7, 11, 12, 10".
+    fn base_refusal(&self) -> Option<u32> {
+        let places: Vec<Place> = self.nodes.iter().map(|a| [a.x, a.y]).collect();
+        let triangles: Vec<[Place; 3]> = self.rows.iter().map(|r| r.map(|k| places[k])).collect();
+        if crowded(&places, &triangles) {
+            Some(11)
+        } else if overlapping(&triangles) {
+            Some(12)
+        } else {
+            (!self.compatible()).then_some(10)
+        }
+    }
+
     /// The least closed set of edges over the starting edges of the marked rows.
     fn split_set(&self, starts: Starts, marks: &[u8]) -> HashSet<(usize, usize)> {
         let mut holders: HashMap<(usize, usize), Vec<usize>> = HashMap::new();
@@ -387,9 +401,9 @@ pub fn holders(given: &Tables, point: [i32; 2]) -> Vec<Holder> {
 }
 
 pub fn check(g: &mut Tables) -> Answer {
-    match lawful(g, 0, true) {
-        Ok(m) if m.compatible() => g.done(0),
-        Ok(_) => g.refused(10, 0),
+    match lawful(g, 0, true).map(|m| m.base_refusal()) {
+        Ok(None) => g.done(0),
+        Ok(Some(number)) => g.refused(number, 0),
         Err(refused) => refused,
     }
 }

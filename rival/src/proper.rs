@@ -18,12 +18,13 @@ fn holds_inside(sorted: &[Place], a: Place, b: Place) -> bool {
     let steps = common(way[0].abs(), way[1].abs());
     let step = way.map(|part| part / steps);
     let along = (step[0] == 0) as usize;
+    let high = |p: &&Place| a[1].min(b[1]) <= p[1] && p[1] <= a[1].max(b[1]);
     let passed = |p: &Place| {
         let taken = (p[along] - a[along]) / step[along];
         0 < taken && taken < steps && *p == [a[0] + taken * step[0], a[1] + taken * step[1]]
     };
     let from = sorted.partition_point(|p| p[0] < a[0].min(b[0]));
-    sorted[from..].iter().take_while(|p| p[0] <= a[0].max(b[0])).any(passed)
+    sorted[from..].iter().take_while(|p| p[0] <= a[0].max(b[0])).filter(high).any(passed)
 }
 
 /// The greatest number that divides both.
@@ -31,15 +32,21 @@ fn common(a: i64, b: i64) -> i64 {
     if b == 0 { a } else { common(b, a % b) }
 }
 
+/// A triangle, the least and the greatest of its corners' x, and those of y.
+type Boxed = ([Place; 3], [i64; 2], [i64; 2]);
+
+fn boxed(t: [Place; 3]) -> Boxed {
+    let [x, y] = [0, 1].map(|s| [t[0][s].min(t[1][s]).min(t[2][s]), t[0][s].max(t[1][s]).max(t[2][s])]);
+    (t, x, y)
+}
+
 /// 12: "two triangles share an interior point".
 pub fn overlapping(triangles: &[[Place; 3]]) -> bool {
-    let low = |t: &[Place; 3], s: usize| t[0][s].min(t[1][s]).min(t[2][s]);
-    let high = |t: &[Place; 3], s: usize| t[0][s].max(t[1][s]).max(t[2][s]);
-    let mut sorted = triangles.to_vec();
-    sorted.sort_by_key(|t| low(t, 0));
-    sorted.iter().enumerate().any(|(k, one)| {
-        let beside = sorted[k + 1..].iter().take_while(|other| low(other, 0) < high(one, 0));
-        beside.filter(|other| low(other, 1) < high(one, 1) && low(one, 1) < high(other, 1)).any(|other| share(*one, *other))
+    let mut sorted: Vec<Boxed> = triangles.iter().copied().map(boxed).collect();
+    sorted.sort_by_key(|(_, x, _)| x[0]);
+    sorted.iter().enumerate().any(|(k, (one, x, y))| {
+        let beside = sorted[k + 1..].iter().take_while(|other| other.1[0] < x[1]);
+        beside.filter(|other| other.2[0] < y[1] && y[0] < other.2[1]).any(|other| share(*one, other.0))
     })
 }
 
@@ -69,30 +76,32 @@ fn crossing(l: Line, m: Line) -> Point {
     point.map(|part| part * point[2].signum())
 }
 
-fn corners([p, q, r]: [Place; 3]) -> Vec<Corner> {
-    [(p, q), (q, r), (r, p)].map(|(from, to)| ([from[0], from[1], 1].map(i128::from), line(from, to))).into()
+fn corners([p, q, r]: [Place; 3]) -> [Corner; 3] {
+    [(p, q), (q, r), (r, p)].map(|(from, to)| ([from[0], from[1], 1].map(i128::from), line(from, to)))
 }
 
 /// What is left of a shape that has an area after all right of the line is cut off; nothing if that has none: if no corner is strictly left of it.
-fn cut(shape: Vec<Corner>, by: Line) -> Option<Vec<Corner>> {
-    let sides: Vec<i128> = shape.iter().map(|corner| product(by, corner.0)).collect();
+fn cut(shape: &[Corner], by: Line) -> Option<Vec<Corner>> {
+    if shape.iter().all(|corner| product(by, corner.0) <= 0) {
+        return None;
+    }
     let mut left = vec![];
     for (k, &(corner, side)) in shape.iter().enumerate() {
-        let (begins, ends) = (sides[k], sides[(k + 1) % sides.len()]);
-        if begins >= 0 {
+        let [begins, ends] = [corner, shape[(k + 1) % shape.len()].0].map(|end| product(by, end) >= 0);
+        if begins {
             left.push((corner, side));
         }
-        if begins >= 0 && ends < 0 {
-            left.push((crossing(side, by), by));
-        }
-        if begins < 0 && ends >= 0 {
-            left.push((crossing(side, by), side));
+        if begins != ends {
+            // where the side goes on to the right of the line, what is left goes on along it
+            left.push((crossing(side, by), if begins { by } else { side }));
         }
     }
-    sides.iter().any(|&side| side > 0).then_some(left)
+    Some(left)
 }
 
 /// Whether what is left of one triangle, cut to the other by its three sides, has an area.
 pub fn share(one: [Place; 3], [p, q, r]: [Place; 3]) -> bool {
-    [line(p, q), line(q, r), line(r, p)].into_iter().try_fold(corners(one), cut).is_some()
+    let first = cut(&corners(one), line(p, q));
+    let second = first.and_then(|left| cut(&left, line(q, r)));
+    second.and_then(|left| cut(&left, line(r, p))).is_some()
 }

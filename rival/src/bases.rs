@@ -47,6 +47,17 @@ pub fn drawn(d: &mut Dice) -> (&'static Kind, Base) {
     (kind, (nodes, rows))
 }
 
+/// A base that the check admits, with room for some halvings: a grid, sheets side by side, or two fans with one hub.
+pub fn admitted(d: &mut Dice) -> Base {
+    let (nodes, rows) = match d.below(4) {
+        0 => beside(d),
+        1 => pinched(d),
+        _ => grid(1 + d.below(4), 1 + d.below(4), 4),
+    };
+    let times = 4 << d.below(6);
+    (nodes.iter().map(|p| (times * p.0, times * p.1)).collect(), rows)
+}
+
 /// Places that are not negative, moved along one axis by so many times the other coordinate, then turned by a quarter, and so on: areas stay.
 fn shear(d: &mut Dice, nodes: &mut [(i32, i32)]) {
     for _ in 0..=d.below(3) {

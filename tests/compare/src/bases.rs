@@ -1,5 +1,6 @@
-//! Checks of random bases whose kind says beforehand which numbers they may draw, by the proved calls and by the rival.
-use crate::meshes::shuffled;
+//! Checks of random bases whose kind says beforehand which numbers they may draw, and of every two triangles over a small lattice, by the proved calls
+//! and by the rival.
+use crate::meshes::{shuffled, tables, Mesh};
 use crate::{agreed, Call};
 use rival::bases::{drawn, KINDS};
 use rival::calls::base_faults;
@@ -39,6 +40,37 @@ pub fn compare_base(seed: u64, seen: &mut Seen) {
         assert!(number != both[1], "seed {seed}: {} said {number}, and not {}: {given:?}", kind.name, both[0]);
         *seen.met.entry(both).or_default() += 1;
     }
+}
+
+/// The triangles over a lattice of 4 by 3 places, each once, by the places of its corners.
+fn lattice() -> Vec<[(i32, i32); 3]> {
+    let place = |k: i32| (k % 4, k / 4);
+    let area = |[p, q, r]: [(i32, i32); 3]| (q.0 - p.0) * (r.1 - p.1) - (r.0 - p.0) * (q.1 - p.1);
+    let from = |p: i32| (p + 1..12).flat_map(move |q| (p + 1..12).map(move |r| [p, q, r].map(place)));
+    (0..12).flat_map(from).filter(|&corners| area(corners) > 0).collect()
+}
+
+/// Two triangles, with nodes of their own; and with one node for corners that stand at one place.
+fn pair(one: [(i32, i32); 3], other: [(i32, i32); 3]) -> [Mesh; 2] {
+    let corners = [one, other].concat();
+    let mut places = corners.clone();
+    places.sort();
+    places.dedup();
+    let row = |t: [(i32, i32); 3]| t.map(|p| places.binary_search(&p).expect("a corner") as u32);
+    [(corners, vec![[0, 1, 2], [3, 4, 5]]), (places.clone(), vec![row(one), row(other)])]
+}
+
+/// Every two triangles over the lattice, both ways round. How often each number was given.
+pub fn every_two() -> BTreeMap<u32, u64> {
+    let mut given = BTreeMap::new();
+    let triangles = lattice();
+    for (one, other) in triangles.iter().flat_map(|one| triangles.iter().map(move |other| (one, other))) {
+        for mesh in pair(*one, *other) {
+            let (said, _) = agreed(0, &Call::Check, &tables(&mesh, 6, 2));
+            *given.entry(said.number).or_default() += 1;
+        }
+    }
+    given
 }
 
 /// What the checks said, and what of it was never seen.

@@ -1,9 +1,9 @@
 //! Drives the proved library, by its exported calls and by the wrapper, and the rival with the same random calls and compares answers and
-//! every table entry; and then as many checks of bases whose kind says beforehand what they may draw. Usage: compare COUNT [SEED]. The first
-//! difference is made smaller by taking rows away, shown with its seed, and the run fails. A run in which a call never gave one of the numbers that
-//! it may answer, or one of 3 to 7 never with a culprit above 0 or never with several at fault, fails too: it is to be longer. A setting must have
-//! drawn 3 by what is stored and by the value to be set, questions must have been of every kind of compare::questions, every kind of base must have
-//! drawn all of its numbers, and two of 7, 11, 12 and 10 must have met in one base.
+//! every table entry; then as many checks of bases whose kind says beforehand what they may draw; and of every two triangles over a small lattice.
+//! Usage: compare COUNT [SEED]. The first difference is made smaller by taking rows away, shown with its seed, and the run fails. A run in which a
+//! call never gave one of the numbers that it may answer, or one of 3 to 7 never with a culprit above 0 or never with several at fault, fails too: it
+//! is to be longer. A setting must have drawn 3 by what is stored and by the value to be set, questions must have been of every kind of
+//! compare::questions, every kind of base must have drawn all of its numbers, and any two of 7, 11, 12 and 10 must have met in one base.
 use compare::bases::{self, compare_base};
 use compare::questions::{kinds, KINDS};
 use compare::{agreed, Answer, Call};
@@ -125,7 +125,9 @@ fn main() {
     let (mut seen, mut seen_of_bases) = (BTreeMap::new(), bases::Seen::default());
     (first..first + count).for_each(|seed| compare_one(seed, &mut seen));
     (first..first + count).for_each(|seed| compare_base(seed, &mut seen_of_bases));
+    let pairs = bases::every_two();
     let missed = [tell(&seen), bases::tell(&seen_of_bases)].concat();
+    println!("check, of every two triangles over a lattice, said, and how often: {pairs:?}");
     if !missed.is_empty() {
         println!("compare: {count} calls and {count} bases from seed {first} agree, but were never answered: {}", missed.join(", "));
         std::process::exit(1);

@@ -2,7 +2,7 @@
 //! meshes and shuffled grids, as they are, grown, spoilt, with a node doubled or a triangle in another, and in tables of odd lengths. Each goes through
 //! all seven calls; answers and every table entry are compared. Usage: hard COUNT [SEED]. A run in which a kind of mesh never met one of the outcomes
 //! below fails too: it is to be longer.
-use compare::meshes::{dense, double_fan, fan, shuffled, Mesh};
+use compare::meshes::{dense, double_fan, fan, ladder, shuffled, Mesh};
 use compare::{agreed, made, rival, Call};
 use rival::calls::{quarter, refine, Tables};
 use rival::random::{correction, grid, lend, point, Dice};
@@ -58,6 +58,7 @@ fn size(d: &mut Dice, least: usize, most: usize) -> usize {
     if d.once_in(6) { most } else { least + d.below((most - least) >> halved) }
 }
 
+/// A mesh of this shape. Among the grids are ladders, lying and standing.
 fn drawn(d: &mut Dice, shape: &str) -> Mesh {
     let mesh = match shape {
         "fans" => {
@@ -67,6 +68,10 @@ fn drawn(d: &mut Dice, shape: &str) -> Mesh {
         "double fans" => double_fan(size(d, 2, 1022)),
         "dense meshes" => dense(2 * size(d, 2, 56) as u32, 2048),
         _ if d.once_in(6) => grid(31, 31, 16),
+        _ if d.once_in(3) => {
+            let (nodes, rows) = ladder(size(d, 1, 511));
+            if d.once_in(2) { (nodes.iter().map(|p| (-p.1, p.0)).collect(), rows) } else { (nodes, rows) }
+        }
         _ => grid(size(d, 1, 31), size(d, 1, 31), 16),
     };
     if shape == "grids" || d.once_in(2) { shuffled(d, &mesh) } else { mesh }

@@ -230,10 +230,12 @@ fn calls(d: &mut Dice, g: &Tables, base: usize) -> [Call; 7] {
     [Call::Check, Call::Refine(n0, rows), Call::Quarter(n0, more_rows), Call::Coarsen(n0, nodes), Call::Restore(n0), set, ask]
 }
 
-/// What the check may say of a lawful mesh of this shape in this state. A row that holds a split edge has the node strictly inside.
+/// What the check may say of a lawful mesh of this shape in this state. A row that holds a split edge has the node strictly inside; a triangle in a row
+/// of a dense mesh may have a corner on a side of another.
 fn checked_as(shape: &str, state: State) -> &'static [u32] {
     match state {
         State::NodeDoubled => &[11],
+        State::TriangleIn if shape == "dense meshes" => &[11, 12],
         State::TriangleIn => &[12],
         State::AsDrawn if shape == "dense meshes" => &[0, 12],
         State::AsDrawn => &[0],

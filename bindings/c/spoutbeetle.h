@@ -16,7 +16,7 @@
  *   culprit  the last parameter of every call on a mesh, written by each: with 3 to 7 the lowest node or triangle at fault, counted from 0
  *            (with 3 for a correction to be set: the node given); 0 with every other number. What it held before does not matter
  *
- * Numbers (the lowest that applies is returned), and the culprit:
+ * Numbers (the lowest that applies is returned, but 11 and 12 come before 10), and the culprit:
  *    0  done: the tables hold the new mesh, zeros past the new counts
  *    1  a table length is not a multiple of its row, a room or count is out of bounds, n0 is above n, or scratch is short; of the reader:
  *       something is lent in another size, or the state is none that a call left
@@ -30,6 +30,8 @@
  *    8  an edge to be split has an odd sum of x or of y
  *    9  the new counts are above NC or TC
  *   10  the labelling is not compatible (check only)
+ *   11  two nodes stand at one place, or a node lies strictly inside an edge (check only)
+ *   12  two triangles share an interior point, be its coordinates whole numbers or fractions (check only)
  *   13  the node to be set is a base node, below n0 (set_correction only)
  *   14  no triangle holds the point (correction_at only)
  *   15  the node to be set is not below n (set_correction only)
@@ -49,7 +51,9 @@
 extern "C" {
 #endif
 
-/* The base check: 0 for a lawful mesh with a compatible labelling. It writes no table but scratch, whatever it returns. */
+/* The base check: 0 for a lawful mesh with a compatible labelling in which no two nodes stand at one place, no node lies strictly inside an edge
+ * and no two triangles share an interior point. Triangles may touch: at a node that both name, or along an edge that is a whole side of both.
+ * The other calls do not ask for any of this again. It writes no table but scratch, whatever it returns. */
 uint32_t spoutbeetle_check(int32_t *nodes, size_t nodes_len, uint32_t *rows, size_t rows_len, uint32_t *scratch, size_t scratch_len,
                            size_t n, size_t t, size_t *culprit);
 

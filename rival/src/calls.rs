@@ -1,4 +1,5 @@
 //! Check, refine, quarter, coarsen, restore, the setting of a correction and the question about a point, on lent tables.
+use crate::proper::{crowded, overlapping, Place};
 use std::collections::{HashMap, HashSet};
 use std::ops::RangeInclusive;
 
@@ -200,6 +201,17 @@ impl Mesh {
         self.rows.iter().all(|&r| holders[&pair(r[1], r[2])].iter().all(|&j| pair(self.rows[j][1], self.rows[j][2]) == pair(r[1], r[2])))
     }
 
+    /// What the base check has against the mesh if nothing else is wrong, "in the order 7, 11, 12, 10".
+    fn base_faults(&self) -> impl Iterator<Item = u32> + '_ {
+        let places: Vec<Place> = self.nodes.iter().map(|a| [a.x, a.y]).collect();
+        let triangles: Vec<[Place; 3]> = self.rows.iter().map(|r| r.map(|k| places[k])).collect();
+        [11, 12, 10].into_iter().filter(move |number| match number {
+            11 => crowded(&places, &triangles),
+            12 => overlapping(&triangles),
+            _ => !self.compatible(),
+        })
+    }
+
     /// The least closed set of edges over the starting edges of the marked rows.
     fn split_set(&self, starts: Starts, marks: &[u8]) -> HashSet<(usize, usize)> {
         let mut holders: HashMap<(usize, usize), Vec<usize>> = HashMap::new();
@@ -381,15 +393,20 @@ pub fn offenders(given: &Tables, number: u32) -> Vec<usize> {
     if number < 3 { vec![] } else { given.mesh().offenders(number) }
 }
 
+/// All of 11, 12 and 10 that apply to the mesh that the tables hold, which none of 1 to 6 does.
+pub fn base_faults(given: &Tables) -> Vec<u32> {
+    given.mesh().base_faults().collect()
+}
+
 /// All rows of the lawful mesh that the tables hold which hold the point, from the lowest up.
 pub fn holders(given: &Tables, point: [i32; 2]) -> Vec<Holder> {
     given.mesh().holders(point).collect()
 }
 
 pub fn check(g: &mut Tables) -> Answer {
-    match lawful(g, 0, true) {
-        Ok(m) if m.compatible() => g.done(0),
-        Ok(_) => g.refused(10, 0),
+    match lawful(g, 0, true).map(|m| m.base_faults().next()) {
+        Ok(None) => g.done(0),
+        Ok(Some(number)) => g.refused(number, 0),
         Err(refused) => refused,
     }
 }

@@ -1,4 +1,5 @@
 //! Random meshes, damage and calls from a seed.
+use crate::bases::drawn;
 use crate::calls::{self, Tables};
 
 /// A small generator of numbers (xorshift), so that a seed tells the whole run.
@@ -98,39 +99,42 @@ pub fn absurd(d: &mut Dice) -> (Vec<(i32, i32)>, Vec<[u32; 3]>) {
     let mut rows: Vec<[u32; 3]> = vec![];
     let mut arrows = std::collections::HashSet::new();
     for _ in 0..d.below(40) {
-        let r = [d.below(n), d.below(n), d.below(n)];
-        let [p, q, s] = r.map(|k| (nodes[k].0 as i64, nodes[k].1 as i64));
-        let area = (q.0 - p.0) * (s.1 - p.1) - (s.0 - p.0) * (q.1 - p.1);
+        let r = [d.below(n), d.below(n), d.below(n)].map(|k| k as u32);
         let own = [(r[0], r[1]), (r[1], r[2]), (r[2], r[0])];
-        if area > 0 && own.iter().all(|e| !arrows.contains(e)) {
+        if twice_area(&nodes, r) > 0 && own.iter().all(|e| !arrows.contains(e)) {
             arrows.extend(own);
-            rows.push(r.map(|k| k as u32));
+            rows.push(r);
         }
     }
     // keep the nodes that are used, most of the time
-    if d.once_in(20) {
-        return (nodes, rows);
-    }
-    let mut number = vec![u32::MAX; n];
+    if d.once_in(20) { (nodes, rows) } else { used(&nodes, rows) }
+}
+
+pub(crate) fn twice_area(nodes: &[(i32, i32)], row: [u32; 3]) -> i64 {
+    let [p, q, r] = row.map(|k| (nodes[k as usize].0 as i64, nodes[k as usize].1 as i64));
+    (q.0 - p.0) * (r.1 - p.1) - (r.0 - p.0) * (q.1 - p.1)
+}
+
+/// The same rows over the nodes that they use.
+pub(crate) fn used(nodes: &[(i32, i32)], mut rows: Vec<[u32; 3]>) -> (Vec<(i32, i32)>, Vec<[u32; 3]>) {
+    let mut number = vec![u32::MAX; nodes.len()];
     let mut kept = vec![];
-    for r in &mut rows {
-        for k in r {
-            let old = *k as usize;
-            if number[old] == u32::MAX {
-                number[old] = kept.len() as u32;
-                kept.push(nodes[old]);
-            }
-            *k = number[old];
+    for k in rows.iter_mut().flatten() {
+        let old = *k as usize;
+        if number[old] == u32::MAX {
+            number[old] = kept.len() as u32;
+            kept.push(nodes[old]);
         }
+        *k = number[old];
     }
     (kept, rows)
 }
 
 /// How far out a place may be, either way.
-const FAR: i32 = 1_048_576;
+pub(crate) const FAR: i32 = 1_048_576;
 
 /// Places that are not negative, moved anywhere in the range; half the time they are stretched before, as far as the range allows.
-fn spread(d: &mut Dice, nodes: &mut [(i32, i32)]) {
+pub(crate) fn spread(d: &mut Dice, nodes: &mut [(i32, i32)]) {
     let widest = nodes.iter().map(|p| p.0.max(p.1)).fold(1, i32::max);
     let by = if d.once_in(2) { 2 * FAR / widest } else { 1 };
     let room = (2 * FAR - by * widest) as usize;
@@ -138,18 +142,10 @@ fn spread(d: &mut Dice, nodes: &mut [(i32, i32)]) {
     nodes.iter_mut().for_each(|p| *p = (by * p.0 + right, by * p.1 + up));
 }
 
-/// A mesh: a grid or an absurd one, once in three times spread over the range, grown by some refinements of the rival's own, of either way,
-/// corrections set on it.
+/// A mesh: a grid or an absurd one, once in three times spread over the range, or a base drawn for the check; grown by some refinements of the
+/// rival's own, of either way, corrections set on it.
 pub fn mesh(d: &mut Dice) -> (Tables, usize) {
-    let (mut nodes, rows) = if d.once_in(3) {
-        let (w, h) = (1 + d.below(3), 1 + d.below(3));
-        grid(w, h, 1 << d.below(6))
-    } else {
-        absurd(d)
-    };
-    if d.once_in(3) {
-        spread(d, &mut nodes);
-    }
+    let (nodes, rows) = if d.once_in(4) { drawn(d).1 } else { spread_or_not(d) };
     let mut g = lend(d, &nodes, &rows);
     let n0 = g.n;
     for _ in 0..d.below(5) {
@@ -174,6 +170,19 @@ pub fn mesh(d: &mut Dice) -> (Tables, usize) {
         *s = d.below(9) as u32;
     }
     (g, n0)
+}
+
+fn spread_or_not(d: &mut Dice) -> (Vec<(i32, i32)>, Vec<[u32; 3]>) {
+    let (mut nodes, rows) = if d.once_in(3) {
+        let (w, h) = (1 + d.below(3), 1 + d.below(3));
+        grid(w, h, 1 << d.below(6))
+    } else {
+        absurd(d)
+    };
+    if d.once_in(3) {
+        spread(d, &mut nodes);
+    }
+    (nodes, rows)
 }
 
 /// A point to be asked about: at a node, on a side or in a triangle, or a step or two from such a one; or far out.

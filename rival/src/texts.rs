@@ -1,17 +1,32 @@
 //! Random texts for the line program, good and bad, from a seed.
+use crate::bases::drawn;
+use crate::calls::Tables;
 use crate::lines::node_frame;
 use crate::random::{correction, grid, lend, strike, Dice};
 
-/// A base, spoilt if it is to be: some of its nodes or rows, or rows left out. Says how many nodes it has.
-fn base(d: &mut Dice, spoilt: bool, text: &mut Vec<u8>) -> usize {
-    let (w, h) = (1 + d.below(3), 1 + d.below(3));
-    let (nodes, rows) = grid(w, h, 1 << d.below(7));
-    let mut g = lend(d, &nodes, &rows);
-    if spoilt && d.once_in(5) {
+/// A base that may be refused: some of a grid's nodes or rows spoilt, or rows left out, or one that is drawn for the check.
+fn spoilt_base(d: &mut Dice) -> Tables {
+    if d.once_in(3) {
+        let (nodes, rows) = drawn(d).1;
+        return lend(d, &nodes, &rows);
+    }
+    let mut g = good_base(d);
+    if d.once_in(5) {
         g.t = d.below(g.t);
-    } else if spoilt {
+    } else {
         strike(d, &mut g);
     }
+    g
+}
+
+fn good_base(d: &mut Dice) -> Tables {
+    let (w, h) = (1 + d.below(3), 1 + d.below(3));
+    let (nodes, rows) = grid(w, h, 1 << d.below(7));
+    lend(d, &nodes, &rows)
+}
+
+/// The frames of the base, and the one that ends it. Says how many nodes it has.
+fn base(g: &Tables, text: &mut Vec<u8>) -> usize {
     for a in g.nodes[..4 * g.n].chunks(4) {
         text.extend(node_frame(a).bytes());
     }
@@ -58,12 +73,12 @@ pub fn random_text(d: &mut Dice) -> Vec<u8> {
     let mut text = vec![];
     let mut most = 8;
     while d.once_in(2) {
-        base(d, true, &mut text);
+        base(&spoilt_base(d), &mut text);
     }
-    let n0 = base(d, false, &mut text);
+    let n0 = base(&good_base(d), &mut text);
     for _ in 0..d.below(40) {
         match d.below(14) {
-            0 => drop(base(d, false, &mut text)),
+            0 => drop(base(&good_base(d), &mut text)),
             1 => garbage(d, &mut text),
             2 => text.extend(b"06\n"),
             3 => text.extend(b"07\n"),

@@ -23,6 +23,14 @@ static void square(void) {
     culprit = 7777;
 }
 
+/* Adds nodes, four numbers each, and keeps `from` rows and puts these behind, three numbers each. */
+static void add(const int32_t *more, size_t nodes_more, size_t from, const uint32_t *others, size_t rows_more) {
+    memcpy(nodes + 4 * n, more, 4 * nodes_more * sizeof *nodes);
+    memcpy(rows + 3 * from, others, 3 * rows_more * sizeof *rows);
+    n += nodes_more;
+    t = from + rows_more;
+}
+
 static uint32_t check(size_t scratch_len) { return spoutbeetle_check(nodes, 4 * NC, rows, 3 * TC, scratch, scratch_len, n, t, &culprit); }
 
 static uint32_t refine(size_t marks_len) { return spoutbeetle_refine(nodes, 4 * NC, rows, 3 * TC, scratch, SCRATCH, marks, marks_len, 4, &n, &t, &culprit); }
@@ -75,6 +83,10 @@ static void say_calls(void) {
     say("quarter, room for four nodes", quarter(4));
     rows[3 * 1] = 0, rows[3 * 1 + 1] = 2, rows[3 * 1 + 2] = 3;
     say("check, row 1 turned", check(SCRATCH));
+    add((const int32_t[]){4, 4, 0, 0}, 1, 1, (const uint32_t[]){4, 3, 0, 4, 2, 3}, 2);
+    say("check, row 1 alone cut at the middle of 0-2", check(SCRATCH));
+    add((const int32_t[]){3, 1, 0, 0, 5, 3, 0, 0, 2, 4, 0, 0}, 3, 2, (const uint32_t[]){4, 5, 6}, 1);
+    say("check, a triangle over both rows", check(SCRATCH));
     say("set_correction, a base node", set_correction(3, 5, -6));
     say("set_correction, node 4 of four", set_correction(4, 5, -6));
     (void)refine(t);

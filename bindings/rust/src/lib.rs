@@ -61,7 +61,8 @@ impl<'a> From<Tables<'a>> for View<'a> {
 
 // SAFETY, in every call below: the pointers and lengths are those of live, distinct slices and numbers, which is all that a call asks.
 
-/// The base check: done for a lawful mesh with a compatible labelling. It writes no table but scratch.
+/// The base check: done for a lawful mesh with a compatible labelling in which no two nodes stand at one place, no node lies strictly inside an
+/// edge and no two triangles share an interior point. It writes no table but scratch.
 pub fn check(g: Tables) -> Result<Answer, Refusal> {
     let mut culprit = 0;
     let number = unsafe {

@@ -30,6 +30,10 @@ pub enum Refusal {
     NoRoom,
     /// 10: the labelling is not compatible (check only).
     NotCompatible,
+    /// 11: two nodes stand at one place, or a node lies strictly inside an edge (check only).
+    Crowded,
+    /// 12: two triangles share an interior point (check only).
+    Overlapping,
     /// 13: the node to be set is a base node, below n0 (set_correction only).
     BaseNode,
     /// 14: no triangle holds the point (correction_at only).
@@ -57,6 +61,8 @@ impl Refusal {
             8 => Refusal::OddSum,
             9 => Refusal::NoRoom,
             10 => Refusal::NotCompatible,
+            11 => Refusal::Crowded,
+            12 => Refusal::Overlapping,
             13 => Refusal::BaseNode,
             14 => Refusal::Outside,
             15 => Refusal::NoSuchNode,
@@ -78,6 +84,8 @@ impl Refusal {
             Refusal::OddSum => 8,
             Refusal::NoRoom => 9,
             Refusal::NotCompatible => 10,
+            Refusal::Crowded => 11,
+            Refusal::Overlapping => 12,
             Refusal::BaseNode => 13,
             Refusal::Outside => 14,
             Refusal::NoSuchNode => 15,
@@ -118,6 +126,8 @@ impl fmt::Display for Refusal {
             Refusal::OddSum => f.write_str("an edge to be split has an odd sum of x or of y")?,
             Refusal::NoRoom => f.write_str("there is no room for the new nodes or triangles")?,
             Refusal::NotCompatible => f.write_str("the labelling is not compatible")?,
+            Refusal::Crowded => f.write_str("two nodes stand at one place, or a node lies strictly inside an edge")?,
+            Refusal::Overlapping => f.write_str("two triangles share an interior point")?,
             Refusal::BaseNode => f.write_str("the node to be set belongs to the base")?,
             Refusal::Outside => f.write_str("no triangle holds the point")?,
             Refusal::NoSuchNode => f.write_str("the node to be set is not there")?,

@@ -1,5 +1,6 @@
 //! The line program against the rival's, on random text, good and bad. Usage: texts PROGRAM COUNT [SEED].
-//! A run in which a refused 03 never gave one of 3 to 7 with a culprit above 0, or a setting never 0, 13 or 15, fails: it is to be longer.
+//! A run in which a refused 03 never gave one of 3 to 7 with a culprit above 0, an 03 never 0, 10, 11 or 12, or a setting never 0, 13 or 15, fails:
+//! it is to be longer.
 use rival::random::Dice;
 use rival::texts::random_text;
 use std::io::Write;
@@ -7,6 +8,9 @@ use std::process::{Command, Stdio};
 
 /// The numbers that a setting may be answered with: a value out of range cannot be written, and the mesh is lawful.
 const SETTINGS: [u8; 3] = [0, 13, 15];
+
+/// The numbers of an 03 that name nobody: what is lent always fits.
+const BASES: [u8; 4] = [0, 10, 11, 12];
 
 fn run(program: &str, text: &[u8]) -> Vec<u8> {
     let mut child = Command::new(program).stdin(Stdio::piped()).stdout(Stdio::piped()).spawn().expect("the line program");
@@ -24,9 +28,9 @@ fn blamed(answers: &[u8]) -> Vec<u8> {
     lines.map(|line| line[3] - b'0').collect()
 }
 
-/// How many settings were answered with this number.
-fn set(answers: &[u8], number: u8) -> usize {
-    let start = format!("08{number:02x}").into_bytes();
+/// How many frames of this kind were answered with this number.
+fn answered(answers: &[u8], kind: &str, number: u8) -> usize {
+    let start = format!("{kind}{number:02x}").into_bytes();
     answers.split(|&b| b == b'\n').filter(|line| line.starts_with(&start)).count()
 }
 
@@ -37,7 +41,7 @@ fn main() {
     let first: u64 = words.next().map_or(1, |w| w.parse().expect("a seed"));
     let mut lines = 0;
     let mut blames = vec![];
-    let mut settings = [0; SETTINGS.len()];
+    let (mut settings, mut bases) = ([0; SETTINGS.len()], [0; BASES.len()]);
     for seed in first..first + count {
         let text = random_text(&mut Dice::new(seed));
         let (ours, theirs) = (run(&program, &text), rival::lines::program(&text));
@@ -47,12 +51,14 @@ fn main() {
         }
         lines += theirs.iter().filter(|&&b| b == b'\n').count();
         blames.extend(blamed(&theirs));
-        settings.iter_mut().zip(SETTINGS).for_each(|(times, number)| *times += set(&theirs, number));
+        settings.iter_mut().zip(SETTINGS).for_each(|(times, number)| *times += answered(&theirs, "08", number));
+        bases.iter_mut().zip(BASES).for_each(|(times, number)| *times += answered(&theirs, "03", number));
     }
     let times = [3, 4, 5, 6, 7].map(|k| blames.iter().filter(|&&number| number == k).count());
     println!("texts: refused 03s with a culprit above 0, by 3 to 7: {times:?}");
+    println!("texts: 03s answered {BASES:?}: {bases:?}");
     println!("texts: settings answered {SETTINGS:?}: {settings:?}");
-    if times.contains(&0) || settings.contains(&0) {
+    if times.contains(&0) || bases.contains(&0) || settings.contains(&0) {
         println!("texts: {count} from seed {first} answered alike, but one of these never came");
         std::process::exit(1);
     }

@@ -1,5 +1,7 @@
 //! The proved calls, by their exported form and by the Rust wrapper, and the rival's behind one face, so that all can be driven alike. Those of
 //! the reader are in `reader`.
+pub mod bases;
+pub mod check_times;
 pub mod meshes;
 pub mod panel;
 pub mod questions;

@@ -1,8 +1,10 @@
 //! Drives the proved library, by its exported calls and by the wrapper, and the rival with the same random calls and compares answers and
-//! every table entry. Usage: compare COUNT [SEED]. The first difference is made smaller by taking rows away, shown with its seed, and the
-//! run fails. A run in which a call never gave one of the numbers that it may answer, or one of 3 to 7 never with a culprit above 0 or
-//! never with several at fault, fails too: it is to be longer. A setting must have drawn 3 by what is stored and by the value to be set, and
-//! questions must have been of every kind of compare::questions.
+//! every table entry; then as many checks of bases whose kind says beforehand what they may draw; and of every two triangles over a small lattice.
+//! Usage: compare COUNT [SEED]. The first difference is made smaller by taking rows away, shown with its seed, and the run fails. A run in which a
+//! call never gave one of the numbers that it may answer, or one of 3 to 7 never with a culprit above 0 or never with several at fault, fails too: it
+//! is to be longer. A setting must have drawn 3 by what is stored and by the value to be set, questions must have been of every kind of
+//! compare::questions, every kind of base must have drawn all of its numbers, and any two of 7, 11, 12 and 10 must have met in one base.
+use compare::bases::{self, compare_base};
 use compare::questions::{kinds, KINDS};
 use compare::{agreed, Answer, Call};
 use rival::calls::{offenders, Tables};
@@ -14,7 +16,7 @@ const BY_VALUE: &str = "set_correction, by the value to be set,";
 
 /// The calls, and the numbers that documents 01 and 02 list for each; quarter's are refine's.
 const NUMBERS: [(&str, &[u32]); 8] = [
-    ("check", &[0, 1, 3, 4, 5, 6, 7, 10]),
+    ("check", &[0, 1, 3, 4, 5, 6, 7, 10, 11, 12]),
     ("refine", &[0, 1, 2, 3, 4, 5, 6, 7, 8, 9]),
     ("quarter", &[0, 1, 2, 3, 4, 5, 6, 7, 8, 9]),
     ("coarsen", &[0, 1, 2, 3, 4, 5, 6, 7]),
@@ -120,13 +122,16 @@ fn main() {
     let mut words = std::env::args().skip(1);
     let count: u64 = words.next().map_or(20_000, |w| w.parse().expect("a count"));
     let first: u64 = words.next().map_or(1, |w| w.parse().expect("a seed"));
-    let mut seen = BTreeMap::new();
+    let (mut seen, mut seen_of_bases) = (BTreeMap::new(), bases::Seen::default());
     (first..first + count).for_each(|seed| compare_one(seed, &mut seen));
-    let missed = tell(&seen);
+    (first..first + count).for_each(|seed| compare_base(seed, &mut seen_of_bases));
+    let pairs = bases::every_two();
+    let missed = [tell(&seen), bases::tell(&seen_of_bases)].concat();
+    println!("check, of every two triangles over a lattice, said, and how often: {pairs:?}");
     if !missed.is_empty() {
-        println!("compare: {count} calls from seed {first} agree, but were never answered: {}", missed.join(", "));
+        println!("compare: {count} calls and {count} bases from seed {first} agree, but were never answered: {}", missed.join(", "));
         std::process::exit(1);
     }
-    let came = "every number was given, 3 to 7 with culprits above 0 and with several at fault, and every kind of question came";
-    println!("compare: {count} calls from seed {first} agree; {came}");
+    let came = "every number was given, 3 to 7 with culprits above 0 and with several at fault, and every kind of question and of base came";
+    println!("compare: {count} calls and {count} bases from seed {first} agree; {came}");
 }

@@ -1,4 +1,5 @@
-//! Meshes of a wanted size, and meshes made to be hard for a search of neighbours. All are lawful, with a compatible labelling unless grown.
+//! Meshes of a wanted size, and meshes made to be hard for a search of neighbours, or of rows that lie over each other. All are lawful, with a
+//! compatible labelling unless grown. The check admits all but those that say otherwise.
 use crate::{rival, Call};
 use rival::calls::Tables;
 use rival::random::{grid, Dice};
@@ -51,7 +52,20 @@ pub fn copies(one: &Tables, n0: usize, count: usize) -> Tables {
     tables(&(nodes, rows), count * one.nodes.len() / 4, count * one.rows.len() / 3)
 }
 
-/// 1,024 nodes and 2,048 rows: a grid of 31 by 31 squares, and 126 rows more over it whose edges span two squares.
+/// A grid of `side` by `side` squares whose nodes are each moved by up to 3 sixteenths of a square's side either way: too little to turn a triangle over.
+pub fn jittered(d: &mut Dice, side: usize) -> Mesh {
+    let (nodes, rows) = grid(side, side, 16);
+    (nodes.iter().map(|p| (p.0 + d.below(7) as i32 - 3, p.1 + d.below(7) as i32 - 3)).collect(), rows)
+}
+
+/// `rungs` rectangles on each other, wide and low, each cut in two: all rows are as long as the mesh is wide.
+pub fn ladder(rungs: usize) -> Mesh {
+    let (nodes, rows) = grid(1, rungs, 16);
+    (nodes.iter().map(|p| (62_500 * p.0, p.1)).collect(), rows)
+}
+
+/// 1,024 nodes and 2,048 rows: a grid of 31 by 31 squares, and 126 rows more over it whose edges span two squares. The check refuses it as 11; no mesh
+/// of so many rows on so few nodes can be admitted.
 pub fn full() -> Mesh {
     let (nodes, mut rows) = grid(31, 31, 8);
     for k in 0..126u32 {
@@ -87,7 +101,7 @@ pub fn double_fan(rim: usize) -> Mesh {
 }
 
 /// At most `most` rows over `m` nodes in convex position: squares of any four nodes, each cut in two as those of a grid are, taken in order
-/// while no directed edge repeats. So almost every pair of nodes is joined.
+/// while no directed edge repeats. So almost every pair of nodes is joined. The check refuses it as 12, unless it has very few nodes.
 pub fn dense(m: u32, most: usize) -> Mesh {
     let nodes = (0..m as i32).map(|k| (16 * k, 16 * k * k)).collect();
     let (mut rows, mut taken) = (vec![], HashSet::new());

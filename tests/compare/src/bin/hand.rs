@@ -1,4 +1,4 @@
-//! Document 01's hand meshes, those of requests W1, W5 and W6, and every refusal with its culprit, run through the proved library, by its exported
+//! Document 01's hand meshes, those of requests W1 and W5 to W7, and every refusal with its culprit, run through the proved library, by its exported
 //! calls and by the wrapper, and through the rival. Usage: hand.
 //! Entries past the counts and scratch hold sevens before each call: after 0 they are zero, after a refusal, a check or a question the tables are
 //! as they were.
@@ -175,7 +175,28 @@ const OTHER_LOWER: Carrying = (ALIKE.0, &[[3, 4, 5], [0, 1, 2]]);
 const LARGER: Carrying = (&[ALIKE.0[0], ALIKE.0[1], ALIKE.0[2], [0, 0, -9, 9], [16, 0, -9, 9], [0, 16, -9, 9]], ALIKE.1);
 const INSIDE: Carrying = (&[ALIKE.0[0], ALIKE.0[1], ALIKE.0[2], [2, 2, -9, 9], [12, 2, -9, 9], [2, 12, -9, 9]], ALIKE.1);
 
-/// A call, what it is given, and what 01, W1, W2, W5 or W6 says of it.
+/// The supplier's mesh: a square whose half is cut at the middle node, and the other half is not. Then its row 0 refined, and cut in four.
+const CRACKED: Mesh = (CASE_2.0, &[[1, 2, 0], [4, 3, 0], [4, 2, 3]]);
+const CRACKED_REFINED: Mesh = (&[(0, 0), (8, 0), (8, 8), (0, 8), (4, 4), (4, 4)], &[[5, 1, 2], [4, 3, 0], [4, 2, 3], [5, 0, 1]]);
+const CRACKED_QUARTERED: Mesh = (
+    &[(0, 0), (8, 0), (8, 8), (0, 8), (4, 4), (4, 4), (8, 4), (4, 0)],
+    &[[6, 5, 1], [4, 3, 0], [4, 2, 3], [7, 5, 0], [6, 2, 5], [7, 1, 5]],
+);
+/// It carries what Q does, and (9, -9) in the middle; and then another value there.
+const CRACKED_CARRYING: Carrying = (&[Q.0[0], Q.0[1], Q.0[2], Q.0[3], [4, 4, 9, -9]], CRACKED.1);
+const CRACKED_SET: Carrying = (&[Q.0[0], Q.0[1], Q.0[2], Q.0[3], [4, 4, 5, -6]], CRACKED.1);
+/// A triangle that touches the square at a corner, with a node of its own there; and the same, row 1 turned.
+const DOUBLED: Mesh = (&[(0, 0), (8, 0), (8, 8), (0, 8), (8, 8), (16, 8), (8, 16)], &[[1, 2, 0], [3, 0, 2], [4, 5, 6]]);
+const DOUBLED_TURNED: Mesh = (DOUBLED.0, &[[1, 2, 0], [0, 2, 3], [4, 5, 6]]);
+/// A triangle over both halves of the square; and the same, row 1 turned.
+const ACROSS: Mesh = (&[(0, 0), (8, 0), (8, 8), (0, 8), (3, 1), (5, 3), (2, 4)], &[[1, 2, 0], [3, 0, 2], [4, 5, 6]]);
+const ACROSS_TURNED: Mesh = (ACROSS.0, &[[1, 2, 0], [0, 2, 3], [4, 5, 6]]);
+/// A star of two triangles: no corner of one is in the other.
+const STARRED: Mesh = (&[(0, 2), (6, 2), (3, 8), (3, 0), (6, 6), (0, 6)], &[[0, 1, 2], [3, 4, 5]]);
+/// Two triangles with nodes of their own.
+const TWO: &[[u32; 3]] = &[[0, 1, 2], [3, 4, 5]];
+
+/// A call, what it is given, and what 01, W1, W2 or W5 to W7 says of it.
 struct Case {
     name: &'static str,
     given: Tables,
@@ -491,6 +512,80 @@ fn numbers_8_to_10() -> Vec<Case> {
     ]
 }
 
+/// Request W7: 11, 12, and their order among the others.
+fn numbers_11_and_12() -> Vec<Case> {
+    const HALF: [(i32, i32); 3] = [(0, 0), (8, 0), (0, 8)];
+    let wrong: [(&'static str, Mesh, u32); 22] = [
+        ("11, the supplier's mesh", CRACKED, 11),
+        ("11, two nodes at one place", DOUBLED, 11),
+        ("11, a node inside a side, from outside", (&[HALF[0], HALF[1], HALF[2], (4, 4), (12, 4), (5, 12)], TWO), 11),
+        ("11, a node inside a side, from inside", (&[HALF[0], HALF[1], HALF[2], (1, 1), (4, 4), (2, 3)], TWO), 11),
+        ("11, a node of the lower row inside a side", (&[(4, 0), (5, -4), (6, -3), HALF[0], HALF[1], HALF[2]], TWO), 11),
+        ("11, next to an end of a side", (&[HALF[0], HALF[1], HALF[2], (7, 0), (5, -4), (9, -4)], TWO), 11),
+        ("11, inside an upright side", (&[HALF[0], HALF[1], HALF[2], (0, 1), (-3, 4), (-5, 1)], TWO), 11),
+        ("11, sides that lie on each other", (&[HALF[0], HALF[1], HALF[2], (-1, 0), (4, -4), (9, 0)], TWO), 11),
+        ("11, inside the longest side", (&[(-FAR, -FAR), (FAR, FAR), (FAR - 1, FAR), (0, 0), (0, -1), (1, 0)], TWO), 11),
+        ("11, doubled at the end of the range", (&[(FAR, FAR), (FAR - 1, FAR), (FAR, FAR - 1), (FAR, FAR), (0, FAR), (-1, 5)], TWO), 11),
+        ("11 before 12, two triangles alike", (&[HALF[0], HALF[1], HALF[2], HALF[0], HALF[1], HALF[2]], TWO), 11),
+        ("11 before 12, by a node that is no corner of these", (&[HALF[0], HALF[1], HALF[2], (1, 1), (3, 1), (2, 3), (4, 0), (9, -2), (9, -1)], &[[0, 1, 2], [3, 4, 5], [6, 7, 8]]), 11),
+        ("11 before 10", DOUBLED_TURNED, 11),
+        ("12, over both halves", ACROSS, 12),
+        ("12, no corner of one in the other", STARRED, 12),
+        ("12, one in the other", (&[HALF[0], HALF[1], HALF[2], (1, 1), (3, 1), (2, 3)], TWO), 12),
+        ("12, the other in the one", (&[(1, 1), (3, 1), (2, 3), HALF[0], HALF[1], HALF[2]], TWO), 12),
+        ("12, by a corner one step in", (&[HALF[0], HALF[1], HALF[2], (4, 3), (12, 4), (5, 12)], TWO), 12),
+        ("12, a node in common", (&[HALF[0], HALF[1], HALF[2], (7, 2), (3, 7)], &[[0, 1, 2], [0, 3, 4]]), 12),
+        ("12, at no whole place", (&[(-FAR, -FAR), (FAR, FAR - 1), (FAR, FAR), (-FAR, FAR), (FAR, -FAR), (FAR, 1 - FAR)], TWO), 12),
+        ("12, the largest", (&[(-FAR, -FAR), (FAR, -FAR), (-FAR, FAR), (FAR, FAR - 1), (FAR - 1, FAR), (1 - FAR, 1 - FAR)], TWO), 12),
+        ("12 before 10", ACROSS_TURNED, 12),
+    ];
+    let unused: [(&'static str, Mesh); 2] = [
+        ("7 before 11", (&[(0, 0), (8, 0), (8, 8), (0, 8), (8, 8)], S.1)),
+        ("7 before 12", (&[HALF[0], HALF[1], HALF[2], (1, 1), (3, 1), (2, 3), (4, 5)], TWO)),
+    ];
+    let check = |(name, mesh, number): (&'static str, Mesh, u32)| refused(name, lent(mesh, 20, 30), Call::Check, number);
+    let by_7 = unused.map(|(name, mesh)| Case { culprit: mesh.0.len() - 1, ..check((name, mesh, 7)) });
+    wrong.into_iter().map(check).chain(by_7).collect()
+}
+
+/// Request W7: triangles that touch, at a node or along an edge that is theirs, or not at all, are admitted.
+fn touching() -> Vec<Case> {
+    let right: [(&'static str, Mesh); 8] = [
+        ("W7, a node in common", (&[(0, 0), (8, 0), (0, 8), (-8, 0), (0, -8)], &[[0, 1, 2], [0, 3, 4]])),
+        ("W7, an edge in common", (&[(0, 0), (8, 0), (0, 8), (7, 7)], &[[0, 1, 2], [3, 2, 1]])),
+        ("W7, on the line of a side, a step past it", (&[(0, 0), (8, 0), (0, 8), (9, 0), (16, 0), (16, 8)], TWO)),
+        ("W7, a step off a side", (&[(0, 0), (8, 0), (0, 8), (5, 4), (12, 4), (5, 12)], TWO)),
+        ("W7, one round the corner of the other", (&[(0, 0), (8, 0), (0, 8), (9, -3), (10, 9), (9, 0)], TWO)),
+        ("W7, slivers with an edge in common", (&[(-FAR, -FAR), (FAR, FAR), (FAR - 1, FAR), (FAR, FAR - 1)], &[[0, 1, 2], [1, 0, 3]])),
+        ("W7, slivers a step apart", (&[(-FAR, -FAR), (FAR, FAR - 1), (FAR, FAR), (-FAR, 1 - FAR), (FAR - 1, FAR), (FAR - 2, FAR)], TWO)),
+        ("W7, the halves of the largest square", (&[(-FAR, -FAR), (FAR, -FAR), (FAR, FAR), (-FAR, FAR)], S.1)),
+    ];
+    right.into_iter().map(|(name, mesh)| done(name, mesh, Call::Check, mesh, 0)).collect()
+}
+
+/// Request W7: "Refine and coarsen don't repeat this." Nor do the others.
+fn taken_as_before() -> Vec<Case> {
+    let mut all = vec![
+        done("W7, refine, cracked", CRACKED, refine(CRACKED, 4, &[0]), CRACKED_REFINED, 0),
+        done("W7, quarter, cracked", CRACKED, quarter(CRACKED, 4, &[0]), CRACKED_QUARTERED, 0),
+        done("W7, coarsen, cracked: the edge 0-2 holds node 4", CRACKED, full_pass(CRACKED, 4), CRACKED, 0),
+        done("W7, restore, cracked", CRACKED, Call::Restore(4), CRACKED, 0),
+        done("W7, restore, cracked and refined", CRACKED_REFINED, Call::Restore(5), CRACKED, 1),
+        done("W7, restore, cracked and cut in four", CRACKED_QUARTERED, Call::Restore(5), CRACKED, 2),
+        done("W7, set, cracked", CRACKED_CARRYING, Call::Set(4, 4, [5, -6]), CRACKED_SET, 0),
+        asked("W7, ask, cracked, by row 0", lent(CRACKED_CARRYING, 20, 30), 4, [4, 4], [-2, 2]),
+        asked("W7, ask, cracked, by row 1: 20/8 and -6/8", lent(CRACKED_CARRYING, 20, 30), 4, [1, 6], [2, -1]),
+        refused("14, cracked", lent(CRACKED_CARRYING, 20, 30), Call::Ask(4, [9, 4]), 14),
+    ];
+    for (name, mesh) in [("W7, doubled", DOUBLED), ("W7, across", ACROSS), ("W7, starred", STARRED)] {
+        let n0 = mesh.0.len();
+        let calls = [refine(mesh, n0, &[]), quarter(mesh, n0, &[]), full_pass(mesh, n0), Call::Restore(n0), Call::Set(0, 0, [0, 0])];
+        all.extend(calls.map(|call| done(name, mesh, call, mesh, 0)));
+        all.push(asked(name, lent(mesh, 20, 30), n0, [3, 3], [0, 0]));
+    }
+    all
+}
+
 /// Every call but the check takes n0; all answer 3 to 7 alike, and name the same culprit: a question too, be the point in a row or outside.
 fn by_all_calls(name: &'static str, given: Tables, number: u32, culprit: usize) -> Vec<Case> {
     let (nodes, rows) = (vec![0; given.n], vec![0; given.t]);
@@ -681,9 +776,9 @@ fn fault(case: &Case, by: fn(&Call, &mut Tables) -> Answer) -> Option<String> {
 }
 
 fn main() {
-    let done = [hand_meshes(), quarter_meshes(), range_ends(), corrections(), means(), questions(), largest_questions()];
+    let done = [hand_meshes(), quarter_meshes(), range_ends(), corrections(), means(), questions(), largest_questions(), touching(), taken_as_before()];
     let unlawful = [number_1(), number_2(), numbers_3_to_7(), lowest_culprits(), last_culprits(), stored_out()];
-    let refused = [numbers_8_to_10(), settings_refused(), number_14()];
+    let refused = [numbers_8_to_10(), numbers_11_and_12(), settings_refused(), number_14()];
     let cases: Vec<Case> = done.into_iter().chain(unlawful).chain(refused).flatten().collect();
     let faults: Vec<String> = cases.iter().flat_map(|c| [fault(c, proved), fault(c, wrapped), fault(c, other)]).flatten().collect();
     for f in &faults {

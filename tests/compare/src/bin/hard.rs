@@ -1,7 +1,8 @@
 //! Drives the proved library and the rival with meshes made to be hard for a search of neighbours: fans round any node, double fans, dense
-//! meshes and shuffled grids, as they are, grown, spoilt, and in tables of odd lengths. Each goes through all seven calls; answers and every table
-//! entry are compared. Usage: hard COUNT [SEED]. A run in which a kind of mesh never met one of the outcomes below fails too: it is to be longer.
-use compare::meshes::{dense, double_fan, fan, shuffled, Mesh};
+//! meshes and shuffled grids, as they are, grown, spoilt, with a node doubled or a triangle in another, and in tables of odd lengths. Each goes through
+//! all seven calls; answers and every table entry are compared. Usage: hard COUNT [SEED]. A run in which a kind of mesh never met one of the outcomes
+//! below fails too: it is to be longer.
+use compare::meshes::{dense, double_fan, fan, ladder, shuffled, Mesh};
 use compare::{agreed, made, rival, Call};
 use rival::calls::{quarter, refine, Tables};
 use rival::random::{correction, grid, lend, point, Dice};
@@ -10,7 +11,16 @@ use std::collections::{BTreeMap, HashSet};
 const SHAPES: [&str; 4] = ["fans", "double fans", "dense meshes", "grids"];
 
 /// What is done to a mesh before the calls.
-const STATES: [State; 6] = [State::AsDrawn, State::Grown, State::EdgeHeld, State::RowRepeated, State::EdgeRepeated, State::OddLengths];
+const STATES: [State; 8] = [
+    State::AsDrawn,
+    State::Grown,
+    State::EdgeHeld,
+    State::RowRepeated,
+    State::EdgeRepeated,
+    State::OddLengths,
+    State::NodeDoubled,
+    State::TriangleIn,
+];
 
 #[derive(Clone, Copy, PartialEq)]
 enum State {
@@ -20,12 +30,14 @@ enum State {
     RowRepeated,
     EdgeRepeated,
     OddLengths,
+    NodeDoubled,
+    TriangleIn,
 }
 
 /// The calls, and the outcomes that each must have met with every shape: "changed" is 0 with other counts than before, "5 far" names a row whose
 /// edge another holds that stands 500 rows lower or more, "held" is a restore that leaves more nodes since a row holds a split edge.
 const OUTCOMES: [(&str, &[&str]); 7] = [
-    ("check", &["0", "1", "5", "5 far", "10"]),
+    ("check", &["0", "1", "5", "5 far", "10", "11", "12"]),
     ("refine", &["changed", "1", "5", "5 far", "9"]),
     ("quarter", &["changed", "1", "5", "5 far", "9"]),
     ("coarsen", &["changed", "1", "5", "5 far"]),
@@ -35,12 +47,18 @@ const OUTCOMES: [(&str, &[&str]); 7] = [
 ];
 const FAR: usize = 500;
 
+/// Rows of a dense mesh lie over each other unless it is of the smallest, so that its check need not say 0 or 10.
+fn never_met(shape: &str, call: &str, outcome: &str) -> bool {
+    shape == "dense meshes" && call == "check" && ["0", "10"].contains(&outcome)
+}
+
 /// From `least` to `most`; once in six the most, otherwise rather a small one.
 fn size(d: &mut Dice, least: usize, most: usize) -> usize {
     let halved = d.below(6);
     if d.once_in(6) { most } else { least + d.below((most - least) >> halved) }
 }
 
+/// A mesh of this shape. Among the grids are ladders, lying and standing.
 fn drawn(d: &mut Dice, shape: &str) -> Mesh {
     let mesh = match shape {
         "fans" => {
@@ -50,9 +68,64 @@ fn drawn(d: &mut Dice, shape: &str) -> Mesh {
         "double fans" => double_fan(size(d, 2, 1022)),
         "dense meshes" => dense(2 * size(d, 2, 56) as u32, 2048),
         _ if d.once_in(6) => grid(31, 31, 16),
+        _ if d.once_in(3) => {
+            let (nodes, rows) = ladder(size(d, 1, 511));
+            if d.once_in(2) { (nodes.iter().map(|p| (-p.1, p.0)).collect(), rows) } else { (nodes, rows) }
+        }
         _ => grid(size(d, 1, 31), size(d, 1, 31), 16),
     };
     if shape == "grids" || d.once_in(2) { shuffled(d, &mesh) } else { mesh }
+}
+
+/// A mesh to which three nodes and a row can be added.
+fn drawn_smaller(d: &mut Dice, shape: &str) -> Mesh {
+    loop {
+        let mesh = drawn(d, shape);
+        if mesh.0.len() + 3 <= 1024 && mesh.1.len() < 2048 {
+            return mesh;
+        }
+    }
+}
+
+/// A corner of some row is a node of its own from now on, at the same place. Its old node must be in another row too.
+fn double(d: &mut Dice, (nodes, rows): &mut Mesh) {
+    loop {
+        let (i, corner) = (d.below(rows.len()), d.below(3));
+        let old = rows[i][corner];
+        if rows.iter().filter(|row| row.contains(&old)).count() > 1 {
+            rows[i][corner] = nodes.len() as u32;
+            nodes.push(nodes[old as usize]);
+            return;
+        }
+    }
+}
+
+/// Some row gets a small triangle strictly inside, if it has room for it: in its middle, with three nodes of its own.
+fn nest(d: &mut Dice, (nodes, rows): &mut Mesh) {
+    loop {
+        let corners = rows[d.below(rows.len())].map(|k| nodes[k as usize]);
+        let (x, y) = ((corners[0].0 + corners[1].0 + corners[2].0).div_euclid(3), (corners[0].1 + corners[1].1 + corners[2].1).div_euclid(3));
+        let small = [(x, y), (x + 1, y), (x, y + 1)];
+        let left = |a: (i32, i32), b: (i32, i32), p: &(i32, i32)| (b.0 - a.0) as i64 * (p.1 - a.1) as i64 > (p.0 - a.0) as i64 * (b.1 - a.1) as i64;
+        if small.iter().all(|p| (0..3).all(|k| left(corners[k], corners[(k + 1) % 3], p))) {
+            let first = nodes.len() as u32;
+            nodes.extend(small);
+            rows.insert(d.below(rows.len() + 1), [first, first + 1, first + 2]);
+            return;
+        }
+    }
+}
+
+/// The mesh of this shape, with a node doubled or a triangle in another if the state says so.
+fn drawn_for(d: &mut Dice, shape: &str, state: State) -> Mesh {
+    let spoil = match state {
+        State::NodeDoubled => double,
+        State::TriangleIn => nest,
+        _ => return drawn(d, shape),
+    };
+    let mut mesh = drawn_smaller(d, shape);
+    spoil(d, &mut mesh);
+    mesh
 }
 
 /// Tables that hold the mesh: the largest, or any room from the counts up, and garbage past the counts.
@@ -127,7 +200,7 @@ fn repeat(d: &mut Dice, g: &mut Tables, state: State) -> (usize, usize) {
 /// The tables made ready; if rows were repeated, the lowest that repeats another, and that other.
 fn spoil(d: &mut Dice, g: &mut Tables, state: State) -> Option<(usize, usize)> {
     let grown = match state {
-        State::AsDrawn => false,
+        State::AsDrawn | State::NodeDoubled | State::TriangleIn => false,
         State::Grown | State::EdgeHeld => true,
         _ => d.once_in(2),
     };
@@ -135,7 +208,7 @@ fn spoil(d: &mut Dice, g: &mut Tables, state: State) -> Option<(usize, usize)> {
         grow(d, g);
     }
     match state {
-        State::AsDrawn | State::Grown | State::EdgeHeld => None,
+        State::AsDrawn | State::Grown | State::EdgeHeld | State::NodeDoubled | State::TriangleIn => None,
         State::RowRepeated | State::EdgeRepeated => {
             (0..=d.below(2)).map(|_| repeat(d, g, state)).reduce(|first, then| if then.0 <= first.0 { then } else { first })
         }
@@ -157,12 +230,26 @@ fn calls(d: &mut Dice, g: &Tables, base: usize) -> [Call; 7] {
     [Call::Check, Call::Refine(n0, rows), Call::Quarter(n0, more_rows), Call::Coarsen(n0, nodes), Call::Restore(n0), set, ask]
 }
 
+/// What the check may say of a lawful mesh of this shape in this state. A row that holds a split edge has the node strictly inside; a triangle in a row
+/// of a dense mesh may have a corner on a side of another.
+fn checked_as(shape: &str, state: State) -> &'static [u32] {
+    match state {
+        State::NodeDoubled => &[11],
+        State::TriangleIn if shape == "dense meshes" => &[11, 12],
+        State::TriangleIn => &[12],
+        State::AsDrawn if shape == "dense meshes" => &[0, 12],
+        State::AsDrawn => &[0],
+        State::Grown if shape != "dense meshes" => &[0, 10],
+        _ => &[0, 10, 11, 12],
+    }
+}
+
 /// One mesh through all seven calls; what they say is held against what was done to the mesh, and counted.
 fn compare_one(seed: u64, seen: &mut BTreeMap<(&str, &str, String), u64>) {
     let mut d = Dice::new(seed);
     let shape = SHAPES[seed as usize % SHAPES.len()];
     let state = STATES[seed as usize / SHAPES.len() % STATES.len()];
-    let mesh = drawn(&mut d, shape);
+    let mesh = drawn_for(&mut d, shape, state);
     let mut g = lent(&mut d, &mesh);
     let n0 = g.n;
     let repeats = spoil(&mut d, &mut g, state);
@@ -174,8 +261,8 @@ fn compare_one(seed: u64, seen: &mut BTreeMap<(&str, &str, String), u64>) {
         let as_known = match (state, repeats) {
             (State::OddLengths, _) => said.number == 1,
             (_, Some((high, _))) => (said.number, said.culprit) == (5, high),
-            (State::AsDrawn, _) if matches!(call, Call::Check) => said.number == 0,
-            _ => said.number == 0 || said.number > 7,
+            (state, _) if matches!(call, Call::Check) => checked_as(shape, state).contains(&said.number),
+            _ => said.number == 0 || said.number > 7 && ![10, 11, 12].contains(&said.number),
         };
         assert!(as_known, "seed {seed}: {} of {shape} said {said:?}", call.name());
         let mut count = |outcome: String| *seen.entry((shape, call.name(), outcome)).or_default() += 1;
@@ -191,7 +278,8 @@ fn tell(seen: &BTreeMap<(&str, &str, String), u64>) -> Vec<String> {
     for shape in SHAPES {
         let told = OUTCOMES.iter().map(|&(call, outcomes)| {
             let times = |outcome: &str| seen.get(&(shape, call, outcome.to_string())).copied().unwrap_or(0);
-            missed.extend(outcomes.iter().filter(|&outcome| times(outcome) == 0).map(|outcome| format!("{shape}, {call} {outcome}")));
+            let never = outcomes.iter().filter(|outcome| times(outcome) == 0 && !never_met(shape, call, outcome));
+            missed.extend(never.map(|outcome| format!("{shape}, {call} {outcome}")));
             format!("{call} {}", outcomes.iter().map(|outcome| format!("{outcome}: {}", times(outcome))).collect::<Vec<_>>().join(", "))
         });
         println!("{shape}: {}", told.collect::<Vec<_>>().join("; "));

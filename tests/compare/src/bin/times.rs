@@ -1,6 +1,7 @@
 //! Times of the proved library beside the rival's, on the same tables in one run. Both are optimised; tables are copied and scratch is
 //! filled with sevens before each call, outside the time taken. Calls are timed in two ways: "warm" is the middle of runs of a call one after
 //! the other, "cold" that of runs made once in a round of all calls, whose tables were all copied before it. Usage: times, or
+//!   times check     how the base check's time grows with the nodes, beside the rival's
 //!   times lines     how fast the reader takes text, beside the rival's
 //!   times counted   the instructions that the proved library takes for each call, counted by callgrind
 //!   times once      each call made once by the proved library, for the former
@@ -33,6 +34,8 @@ struct Case {
     name: String,
     call: Call,
     given: Tables,
+    /// What both programs must say.
+    number: u32,
 }
 
 /// What the proved call took, in nanoseconds or instructions, and the rival's, if it was measured.
@@ -41,8 +44,10 @@ struct Cost {
     theirs: Option<f64>,
 }
 
+/// A call that is done, or a question that no row answers.
 fn case(name: &str, call: Call, given: Tables) -> Case {
-    Case { name: name.to_string(), call, given }
+    let outside = matches!(call, Call::Ask(_, point) if answering(&given, point).is_none());
+    Case { name: name.to_string(), call, given, number: if outside { 14 } else { 0 } }
 }
 
 /// A grid of squares.
@@ -104,7 +109,7 @@ fn copied(one: &Case, count: usize) -> Case {
         // the first copy's first row, the last one's last, or none
         Call::Ask(_, point) => question(&given, answering(&one.given, *point).map(|row| if row == 0 { 0 } else { given.t - 1 })),
     };
-    let all = Case { name: format!("{}, {count} copies of the first", one.name), call, given };
+    let all = case(&format!("{}, {count} copies of the first", one.name), call, given);
     let [a, said] = [one, &all].map(|case| made(&case.call, &case.given, other).0);
     assert_eq!((said.number, said.n, said.t, said.passes), (a.number, count * a.n, count * a.t, a.passes), "{}", all.name);
     all
@@ -149,15 +154,19 @@ fn there_and_back(what: &str, call: Marked, mesh: &Mesh) -> [Case; 2] {
 fn bad() -> Vec<Case> {
     let d = &mut Dice::new(1);
     let checked = [
-        ("a full table", full()),
-        ("a fan, its hub numbered highest", fan(1023, 1023)),
-        ("a fan, its hub numbered lowest", fan(1023, 0)),
-        ("a double fan", double_fan(1022)),
-        ("a dense mesh", dense(111, 2048)),
-        ("a grid shuffled", shuffled(d, &grid(31, 31, 8))),
+        ("a full table", full(), 11),
+        ("a fan, its hub numbered highest", fan(1023, 1023), 0),
+        ("a fan, its hub numbered lowest", fan(1023, 0), 0),
+        ("a double fan", double_fan(1022), 0),
+        ("a dense mesh", dense(111, 2048), 12),
+        ("a grid shuffled", shuffled(d, &grid(31, 31, 8)), 0),
     ];
-    let mut cases: Vec<_> = checked.iter().map(|(what, mesh)| case(&format!("check, {what}"), Call::Check, largest(mesh))).collect();
-    let asked = |(what, mesh): &(&str, Mesh)| {
+    let check = |(what, mesh, number): &(&str, Mesh, u32)| {
+        let refused = if *number > 0 { format!(", refused as {number}") } else { String::new() };
+        Case { number: *number, ..case(&format!("check, {what}{refused}"), Call::Check, largest(mesh)) }
+    };
+    let mut cases: Vec<_> = checked.iter().map(check).collect();
+    let asked = |(what, mesh, _): &(&str, Mesh, u32)| {
         let g = largest(mesh);
         case(&format!("correction_at by none, {what}"), question(&g, None), g)
     };
@@ -246,11 +255,10 @@ fn shares(case: &Case) -> [f64; 2] {
     [case.given.n.max(a.n) as f64, case.given.t.max(a.t) as f64]
 }
 
-/// The row of the table. Both programs must have said 0, or 14 where no row answers, and left the same tables.
+/// The row of the table. Both programs must have said what is expected, and left the same tables.
 fn row(case: &Case, cost: &Cost) -> String {
     let (a, left) = made(&case.call, &case.given, proved);
-    let outside = matches!(case.call, Call::Ask(_, point) if answering(&case.given, point).is_none());
-    assert!(a.number == if outside { 14 } else { 0 } && (a, left) == made(&case.call, &case.given, other), "{}", case.name);
+    assert!(a.number == case.number && (a, left) == made(&case.call, &case.given, other), "{}", case.name);
     let (g, time) = (&case.given, |ns: f64| format!("{:.1?}", Duration::from_nanos(ns as u64)));
     let each = shares(case).map(|share| format!("{:.0}", cost.ours / share)).join(" | ");
     let measured = match cost.theirs {
@@ -296,6 +304,7 @@ fn tell(measures: &str, ways: &[(&str, Measure)]) {
 fn main() {
     match std::env::args().nth(1).as_deref() {
         None => tell("proved | ns a node | ns a row | rival | ratio", &[("warm", warm), ("cold", cold)]),
+        Some("check") => compare::check_times::tell(),
         Some("lines") => compare::text_times::tell(),
         Some("counted") => tell("instructions | a node | a row", &[("instructions", counted)]),
         Some("once") => families().iter().chain(&bad()).for_each(|case| drop(made(&case.call, &case.given, proved))),

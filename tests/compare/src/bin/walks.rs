@@ -1,11 +1,13 @@
 //! Random walks over the proved library: a base whose nodes carry corrections, a thousand accepted and refused calls that mix both ways to refine
 //! with coarsen, settings and questions, then restore, which must give back the base row for row, corrections and all, with no more passes than
 //! nodes were added. Some points are asked about before the walk, now and then on it, and after it, when the answers must be the first ones again.
-//! Usage: walks COUNT [SEED]. A run in which no setting was accepted, or none refused as 3, 13 or 15, no point was in a row or none outside, or
-//! no answer on the way was another, fails: it is to be longer.
+//! Now and then the grown mesh is checked, which must say 0 or 10: no node stands where another does or strictly inside an edge, and no triangles
+//! share an interior point. Usage: walks COUNT [SEED]. A run in which no setting was accepted, or none refused as 3, 13 or 15, no point was in a row or
+//! none outside, no answer on the way was another, or a check never said 0 or never 10 fails: it is to be longer.
 use compare::{agreed, proved, Answer, Call};
+use rival::bases::admitted;
 use rival::calls::Tables;
-use rival::random::{any_correction, grid, lend, point, Dice};
+use rival::random::{any_correction, lend, point, Dice};
 use spoutbeetle::Node;
 
 /// What a walk made of its calls.
@@ -19,6 +21,8 @@ struct Told {
     /// Settings refused as 3, 13 and 15.
     settings_refused: [usize; 3],
     questions: Questions,
+    /// Grown meshes that the check says 0 of, and 10.
+    checked: [usize; 2],
     passes: usize,
 }
 
@@ -81,10 +85,16 @@ fn answered(seed: u64, answer: (u32, [i32; 2]), by_base: (u32, [i32; 2]), told: 
     told.other += (answer != by_base) as usize;
 }
 
+/// A check on the way is counted.
+fn checked(seed: u64, g: &Tables, told: &mut Told) {
+    let (a, _) = agreed(seed, &Call::Check, g);
+    assert!([0, 10].contains(&a.number), "seed {seed}: a grown mesh is refused as {}", a.number);
+    told.checked[(a.number == 10) as usize] += 1;
+}
+
 fn walk(seed: u64) -> Told {
     let mut d = Dice::new(seed);
-    let (w, h) = (1 + d.below(4), 1 + d.below(4));
-    let (nodes, rows) = grid(w, h, 1 << (4 + d.below(6)));
+    let (nodes, rows) = admitted(&mut d);
     let mut g = lend(&mut d, &nodes, &rows);
     g.nodes.resize(4 * (120 + d.below(900)).min(1024), 0);
     g.rows.resize(3 * (240 + d.below(1800)).min(2048), 0);
@@ -99,6 +109,9 @@ fn walk(seed: u64) -> Told {
         if d.once_in(16) {
             let (k, any) = (d.below(POINTS), d.below(g.n + 1));
             answered(seed, ask(seed, &mut g, any, points[k]), by_base[k], &mut told.questions);
+        }
+        if d.once_in(50) {
+            checked(seed, &g, &mut told);
         }
         let call = random_call(&mut d, &g, n0);
         let (called_with, kind) = match &call {
@@ -148,7 +161,9 @@ fn main() {
     println!("walks: settings refused as {REFUSE_A_SETTING:?}: {settings:?}");
     let [answered, other, outside] = [sum(|w| w.questions.told), sum(|w| w.questions.other), sum(|w| w.questions.outside)];
     println!("walks: questions on the way: {answered} told a correction, {other} of these another than the base does; {outside} refused as 14");
-    if settings.contains(&0) || [answered, other, outside].contains(&0) || sum(|w| w.set) == 0 {
+    let checks = [0, 1].map(|k| told.iter().map(|w| w.checked[k]).sum::<usize>());
+    println!("walks: grown meshes checked: {} compatible, {} not", checks[0], checks[1]);
+    if settings.contains(&0) || [answered, other, outside].contains(&0) || checks.contains(&0) || sum(|w| w.set) == 0 {
         println!("walks: {count} from seed {first} end with the base, but one of these never came");
         std::process::exit(1);
     }

@@ -21,11 +21,18 @@ fn square() -> Sheet {
     sheet
 }
 
+/// Adds nodes, and keeps `from` rows and puts these behind.
+fn add(g: &mut Sheet, places: &[(i32, i32)], from: usize, rows: &[u32]) {
+    places.iter().enumerate().for_each(|(k, &(x, y))| g.nodes[g.n + k] = Node::at(x, y));
+    g.rows[3 * from..3 * from + rows.len()].copy_from_slice(rows);
+    (g.n, g.t) = (g.n + places.len(), from + rows.len() / 3);
+}
+
 type Spoil = fn(&mut Sheet);
 type Made = fn(Tables) -> Result<Answer, Refusal>;
 
 /// A call for each number, on the square spoilt in one way.
-const CALLS: [(&str, Spoil, Made); 17] = [
+const CALLS: [(&str, Spoil, Made); 19] = [
     ("check, the square", |_| (), check),
     ("check, scratch a number short", |g| g.scratch.truncate(4 * (16 + 32) - 1), check),
     ("refine, a mark for one row of two", |_| (), |g| refine(g, 4, &[1])),
@@ -40,6 +47,8 @@ const CALLS: [(&str, Spoil, Made); 17] = [
     ("refine, an edge of odd height", |g| g.nodes[2].y = 7, |g| refine(g, 4, &[1, 0])),
     ("quarter, room for four nodes", |g| g.nodes.truncate(4), |g| quarter(g, 4, &[1, 0])),
     ("check, row 1 turned", |g| (g.rows[3], g.rows[4], g.rows[5]) = (0, 2, 3), check),
+    ("check, row 1 alone cut at the middle of 0-2", |g| add(g, &[(4, 4)], 1, &[4, 3, 0, 4, 2, 3]), check),
+    ("check, a triangle over both rows", |g| add(g, &[(3, 1), (5, 3), (2, 4)], 2, &[4, 5, 6]), check),
     ("set_correction, a base node", |_| (), |g| set_correction(g, 4, 3, 5, -6)),
     ("set_correction, node 4 of four", |_| (), |g| set_correction(g, 4, 4, 5, -6)),
     ("set_correction, an added node", once_refined, |g| set_correction(g, 4, 4, 32767, -32768)),

@@ -2,10 +2,12 @@
 use mathlib.Core.Path.{_≡_, refl, sym, ap, ap₂, _∙_}
 use mathlib.Core.Bool.{Bool, true, false, not}
 use mathlib.Core.List.{List, []}
-use Prim.Native.Nat.{ℕ}
+use Prim.Native.Nat.{ℕ, _+_, _*_, _≤_}
+use native.Mathlib.Omega.{arith}
+use borrow.Author.Tests.{ne-eqb}
 use lib.Dec.{eqb}
 use lib.IntN.{ℤ}
-use lib.ListN.{length, replicate}
+use lib.ListN.{length, replicate, length-replicate}
 use Rattle.lists.specs.declared.Found.{Found}
 use Rattle.lists.specs.Lists.{cases, isFound}
 use Rattle.lists.specs.Search.{lowest}
@@ -17,10 +19,11 @@ use Rattle.meaning.specs.Tables.{Given, given, outcome, answer, meshOf}
 use Rattle.meaning.specs.Proper.{uncrowded, disjoint}
 use Rattle.meaning.specs.Calls.{culpritOf, unless, baseNo, checkNo, sizesFit, untouched, checkOut}
 use Rattle.laws.specs.Lawful.{lawful-refusal}
+use Rattle.laws.specs.Meshes.{meshAt}
 use Rattle.checking.specs.Clash.{clashAt}
 use Rattle.checking.specs.ClashLaw.{clash-is}
 use Rattle.sweep.specs.Severity.{severity}
-use Rattle.judging.specs.Judge.{meshIn, early}
+use Rattle.judging.specs.Judge.{meshIn, early, Admitted}
 use Rattle.judging.specs.Leaving.{orLate, first-of, verdict, sized-same, zeroed, call-out}
 
 -- as a call that wants no marks and is given none
@@ -46,6 +49,39 @@ number-is m = go (uncrowded m) (disjoint m) (compatible m)
     go false true false = refl
     go false false true = refl
     go false false false = refl
+
+-- each number in the form in which the code has it
+module _ (r : ℕ) (y : Bool) where
+  pub number-11 : r ≡ 2 → 11 ≡ numberOf r y
+  unfolding numberOf
+  number-11 e = rw e
+
+  module _ (not-2 : r ≡ 2 → ⊥) where
+    pub number-12 : r ≡ 1 → 12 ≡ numberOf r y
+    unfolding numberOf
+    number-12 e = rw e
+
+    module _ (not-1 : r ≡ 1 → ⊥) where
+      pub number-10 : y ≡ true → 10 ≡ numberOf r y
+      unfolding numberOf
+      number-10 e = rw (ne-eqb r 2 not-2, ne-eqb r 1 not-1, e)
+
+      pub number-0 : y ≡ false → 0 ≡ numberOf r y
+      unfolding numberOf
+      number-0 e = rw (ne-eqb r 2 not-2, ne-eqb r 1 not-1, e)
+
+-- what comparing the rows asks for, where scratch was s and is cleared
+pub severity-needs : (nodes : List ℤ) (rows s s′ : List ℕ) (n t : ℕ) → Admitted nodes rows s [] 0 n t → s′ ≡ replicate (length s) 0 →
+    Lawful (meshAt nodes rows n t) × ((4 * n ≤ length nodes) × ((3 * t ≤ length rows) × ((t ≤ 262_144) × ((n + 3 * t ≤ length s′) × (s′ ≡ replicate (length s′) 0)))))
+unfolding meshAt
+severity-needs nodes rows s s′ n t A e =
+    let z = A .sizes in
+    let l : length s′ ≡ length s = ap length e ∙ length-replicate (length s) 0 in
+    (A .law, (A .nodes-fit, (A .rows-fit, (omega (arith, A .rows-fit, z .few-rows), (omega (arith, A .nodes-fit, A .rows-fit, z .scratch), e ∙ ap (λ k. replicate k 0) (sym l))))))
+
+pub severity-same : (nodes : List ℤ) (rows : List ℕ) (n t r : ℕ) → r ≡ severity (meshAt nodes rows n t) → r ≡ severity (meshIn nodes rows n t)
+unfolding meshAt
+severity-same nodes rows n t r e = e
 
 -- c is what the search for a clash gave, y whether it found one, r the severity
 pub late-number : (nodes : List ℤ) (rows : List ℕ) (n t : ℕ) → Lawful (meshIn nodes rows n t) → (c : Found) (y : Bool) (r k : ℕ) → c ≡ lowest (clashAt rows t) 0 t → y ≡ isFound c → r ≡ severity (meshIn nodes rows n t) →

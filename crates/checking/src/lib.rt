@@ -8,6 +8,7 @@ ghost use Rattle.meaning.specs.Tables.{given};
 ghost use Rattle.meaning.specs.Calls.{baseNo};
 ghost use Rattle.neighbours.specs.Ready.{Ready};
 ghost use Rattle.checking.specs.Clash.{clashWith, clashAt};
+ghost use Rattle.sweep.specs.Severity.{severity};
 ghost use Rattle.judging.specs.Judge.{meshIn, Admitted};
 ghost use Rattle.checking.specs.Check.{checkFault, numberOf};
 use lists::Found;
@@ -70,14 +71,22 @@ fn number_of(severity: u32, clashing: bool) -> u32
     0
 }
 
+// How grave it is of the rows of a lawful mesh, two by two. Its index stands in scratch before, and not after.
+fn severity_of(nodes: &[i32], rows: &[u32], scratch: &mut [u32], n: usize, t: usize) -> u32
+    requires { ⌜ Admitted (now nodes) (now rows) (now scratch) [] 0 n t ⌝ }
+    ensures { λ r. ⌜ r ≡ severity (meshIn (now (nodes .entry)) (now (rows .entry)) n t) ⌝ }
+{
+    tables::clear(scratch);
+    sweep::severity(nodes, rows, scratch, n, t)
+}
+
 // 11, 12 or 10, or 0, of a lawful mesh. Its index stands in scratch before, and not after.
 fn late(nodes: &[i32], rows: &[u32], scratch: &mut [u32], n: usize, t: usize) -> u32
     requires { ⌜ Admitted (now nodes) (now rows) (now scratch) [] 0 n t ⌝ }
     ensures { λ r. ⌜ r ≡ baseNo (meshIn (now (nodes .entry)) (now (rows .entry)) n t) ⌝ }
 {
     let clashing = tables::is_found(first_clash(rows, scratch, nodes.len() / 4, t));
-    tables::clear(scratch);
-    let severity = sweep::severity(nodes, rows, scratch, n, t);
+    let severity = severity_of(nodes, rows, scratch, n, t);
     number_of(severity, clashing)
 }
 

@@ -9,7 +9,7 @@ use lib.IntN.{ℤ, pos, _+ℤ_, _-ℤ_, _*ℤ_, *ℤ-comm}
 use lib.ListN.{length}
 use lib.Signed.{_≤ℤ_, _<ℤ_}
 use Rattle.whole.specs.Diff.{onℤ, sumℤ, subℤ}
-use Rattle.whole.specs.Ring.{K, _:+_, _:-_, _:*_, ring2, ring3, ring4}
+use Rattle.whole.specs.Ring.{K, _:+_, _:*_, ring2, ring3, ring4}
 use Rattle.whole.specs.Order.{lt-or-le, positive-times, nonpos-times, times-le, times-cancel}
 use Rattle.meaning.specs.declared.Place.{Place}
 use Rattle.meaning.specs.Mesh.{Mesh, at}

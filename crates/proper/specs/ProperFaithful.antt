@@ -23,7 +23,7 @@ use Rattle.laws.specs.Area.{turn-from, turn-to}
 use Rattle.laws.specs.Edges.{sameTri-eq, sameTri-refl}
 use Rattle.proper.specs.Apart.{NoneLeft, PartedBy, by-pq, by-qr, by-rp, Apart, by-first, by-second}
 use Rattle.proper.specs.Convex.{val, side, spot}
-use Rattle.proper.specs.Sharing.{side-turn, weights, apart-or-share}
+use Rattle.proper.specs.Sharing.{share-back, side-turn, weights, apart-or-share}
 use Rattle.proper.specs.OnLine.{zero-of-mul}
 use Rattle.proper.specs.Sums.{Mix, mix, level, two, SamePoint, SameSum, Faithful, rotated, rotated-same, without-third, level-linear, affine-same, turnTo, turn-affine}
 use Rattle.proper.specs.Corners.{above-pqr, above-qrp, above-rpq, row-edge}
@@ -157,7 +157,7 @@ module _ (m : Mesh) (law : Lawful m) (proper : Proper m) where
     where
       go : (i j : ℕ) → i < length (m .tris) → j < length (m .tris) → Share (shape m (rowOf (m .tris) i)) (shape m (rowOf (m .tris) j)) → i ≢ j → Dec (i < j) → Dec (j < i) → ⊥
       go i j hi hj s n (yes l) d = proper .none-shared i j l hj s
-      go i j hi hj s n (no l) (yes d) = proper .none-shared j i d hi (record { point = s .point; weight = s .weight; in-first = s .in-second; in-second = s .in-first })
+      go i j hi hj s n (no l) (yes d) = proper .none-shared j i d hi (share-back s)
       go i j hi hj s n (no l) (no d) = n (omega arith)
 
   -- A LAWFUL, PROPER MESH IS FAITHFUL

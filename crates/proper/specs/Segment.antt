@@ -25,7 +25,7 @@ unfolding val
 form-straight f X Y Q flat = combine₁ (f .a *ℤ (X .y -ℤ Y .y) +ℤ f .b *ℤ (Y .x -ℤ X .x)) flat
     (ring9 (λ a b c x y v w q r. (
       Along x y v w v w :* (a :* q :+ b :* r :+ c :* K (pos 1)) :-
-      ((Along x y v w v w :- Along x y v w q r) :* (a :* x :+ b :* y :+ c :* K (pos 1)) :+ Along x y v w q r :* (a :* v :+ b :* w :+ c :* K (pos 1))),
+          ((Along x y v w v w :- Along x y v w q r) :* (a :* x :+ b :* y :+ c :* K (pos 1)) :+ Along x y v w q r :* (a :* v :+ b :* w :+ c :* K (pos 1))),
       (a :* (y :- w) :+ b :* (v :- x)) :* (Turn x y v w q r :- K (pos 0)),
     )) (f .a) (f .b) (f .c) (X .x) (X .y) (Y .x) (Y .y) (Q .x) (Q .y) tt)
 

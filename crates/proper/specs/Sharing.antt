@@ -17,6 +17,9 @@ use Rattle.proper.specs.Apart.{NoneLeft, PartedBy, by-pq, by-qr, by-rp, 
 use Rattle.proper.specs.Convex.{Form, val, val-sum, val-times, side, side-left, spot, _⊕_, _⊙_, Above, above}
 use Rattle.proper.specs.Helly.{Meet, wider, six}
 
+pub share-back : {s t : Shape} → Share s t → Share t s
+share-back h = record { point = h .point; weight = h .weight; in-first = h .in-second; in-second = h .in-first }
+
 -- ---- forms at corners
 pub side-turn : (a b c : Place) → val (side a b) (spot c) ≡ turn a b c
 side-turn a b c = side-left a b (spot c)

@@ -34,18 +34,18 @@ ends-too : {Q : ℕ → Type 0} (t : Tri) → All Q (corners t) → All (λ e. Q
 ends-too t (cons p (cons q (cons r nil))) = cons (p, q) (cons (q, r) (cons (r, p) nil))
 
 -- a form above 0 at no corner of t, and at all corners of u
-module _ (f : Form) (P : ℕ → Place) (t u : Tri) (a : pos 0 <ℤ area (shapeBy P t)) (low : All (λ k. val f (spot (P k)) ≤ℤ pos 0) (corners t)) where
+module _ (f : Form) (P : ℕ → Place) (t u : Tri) (a : pos 0 <ℤ area (shapeBy P t)) (under : All (λ k. val f (spot (P k)) ≤ℤ pos 0) (corners t)) where
   untouched : All (λ k. pos 0 <ℤ val f (spot (P k))) (corners u) → Touching P t u → ⊥
-  untouched high T =
-      let e = All-at (ends-too t low) (T .side-of) in
+  untouched over T =
+      let e = All-at (ends-too t under) (T .side-of) in
       not-over (P (T .side .from)) (P (T .side .to)) (P (T .corner)) (T .on .on-line) (T .on .within) (side-long P t a (T .side-of)) (λ Q. val f (spot Q)) (form-straight f)
-      (e .0) (e .1) (All-at high (T .corner-of))
+      (e .0) (e .1) (All-at over (T .corner-of))
 
   not-past : (s : Point) → Inside (shapeBy P t) s → val f s ≤ℤ pos 0
   not-past s i = go (lt-or-le (pos 0) (val f s))
     where
       go : (pos 0 <ℤ val f s) ⊎ (val f s ≤ℤ pos 0) → val f s ≤ℤ pos 0
-      go (inl h) = absurd (form-out f (shapeBy P t) s a i (All·head low) (All·head (All·tail low)) (All·head (All·tail (All·tail low))) h)
+      go (inl h) = absurd (form-out f (shapeBy P t) s a i (All·head under) (All·head (All·tail under)) (All·head (All·tail (All·tail under))) h)
       go (inr h) = h
 
 -- ---- lines across, between two neighbouring whole numbers

@@ -12,25 +12,27 @@ use lib.ListN.{length}
 use lib.Signed.{_≤ℤ_, _<ℤ_}
 use Rattle.lists.specs.Lists.{cases, nil, cons}
 use Rattle.lists.specs.ListsLaw.{clash, or-left, or-right, All-at}
-use Rattle.lists.specs.MembersLaw.{mem-at, at-mem, count-some}
+use Rattle.lists.specs.MembersLaw.{mem-at, at-mem}
 use Rattle.whole.specs.Diff.{onℤ}
 use Rattle.whole.specs.Order.{le-of-eq, le-antisymm, lt-or-le}
 use Rattle.whole.specs.Ring.{K, ring4}
 use Rattle.meaning.specs.declared.Place.{Place}
 use Rattle.meaning.specs.declared.Tri.{Tri}
-use Rattle.meaning.specs.Mesh.{Mesh, Arrow, tri, arrows, holdsNode, at, turn}
+use Rattle.meaning.specs.Mesh.{Mesh, Arrow, tri, arrows, at, turn}
 use Rattle.meaning.specs.Lawful.{Lawful, rowOf}
-use Rattle.meaning.specs.Proper.{Shape, shape, facing, Share, Crowded, at-one-place, inside-edge, Overlaps, with-lower, apart, uncrowded, disjoint}
+use Rattle.meaning.specs.Proper.{shape, facing, Share, Crowded, at-one-place, inside-edge, Overlaps, with-lower, apart, uncrowded, disjoint}
 use Rattle.laws.specs.Area.{turn-from}
 use Rattle.proper.specs.Corners.{RowEdge, row-edge, above-pqr}
+use Rattle.proper.specs.FaithfulProper.{node-row}
 use Rattle.proper.specs.OnLine.{len, Facing, len-same}
 use Rattle.proper.specs.Segment.{at-end}
 use Rattle.proper.specs.ProperLaw.{uncrowded-exact, disjoint-exact}
+use Rattle.proper.specs.Sharing.{share-back}
 use Rattle.proper.specs.Tested.{share-exact}
 use Rattle.pairs.specs.Pair.{shapeBy, corners, touches, grave}
 use Rattle.pairs.specs.OnSide.{On}
-use Rattle.sweep.specs.Touch.{Touching, touches-is, is-touches, own-corner, holds-corner, corner-side}
-use Rattle.sweep.specs.Severity.{severity, Met, none, of-rows, Gravest}
+use Rattle.sweep.specs.Touch.{Touching, touches-is, is-touches, own-corner, corner-in, corner-side}
+use Rattle.sweep.specs.Severity.{severity, graveOf, SomeTwo, none, two, Gravest}
 
 -- ---- two rows
 
@@ -70,9 +72,6 @@ module _ (P : ℕ → Place) (t u : Tri) where
       go true = omega arith
       go false = omega arith
 
-share-back : {s t : Shape} → Share s t → Share t s
-share-back h = record { point = h .point; weight = h .weight; in-first = h .in-second; in-second = h .in-first }
-
 -- ---- an end is on its own line
 
 module _ (A B : Place) where
@@ -87,7 +86,7 @@ module _ (A B : Place) where
 module _ (m : Mesh) (law : Lawful m) where
   -- a row that has node k
   row-with : (k : ℕ) → k < length (m .nodes) → (t : Tri) × List·Memᴰ t (m .tris) × List·Memᴰ k (corners t)
-  row-with k h = let r = count-some (holdsNode k) (m .tris) (law .used k h) in (r .0, r .1, holds-corner k (r .0) (r .2))
+  row-with k h = let r = node-row m law k h in (r .0, r .1, corner-in (r .2))
 
   -- a node is on a side of a row
   abbrev Sided : ℕ → Type 0
@@ -180,9 +179,9 @@ module _ (m : Mesh) (law : Lawful m) where
     r-most : r ≤ 2
     r-most = go (g .met)
       where
-        go : Met m r → r ≤ 2
+        go : SomeTwo (graveOf m) (length (m .tris)) r → r ≤ 2
         go (none e) = omega arith
-        go (of-rows i j h l n e) = rw (sym e) (grave-most (at m) (rowOf (m .tris) i) (rowOf (m .tris) j))
+        go (two i j h l n e) = rw (sym e) (grave-most (at m) (rowOf (m .tris) i) (rowOf (m .tris) j))
 
     -- below 2 none is crowded
     none-crowded : r < 2 → uncrowded m ≡ true
@@ -208,9 +207,9 @@ module _ (m : Mesh) (law : Lawful m) where
     r-touch : uncrowded m ≡ true → r ≤ 1
     r-touch u = go (g .met)
       where
-        go : Met m r → r ≤ 1
+        go : SomeTwo (graveOf m) (length (m .tris)) r → r ≤ 1
         go (none e) = omega arith
-        go (of-rows i j h l n e) = at-most (grave-is (at m) (rowOf (m .tris) i) (rowOf (m .tris) j)) e
+        go (two i j h l n e) = at-most (grave-is (at m) (rowOf (m .tris) i) (rowOf (m .tris) j)) e
           where
             out : {X : Type 0} → (x : ℕ) × (x < length (m .nodes)) × Crowded m x → X
             out c = absurd (uncrowded-exact m .0 u (c .0) (c .1) (c .2))
@@ -224,9 +223,9 @@ module _ (m : Mesh) (law : Lawful m) where
     r-none : uncrowded m ≡ true → disjoint m ≡ true → r ≡ 0
     r-none u d = go (g .met)
       where
-        go : Met m r → r ≡ 0
+        go : SomeTwo (graveOf m) (length (m .tris)) r → r ≡ 0
         go (none e) = e
-        go (of-rows i j h l n e) = by (grave-is (at m) (rowOf (m .tris) i) (rowOf (m .tris) j)) e
+        go (two i j h l n e) = by (grave-is (at m) (rowOf (m .tris) i) (rowOf (m .tris) j)) e
           where
             unshared : (a b : ℕ) → a < b → b < length (m .tris) → ¬ Share (shape m (rowOf (m .tris) a)) (shape m (rowOf (m .tris) b))
             unshared a b x y s = disjoint-exact m law .0 d b y (with-lower a x s)

@@ -12,10 +12,10 @@ use Rattle.lists.specs.ListsLaw.{All-at, any-at, any-row}
 use Rattle.whole.specs.Diff.{onℤ}
 use Rattle.meaning.specs.declared.Place.{Place}
 use Rattle.meaning.specs.declared.Tri.{Tri}
-use Rattle.meaning.specs.Mesh.{Arrow, arrow, arrows, turn, holdsNode}
+use Rattle.meaning.specs.Mesh.{Arrow, arrow, arrows, turn}
 use Rattle.meaning.specs.Proper.{area}
 use Rattle.laws.specs.Area.{turn-cycle}
-use Rattle.laws.specs.RowMean.{CornerOf, is-p, is-q, is-r, corner-of}
+use Rattle.laws.specs.RowMean.{CornerOf, is-p, is-q, is-r}
 use Rattle.proper.specs.OnLine.{len, len-above}
 use Rattle.pairs.specs.Pair.{shapeBy, corners, onSide, touches}
 use Rattle.pairs.specs.OnSide.{On, on-is, is-on}
@@ -74,14 +74,11 @@ module _ (P : ℕ → Place) where
       let z : pos 0 ≡ area (shapeBy P t) = sym (o .on-line) ∙ ap (λ n. turn (P (e .from)) (P (e .to)) (P n)) q ∙ a .area-is in
       omega (arith, onℤ)
 
--- a row that holds a node has it as a corner, and a side that begins there
-pub holds-corner : (k : ℕ) (t : Tri) → holdsNode k t ≡ true → List·Memᴰ k (corners t)
-holds-corner k t h = go (corner-of t k h)
-  where
-    go : {k : ℕ} → CornerOf t k → List·Memᴰ k (corners t)
-    go is-p = List·Memᴰ·head refl
-    go is-q = List·Memᴰ·tail (List·Memᴰ·head refl)
-    go is-r = List·Memᴰ·tail (List·Memᴰ·tail (List·Memᴰ·head refl))
+-- a corner of a row, and a side that begins there
+pub corner-in : {t : Tri} {k : ℕ} → CornerOf t k → List·Memᴰ k (corners t)
+corner-in is-p = List·Memᴰ·head refl
+corner-in is-q = List·Memᴰ·tail (List·Memᴰ·head refl)
+corner-in is-r = List·Memᴰ·tail (List·Memᴰ·tail (List·Memᴰ·head refl))
 
 pub corner-side : (t : Tri) → All (λ k. (e : Arrow) × List·Memᴰ e (arrows t) × (e .from ≡ k)) (corners t)
 corner-side t = cons (arrow (t .p) (t .q), List·Memᴰ·head refl, refl)

@@ -21,9 +21,11 @@ pub share-back : {s t : Shape} → Share s t → Share t s
 share-back h = record { point = h .point; weight = h .weight; in-first = h .in-second; in-second = h .in-first }
 
 -- ---- forms at corners
+pub left-turn : (a b c : Place) → left a b (spot c) ≡ turn a b c
+left-turn a b c = ring6 (λ ax ay bx by cx cy. ((bx :- ax) :* (cy :- ay :* K (pos 1)) :- (cx :- ax :* K (pos 1)) :* (by :- ay), Turn ax ay bx by cx cy)) (a .x) (a .y) (b .x) (b .y) (c .x) (c .y) tt
+
 pub side-turn : (a b c : Place) → val (side a b) (spot c) ≡ turn a b c
-side-turn a b c = side-left a b (spot c)
-    ∙ ring6 (λ ax ay bx by cx cy. ((bx :- ax) :* (cy :- ay :* K (pos 1)) :- (cx :- ax :* K (pos 1)) :* (by :- ay), Turn ax ay bx by cx cy)) (a .x) (a .y) (b .x) (b .y) (c .x) (c .y) tt
+side-turn a b c = side-left a b (spot c) ∙ left-turn a b c
 
 -- the point in a triangle's middle
 abbrev middle : Shape → Point

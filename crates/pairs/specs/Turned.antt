@@ -1,17 +1,22 @@
 -- What a pair of rows draws does not depend on which row comes first, nor on where a row begins. Assumes nothing.
 use mathlib.Core.Bool.{Bool, false, _&&_, _||_, and-comm, and-assoc, or-comm, or-assoc}
+use mathlib.Core.List.{List}
 use mathlib.Core.Path.{_≡_, sym, _∙_}
 use Prim.Native.Nat.{ℕ}
+use borrow.Author.Tests.{eqb-true, eq-eqb}
+use lib.Dec.{eqb}
 use lib.IntN.{pos}
 use lib.Signed.{leZ}
 use Rattle.lists.specs.Lists.{any, cases}
+use Rattle.lists.specs.ListsLaw.{both-ways}
 use Rattle.lists.specs.SearchLaw.{or-three}
 use Rattle.meaning.specs.declared.Place.{Place}
 use Rattle.meaning.specs.declared.Tri.{Tri}
 use Rattle.meaning.specs.Mesh.{arrow, turn}
+use Rattle.meaning.specs.Tables.{rowAt}
 use Rattle.meaning.specs.Proper.{noneLeft, partedBy, apart}
 use Rattle.laws.specs.Weights.{turned}
-use Rattle.pairs.specs.Pair.{shapeBy, corners, onSide, touches, grave}
+use Rattle.pairs.specs.Pair.{shapeBy, corners, onSide, touches, grave, graveAt}
 
 or-turned-left : (a b c : Bool) → b || c || a ≡ a || b || c
 or-turned-left a b c = or-comm (b || c) a ∙ sym (or-assoc a b c)
@@ -22,6 +27,9 @@ or-turned a b c = sym (or-three b c a) ∙ or-turned-left a b c ∙ or-three a b
 and-turned-left : (a b c : Bool) → b && c && a ≡ a && b && c
 and-turned-left a b c = and-comm (b && c) a ∙ sym (and-assoc a b c)
 
+eqb-sym : (a b : ℕ) → eqb a b ≡ eqb b a
+eqb-sym a b = both-ways (eqb a b) (eqb b a) (λ h. eq-eqb b a (sym (eqb-true a b h))) (λ h. eq-eqb a b (sym (eqb-true b a h)))
+
 module _ (P : ℕ → Place) where
   -- either row may come first
   pub grave-sym : (t u : Tri) → grave P t u ≡ grave P u t
@@ -30,6 +38,13 @@ module _ (P : ℕ → Place) where
       let e = or-comm (touches P t u) (touches P u t) in
       let f = or-comm (partedBy (shapeBy P t) (shapeBy P u)) (partedBy (shapeBy P u) (shapeBy P t)) in
       (λ i. cases (e i) 2 (cases (f i) 0 1))
+
+  pub grave-at-sym : (rows : List ℕ) (i j : ℕ) → graveAt P rows i j ≡ graveAt P rows j i
+  unfolding graveAt
+  grave-at-sym rows i j =
+      let e = eqb-sym i j in
+      let f = grave-sym (rowAt rows i) (rowAt rows j) in
+      (λ k. cases (e k) 0 (f k))
 
   module _ (t u : Tri) where
     touches-turned : touches P (turned t) u ≡ touches P t u

@@ -106,47 +106,40 @@ module _ (m : Mesh) (zs : List ℕ) (law : Lawful m) (ok : Takeable m zs) where
   -- ---- a father
 
   module _ {br : Brothers} (z : ℕ) (j : List·Memᴰ z zs) (pair : Pair m z br) where
-    left-down : (α β γ : ℕ) → γ ≤ β → Down (level (mix (father br) α β γ))
-    left-down α β γ le = record {
-      child = mix (br .left) (2 * γ) α (β - γ);
-      is-row = pair .left-row;
-      half = γ;
+    -- by a child u that has z first
+    by-child : {F : Sum} (u : Tri) → List·Memᴰ u (m .tris) → u .p ≡ z → (half α β : ℕ) →
+        ((φ : ℕ → ℤ) → F φ +ℤ pos (2 * half) *ℤ φ z ≡ level (mix u (2 * half) α β) φ +ℤ pos half *ℤ (φ (br .left .r) +ℤ φ (br .right .q))) → Down F
+    by-child u i e half α β sum = record {
+      child = mix u (2 * half) α β;
+      is-row = i;
+      half = half;
       z = z;
       b = br .left .r;
       c = br .right .q;
       middle = λ h. pair .middle;
       goes = λ h. (j, pair .ends, z-weight);
-      met = λ y k h. (sym (newest (pair .left-row) y k h) ∙ pair .left-p, pair .ends, z-weight);
-      sum = λ φ.
-          (let e : β ≡ (β - γ) + γ = omega arith in
-          (λ i. pos α *ℤ φ (br .left .q) +ℤ pos (e i) *ℤ φ (br .left .r) +ℤ pos γ *ℤ φ (br .right .q) +ℤ pos (2 * γ) *ℤ φ (sym (pair .left-p) i))
-          ∙ solve (pos α ∷ pos (β - γ) ∷ pos γ ∷ φ (br .left .p) ∷ φ (br .left .q) ∷ φ (br .left .r) ∷ φ (br .right .q) ∷ [])
-          (X 0 :* X 4 :+ (X 1 :+ X 2) :* X 5 :+ X 2 :* X 6 :+ K (pos 2) :* X 2 :* X 3) (K (pos 2) :* X 2 :* X 3 :+ X 0 :* X 4 :+ X 1 :* X 5 :+ X 2 :* (X 5 :+ X 6)) tt);
+      met = λ y k h. (sym (newest i y k h) ∙ e, pair .ends, z-weight);
+      sum = sum;
     }
       where
-        z-weight : weightOf (mix (br .left) (2 * γ) α (β - γ)) z ≡ 2 * γ
-        z-weight = subst (λ k. weightOf (mix (br .left) (2 * γ) α (β - γ)) k ≡ 2 * γ) (pair .left-p) (weight-p (br .left) (All-at (law .named) (pair .left-row)) (2 * γ) α (β - γ))
+        z-weight : weightOf (mix u (2 * half) α β) z ≡ 2 * half
+        z-weight = subst (λ k. weightOf (mix u (2 * half) α β) k ≡ 2 * half) e (weight-p u (All-at (law .named) i) (2 * half) α β)
+
+    left-down : (α β γ : ℕ) → γ ≤ β → Down (level (mix (father br) α β γ))
+    left-down α β γ le = by-child (br .left) (pair .left-row) (pair .left-p) γ α (β - γ)
+        (λ φ.
+        (let e : β ≡ (β - γ) + γ = omega arith in
+        (λ i. pos α *ℤ φ (br .left .q) +ℤ pos (e i) *ℤ φ (br .left .r) +ℤ pos γ *ℤ φ (br .right .q) +ℤ pos (2 * γ) *ℤ φ (sym (pair .left-p) i))
+        ∙ solve (pos α ∷ pos (β - γ) ∷ pos γ ∷ φ (br .left .p) ∷ φ (br .left .q) ∷ φ (br .left .r) ∷ φ (br .right .q) ∷ [])
+        (X 0 :* X 4 :+ (X 1 :+ X 2) :* X 5 :+ X 2 :* X 6 :+ K (pos 2) :* X 2 :* X 3) (K (pos 2) :* X 2 :* X 3 :+ X 0 :* X 4 :+ X 1 :* X 5 :+ X 2 :* (X 5 :+ X 6)) tt))
 
     right-down : (α β γ : ℕ) → β ≤ γ → Down (level (mix (father br) α β γ))
-    right-down α β γ le = record {
-      child = mix (br .right) (2 * β) (γ - β) α;
-      is-row = pair .right-row;
-      half = β;
-      z = z;
-      b = br .left .r;
-      c = br .right .q;
-      middle = λ h. pair .middle;
-      goes = λ h. (j, pair .ends, z-weight);
-      met = λ y k h. (sym (newest (pair .right-row) y k h) ∙ pair .right-p, pair .ends, z-weight);
-      sum = λ φ.
-          (let e : γ ≡ (γ - β) + β = omega arith in
-          (λ i. pos α *ℤ φ (sym (pair .joint) i) +ℤ pos β *ℤ φ (br .left .r) +ℤ pos (e i) *ℤ φ (br .right .q) +ℤ pos (2 * β) *ℤ φ (sym (pair .right-p) i))
-          ∙ solve (pos α ∷ pos (γ - β) ∷ pos β ∷ φ (br .right .p) ∷ φ (br .right .q) ∷ φ (br .right .r) ∷ φ (br .left .r) ∷ [])
-          (X 0 :* X 5 :+ X 2 :* X 6 :+ (X 1 :+ X 2) :* X 4 :+ K (pos 2) :* X 2 :* X 3) (K (pos 2) :* X 2 :* X 3 :+ X 1 :* X 4 :+ X 0 :* X 5 :+ X 2 :* (X 6 :+ X 4)) tt);
-    }
-      where
-        z-weight : weightOf (mix (br .right) (2 * β) (γ - β) α) z ≡ 2 * β
-        z-weight = subst (λ k. weightOf (mix (br .right) (2 * β) (γ - β) α) k ≡ 2 * β) (pair .right-p) (weight-p (br .right) (All-at (law .named) (pair .right-row)) (2 * β) (γ - β) α)
+    right-down α β γ le = by-child (br .right) (pair .right-row) (pair .right-p) β (γ - β) α
+        (λ φ.
+        (let e : γ ≡ (γ - β) + β = omega arith in
+        (λ i. pos α *ℤ φ (sym (pair .joint) i) +ℤ pos β *ℤ φ (br .left .r) +ℤ pos (e i) *ℤ φ (br .right .q) +ℤ pos (2 * β) *ℤ φ (sym (pair .right-p) i))
+        ∙ solve (pos α ∷ pos (γ - β) ∷ pos β ∷ φ (br .right .p) ∷ φ (br .right .q) ∷ φ (br .right .r) ∷ φ (br .left .r) ∷ [])
+        (X 0 :* X 5 :+ X 2 :* X 6 :+ (X 1 :+ X 2) :* X 4 :+ K (pos 2) :* X 2 :* X 3) (K (pos 2) :* X 2 :* X 3 :+ X 1 :* X 4 :+ X 0 :* X 5 :+ X 2 :* (X 6 :+ X 4)) tt))
 
     father-down : Downs (father br)
     father-down α β γ = go (decLe γ β)

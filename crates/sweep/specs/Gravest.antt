@@ -22,6 +22,7 @@ use Rattle.meaning.specs.Mesh.{Mesh, Arrow, tri, arrows, at, turn}
 use Rattle.meaning.specs.Lawful.{Lawful, rowOf}
 use Rattle.meaning.specs.Proper.{shape, facing, Share, Crowded, at-one-place, inside-edge, Overlaps, with-lower, apart, uncrowded, disjoint}
 use Rattle.laws.specs.Area.{turn-from}
+use Rattle.proper.specs.Check.{SomeCrowded}
 use Rattle.proper.specs.Corners.{RowEdge, row-edge, above-pqr}
 use Rattle.proper.specs.FaithfulProper.{node-row}
 use Rattle.proper.specs.OnLine.{len, Facing, len-same}
@@ -133,10 +134,10 @@ module _ (m : Mesh) (law : Lawful m) where
       (a .0, b .0, a .1, b .1, λ q. other (sym (a .2) ∙ ap (rowOf (m .tris)) q ∙ b .2), rw (a .2, b .2) touch)
 
   -- the places of two nodes are one, so the higher is crowded
-  twins-crowded : (j k : ℕ) → j < length (m .nodes) → k < length (m .nodes) → j ≢ k → at m j ≡ at m k → (x : ℕ) × (x < length (m .nodes)) × Crowded m x
+  twins-crowded : (j k : ℕ) → j < length (m .nodes) → k < length (m .nodes) → j ≢ k → at m j ≡ at m k → SomeCrowded m
   twins-crowded j k h l n e = go (decLt j k)
     where
-      go : Dec (j < k) → (x : ℕ) × (x < length (m .nodes)) × Crowded m x
+      go : Dec (j < k) → SomeCrowded m
       go (yes b) = (k, l, at-one-place j b e)
       go (no b) = (j, h, at-one-place k (omega arith) (sym e))
 
@@ -144,7 +145,7 @@ module _ (m : Mesh) (law : Lawful m) where
   named-corner i j = let N = All-at (law .named) i in All-at {P = λ k. k < length (m .nodes)} (cons (N .p-below) (cons (N .q-below) (cons (N .r-below) nil))) j
 
   -- SUCH A CORNER IS CROWDED, OR ITS TWIN IS
-  touches-crowded : {t u : Tri} → List·Memᴰ t (m .tris) → List·Memᴰ u (m .tris) → touches (at m) t u ≡ true → (x : ℕ) × (x < length (m .nodes)) × Crowded m x
+  touches-crowded : {t u : Tri} → List·Memᴰ t (m .tris) → List·Memᴰ u (m .tris) → touches (at m) t u ≡ true → SomeCrowded m
   touches-crowded {t} {u} i j h = go (lt-or-le (facing A B C) (pos 0))
     where
       T : Touching (at m) t u
@@ -162,11 +163,11 @@ module _ (m : Mesh) (law : Lawful m) where
       E : RowEdge m t (T .side .from) (T .side .to)
       E = row-edge m law i (T .side-of)
 
-      at-twin : (C ≡ A) ⊎ (C ≡ B) → (x : ℕ) × (x < length (m .nodes)) × Crowded m x
+      at-twin : (C ≡ A) ⊎ (C ≡ B) → SomeCrowded m
       at-twin (inl e) = twins-crowded (T .corner) (T .side .from) (named-corner j (T .corner-of)) (E .from-below) (T .on .not-from) e
       at-twin (inr e) = twins-crowded (T .corner) (T .side .to) (named-corner j (T .corner-of)) (E .to-below) (T .on .not-to) e
 
-      go : (facing A B C <ℤ pos 0) ⊎ (pos 0 ≤ℤ facing A B C) → (x : ℕ) × (x < length (m .nodes)) × Crowded m x
+      go : (facing A B C <ℤ pos 0) ⊎ (pos 0 ≤ℤ facing A B C) → SomeCrowded m
       go (inl l) = (T .corner, named-corner j (T .corner-of), inside-edge t i (T .side) (T .side-of) (record { on-line = T .on .on-line; between = l }))
       go (inr l) = at-twin (at-end A B C (T .on .on-line) (T .on .within) (E .long) (le-antisymm (T .on .within) l))
 
@@ -211,7 +212,7 @@ module _ (m : Mesh) (law : Lawful m) where
         go (none e) = omega arith
         go (two i j h l n e) = at-most (grave-is (at m) (rowOf (m .tris) i) (rowOf (m .tris) j)) e
           where
-            out : {X : Type 0} → (x : ℕ) × (x < length (m .nodes)) × Crowded m x → X
+            out : {X : Type 0} → SomeCrowded m → X
             out c = absurd (uncrowded-exact m .0 u (c .0) (c .1) (c .2))
 
             at-most : {k : ℕ} → GraveIs (at m) (rowOf (m .tris) i) (rowOf (m .tris) j) k → k ≡ r → r ≤ 1

@@ -38,7 +38,7 @@ above-of-mul c a h i = unscale-lt c (pos 0) a h (omega (arith, onℤ, *ℤ-comm 
 pub zero-of-mul : (c a : ℤ) → pos 0 <ℤ c → c *ℤ a ≡ pos 0 → a ≡ pos 0
 zero-of-mul c a h e = times-cancel c a (pos 0) h (omega (arith, onℤ, mulℤ c (pos 0)))
 
-times-zero : (a b : ℤ) → b ≡ pos 0 → a *ℤ b ≡ pos 0
+pub times-zero : (a b : ℤ) → b ≡ pos 0 → a *ℤ b ≡ pos 0
 times-zero a b e = rw e (omega (arith, onℤ, mulℤ a (pos 0)))
 
 -- ---- two places on the line of A and B, seen from A

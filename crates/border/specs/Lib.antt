@@ -1,0 +1,3 @@
+-- The border edges alone say how many rows a point is inside.
+pub mod Sums
+pub mod Under

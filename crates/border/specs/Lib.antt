@@ -1,3 +1,5 @@
 -- The border edges alone say how many rows a point is inside.
 pub mod Sums
 pub mod Under
+pub mod Cancel
+pub mod Count

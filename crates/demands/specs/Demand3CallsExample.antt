@@ -14,6 +14,7 @@ use Rattle.meaning.specs.declared.Place.{Place}
 use Rattle.meaning.specs.declared.Told.{Told}
 use Rattle.meaning.specs.Mesh.{place, correction, tri, twiceArea}
 use Rattle.meaning.specs.Lawful.{Names, refusal, compatible, faultOf, firstOutside, firstMisnamed, firstRepeat, firstFlat, firstUnused, firstClash}
+use Rattle.meaning.specs.Proper.{noneLeft, partedBy, apart, firstCrowded, firstOverlap, uncrowded, disjoint}
 use Rattle.meaning.specs.Split.{newest, allThree, closure, splitEdges, splitAt, split, refined}
 use Rattle.meaning.specs.Good.{pairs, span, G1-4, good}
 use Rattle.meaning.specs.Coarsen.{taken, without, coarsened, goodNodes, pass, restored}
@@ -92,7 +93,7 @@ S4 = given cutSet rowsCut (replicate 80 9) 7 6
 
 -- The base check says 0 of S.
 S-checked : leaving 0 4 2 0 (square ++ replicate 20 (pos 5)) (two ++ replicate 24 6) 76 ≡ checkOut S
-unfolding leaving bears square two S lowest lowestFrom items itemsFrom nodeAt rowAt meshOf twiceArea firstOutside firstMisnamed firstRepeat firstFlat firstUnused firstClash faultOf refusal compatible culpritOf checkNo sizesFit checkOut
+unfolding leaving bears square two S lowest lowestFrom items itemsFrom nodeAt rowAt meshOf twiceArea firstOutside firstMisnamed firstRepeat firstFlat firstUnused firstClash faultOf refusal compatible noneLeft partedBy apart firstCrowded firstOverlap uncrowded disjoint culpritOf checkNo sizesFit checkOut
 S-checked = refl
 
 not-0 : (k : ℕ) → suc k ≡ 0 → ⊥
@@ -104,7 +105,7 @@ not-0 k e = omega arith
 -- (2), and one from all three edges for which there is no room (9); node 7 is coarsened; a coarsen with n0 above n (1) and a restore with no
 -- scratch (1); a refine with a count too low (4: row 2 names node 6) and a restore with one too high (7: node 7 is in no row); other scratch.
 history : Held S S4
-unfolding leaving blaming hearing none bears square two nodesCut cutFirst cutSet nodesMore moreFirst moreSet toSet rowsCut rowsMore S S4 lowest lowestFrom items itemsFrom nodeAt rowAt meshOf twiceArea firstOutside firstMisnamed firstRepeat firstFlat firstUnused firstClash faultOf refusal compatible closure splitEdges splitAt split refined pairs span G1-4 good taken without coarsened goodNodes pass restored culpritOf checkNo refineNo coarsenNo checks refines coarsens restores sizesFit checkOut refineOut coarsenOut restoreOut corrected setFault sets setOut weighted weights meanIn rowHolding correctionAt askNo asks askOut
+unfolding leaving blaming hearing none bears square two nodesCut cutFirst cutSet nodesMore moreFirst moreSet toSet rowsCut rowsMore S S4 lowest lowestFrom items itemsFrom nodeAt rowAt meshOf twiceArea firstOutside firstMisnamed firstRepeat firstFlat firstUnused firstClash faultOf refusal compatible noneLeft partedBy apart firstCrowded firstOverlap uncrowded disjoint closure splitEdges splitAt split refined pairs span G1-4 good taken without coarsened goodNodes pass restored culpritOf checkNo refineNo coarsenNo checks refines coarsens restores sizesFit checkOut refineOut coarsenOut restoreOut corrected setFault sets setOut weighted weights meanIn rowHolding correctionAt askNo asks askOut
 history =
     let a = after-refine base-held allThree refl (1 ∷ 0 ∷ []) (leaving 0 7 6 0 cutFirst rowsCut 76) refl refl in
     let b = after-refine a newest refl (1 ∷ 0 ∷ 0 ∷ 0 ∷ 0 ∷ 0 ∷ []) (leaving 0 8 8 0 moreFirst rowsMore 76) refl refl in

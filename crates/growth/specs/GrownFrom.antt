@@ -7,7 +7,7 @@ use lib.Seq.{ext-getD}
 use Rattle.meaning.specs.Mesh.{Mesh, mesh, tri, nodeOf, at, origin}
 use Rattle.meaning.specs.Lawful.{Lawful, Compatible, rowOf}
 use Rattle.meaning.specs.Calls.{checkNo}
-use Rattle.laws.specs.Check.{check-done}
+use Rattle.laws.specs.Check.{check-passed}
 use Rattle.growth.specs.Labels.Corners.{Corners, row}
 use Rattle.growth.specs.Labels.Grown.{Grown, grown-base, grown-end}
 use Rattle.growth.specs.Rows.{rows, all-rows, row-is-three, rows-length, base-below, base-used, base-compatible}
@@ -29,7 +29,7 @@ from-start base law c = record {
 
 -- "a lawful base with a compatible labelling"
 pub from-checked : (base : Mesh) → checkNo base ≡ 0 → GrownFrom base base
-from-checked base ok = let c = check-done base .0 ok in from-start base (c .0) (c .1)
+from-checked base ok = let c = check-passed base ok in from-start base (c .0) (c .1)
 
 -- THE END.
 pub grown-end-is-base : (base m : Mesh) → GrownFrom base m → length (m .nodes) ≡ length (base .nodes) → m ≡ base

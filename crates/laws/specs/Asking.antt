@@ -2,9 +2,9 @@
 -- given exactly if no row does, any refusal gives 0, 0, and what is told is the mean of that row's corrections. Assumes nothing.
 use mathlib.Core.Bool.{Bool, true, false, _&&_}
 use mathlib.Core.List.{List·Memᴰ}
-use mathlib.Core.Logic.{_↔_}
+use mathlib.Core.Logic.{_↔_, inl, inr}
 use mathlib.Core.Path.{_≡_, refl, sym, ap, subst, subst⁻¹, _∙_}
-use Prim.Native.Nat.{ℕ, zero, suc, _<_}
+use Prim.Native.Nat.{ℕ, zero, suc, _≤_, _<_}
 use native.Mathlib.Omega.{arith}
 use lib.IntN.{ℤ, pos, negsuc}
 use lib.ListN.{length}
@@ -26,10 +26,11 @@ use Rattle.meaning.specs.Mesh.{Mesh, tri, arrow, arrows, correction, origin, ho
 use Rattle.meaning.specs.Lawful.{InBounds, Named, Lawful, Lowest, First, Names, rowOf}
 use Rattle.meaning.specs.Rounding.{Floor}
 use Rattle.meaning.specs.Asking.{HoldsPoint, holdsPoint, weightP, weightQ, weightR, weighted, meanIn, RowHolds, Covered, rowHolding, dxOf, dyOf, correctionIn, correctionBy, correctionAt}
-use Rattle.meaning.specs.Calls.{culpritOf, askNo, toldAs, told, asks}
+use Rattle.meaning.specs.Calls.{culpritOf, unless, askNo, toldAs, told, asks}
 use Rattle.laws.specs.Faults.{first-at}
 use Rattle.laws.specs.Culprit.{names-one, first-one, culprit-names, ask-due}
-use Rattle.laws.specs.Late.{LateSays, late-exact, late-done, late-own, late-lowest}
+use Rattle.laws.specs.Exact.{unfit}
+use Rattle.laws.specs.Late.{Exactly, Done, all-sound, Unless, done-0, done-exact, unless-exact, done-past, unless-past, own-line, other-line, LateSays, late-exact, late-past, late-lowest}
 use Rattle.laws.specs.RowMean.{CornerOf, corner-of, corner-holds, mean-same, mean-floor, mean-only, mean-from-least, mean-to-greatest, mean-corner, side-same}
 
 -- ---- the row that holds the point
@@ -94,26 +95,41 @@ module _ (m : Mesh) (P : Place) where
   -- ---- the number
 
   -- 14 "exactly if no triangle holds the point"
+  abbrev pub CoveredLines : ℕ → Type 0
+  CoveredLines = Unless (Covered m P) (¬ Covered m P) 14 Done
+
   abbrev pub AskSays : ℕ → Type 0
-  AskSays = LateSays m 14 (Covered m P)
+  AskSays = LateSays m CoveredLines
+
+  lines-exact : Exactly (unless (isFound (rowHolding m P)) 14 0) CoveredLines
+  lines-exact = unless-exact (record { sound = covered-exact; fault = unfit (isFound (rowHolding m P)) covered-exact }) 14 done-exact
 
   -- EACH NUMBER IS GIVEN EXACTLY WHEN ITS LINE SAYS, AND NO OTHER IS.
   pub ask-exact : (k : ℕ) → (askNo m P ≡ k) ↔ AskSays k
   unfolding askNo
-  ask-exact = late-exact m 14 (omega arith) (isFound (rowHolding m P)) covered-exact
+  ask-exact = late-exact m lines-exact
 
   pub ask-0 : (askNo m P ≡ 0) ↔ (Lawful m × Covered m P)
   unfolding askNo
-  ask-0 = late-done m 14 (omega arith) (isFound (rowHolding m P)) covered-exact
+  ask-0 =
+      let h = late-past m lines-exact 0 (inl refl) in
+      let l : CoveredLines 0 ↔ (Covered m P × Done 0) = other-line 0 (λ e. absurd (omega arith)) in
+      (λ e. (h .0 e .0, l .0 (h .0 e .1) .0), λ c. h .1 (c .0, l .1 (c .1, all-sound)))
 
   -- "AFTER 1 AND 3 TO 7, REFUSE AS 14 EXACTLY IF NO TRIANGLE HOLDS THE POINT."
   pub ask-14 : (askNo m P ≡ 14) ↔ (Lawful m × (¬ Covered m P))
   unfolding askNo
-  ask-14 = late-own m 14 (omega arith) (isFound (rowHolding m P)) covered-exact
+  ask-14 =
+      let h = late-past m lines-exact 14 (inr (omega arith)) in
+      let l : CoveredLines 14 ↔ (¬ Covered m P) = own-line not-done in
+      (λ e. (h .0 e .0, l .0 (h .0 e .1)), λ c. h .1 (c .0, l .1 (c .1)))
+    where
+      not-done : ¬ Done 14
+      not-done d = absurd (omega (arith, done-0 d))
 
-  pub ask-lowest : (k : ℕ) → 0 < k → k < 14 → (askNo m P ≡ k) ↔ Lowest m k
+  pub ask-lowest : (k : ℕ) → 0 < k → k ≤ 7 → (askNo m P ≡ k) ↔ Lowest m k
   unfolding askNo
-  ask-lowest = late-lowest m 14 (omega arith) (isFound (rowHolding m P)) covered-exact
+  ask-lowest = late-lowest m lines-exact (unless-past (omega arith) done-past)
 
   -- ---- what is told
 

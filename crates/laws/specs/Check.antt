@@ -1,33 +1,21 @@
--- The base check says 0 exactly for lawful meshes with a compatible labelling, 10 exactly for lawful ones without, and else the
--- lowest of 3 to 7 that applies. Assumes nothing.
-use mathlib.Core.Logic.{_↔_}
+-- A base that the check admits is lawful and has a compatible labelling, which is what demand 3 asks of it. (That each number is given exactly when its
+-- line says stands in crates/proper, which knows what 11 and 12 mean.) Assumes nothing.
 use mathlib.Core.Path.{_≡_}
-use Prim.Native.Nat.{ℕ, _<_}
+use Prim.Native.Nat.{ℕ}
 use native.Mathlib.Omega.{arith}
 use Rattle.meaning.specs.Mesh.{Mesh}
-use Rattle.meaning.specs.Lawful.{Lawful, Compatible, Lowest, compatible}
+use Rattle.meaning.specs.Lawful.{Lawful, Compatible, refusal, compatible}
+use Rattle.meaning.specs.Proper.{uncrowded, disjoint}
 use Rattle.meaning.specs.Calls.{checkNo}
-use Rattle.laws.specs.Lawful.{compatible-exact}
-use Rattle.laws.specs.Late.{LateSays, late-exact, late-done, late-own, late-lowest}
-
--- 10 "labelling not compatible"
-abbrev pub CheckSays : Mesh → ℕ → Type 0
-CheckSays m = LateSays m 10 (Compatible m)
+use Rattle.laws.specs.Lawful.{refusal-lawful, compatible-exact}
+use Rattle.laws.specs.Numbers.{unless-done, orElse-done}
 
 module _ (m : Mesh) where
-  -- EACH NUMBER IS GIVEN EXACTLY WHEN ITS LINE SAYS, AND NO OTHER IS.
-  pub check-exact : (k : ℕ) → (checkNo m ≡ k) ↔ CheckSays m k
+  pub check-passed : checkNo m ≡ 0 → Lawful m × Compatible m
   unfolding checkNo
-  check-exact = late-exact m 10 (omega arith) (compatible m) (compatible-exact m)
-
-  pub check-done : (checkNo m ≡ 0) ↔ (Lawful m × Compatible m)
-  unfolding checkNo
-  check-done = late-done m 10 (omega arith) (compatible m) (compatible-exact m)
-
-  pub check-10 : (checkNo m ≡ 10) ↔ (Lawful m × (¬ Compatible m))
-  unfolding checkNo
-  check-10 = late-own m 10 (omega arith) (compatible m) (compatible-exact m)
-
-  pub check-lowest : (k : ℕ) → 0 < k → k < 10 → (checkNo m ≡ k) ↔ Lowest m k
-  unfolding checkNo
-  check-lowest = late-lowest m 10 (omega arith) (compatible m) (compatible-exact m)
+  check-passed e =
+      let a = orElse-done (refusal m) _ e in
+      let b = unless-done (uncrowded m) 11 _ (omega arith) (a .1) in
+      let c = unless-done (disjoint m) 12 _ (omega arith) (b .1) in
+      let d = unless-done (compatible m) 10 _ (omega arith) (c .1) in
+      (refusal-lawful m (a .0), compatible-exact m .0 (d .0))

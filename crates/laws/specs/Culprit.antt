@@ -22,6 +22,7 @@ use Rattle.meaning.specs.Lawful.{NodeInRange, Named, First, Repeats, Other, Nam
 use Rattle.meaning.specs.Split.{Way, splitEdges, started, halves, refined}
 use Rattle.meaning.specs.Asking.{rowHolding}
 use Rattle.meaning.specs.Tables.{Room}
+use Rattle.meaning.specs.Proper.{uncrowded, disjoint}
 use Rattle.meaning.specs.Calls.{culpritOf, unless, orElse, marksFit, fits, checkNo, refineNo, coarsenNo, askNo}
 use Rattle.laws.specs.Faults.{first-3, first-4, first-5, first-6, first-7}
 
@@ -162,7 +163,11 @@ module _ (m : Mesh) where
 
   pub check-due : Due m (checkNo m)
   unfolding checkNo
-  check-due = or-else-due _ (unless-due (compatible m) 10 0 (inr (omega arith)) done-due)
+  check-due =
+      or-else-due _
+      (unless-due (uncrowded m) 11 _ (inr (omega arith))
+      (unless-due (disjoint m) 12 _ (inr (omega arith))
+      (unless-due (compatible m) 10 0 (inr (omega arith)) done-due)))
 
   pub ask-due : (P : Place) → Due m (askNo m P)
   unfolding askNo

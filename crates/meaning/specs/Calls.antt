@@ -1,4 +1,4 @@
--- Document 01, 'What a call says', W2, W5 and W6: for each call, what it says of a mesh, and one outcome for any tables. Assumes nothing.
+-- Document 01, 'What a call says', W2, W5, W6 and W7: for each call, what it says of a mesh, and one outcome for any tables. Assumes nothing.
 use mathlib.Core.Bool.{Bool, true, false, _&&_}
 use mathlib.Core.List.{List}
 use Prim.Native.Nat.{ℕ, zero, suc, _+_, _*_, _%_}
@@ -12,6 +12,7 @@ use Rattle.meaning.specs.Lawful.{faultOf, refusal, compatible}
 use Rattle.meaning.specs.Split.{Way, splitEdges, started, refined, halves}
 use Rattle.meaning.specs.Coarsen.{coarsened, restored}
 use Rattle.meaning.specs.Setting.{corrected, setFault}
+use Rattle.meaning.specs.Proper.{uncrowded, disjoint}
 use Rattle.meaning.specs.Asking.{rowHolding, correctionAt}
 use Rattle.meaning.specs.Tables.{Given, Outcome, Room, outcome, answer, nodeForm, rowForm, meshOf, roomOf, flatNodes, flatRows, filled, cleared}
 
@@ -55,9 +56,14 @@ marksFit k marks = eqb (length marks) k && all (λ b. leb b 1) marks
 abbrev pub fits : Room → Mesh → Bool
 fits room m = leb (length (m .nodes)) (room .nodes) && leb (length (m .tris)) (room .rows)
 
--- 3 to 7, then 10
+-- 3 to 7, then W7: "in the order 7, 11, 12, 10"
 unfoldable pub checkNo : Mesh → ℕ
-checkNo m = orElse (refusal m) (unless (compatible m) 10 0)
+checkNo m =
+    orElse (refusal m)
+    (unless (uncrowded m) 11
+    (unless (disjoint m) 12
+    (unless (compatible m) 10
+    0)))
 
 -- 2 to 9
 unfoldable pub refineNo : Way → Room → Mesh → List ℕ → ℕ

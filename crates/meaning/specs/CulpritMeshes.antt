@@ -8,6 +8,7 @@ use lib.ListN.{length, replicate}
 use Rattle.lists.specs.Search.{lowest, lowestFrom}
 use Rattle.meaning.specs.Mesh.{Mesh, tri, mesh, total, twiceArea}
 use Rattle.meaning.specs.Lawful.{refusal, compatible, faultOf, firstOutside, firstMisnamed, firstRepeat, firstFlat, firstUnused, firstClash}
+use Rattle.meaning.specs.Proper.{noneLeft, partedBy, apart, firstCrowded, firstOverlap, uncrowded, disjoint}
 use Rattle.meaning.specs.Split.{closure, splitEdges, splitAt, split, refined}
 use Rattle.meaning.specs.Good.{pairs, span, G1-4, good}
 use Rattle.meaning.specs.Coarsen.{taken, without, coarsened, goodNodes, pass, restored}
@@ -100,5 +101,5 @@ culpritCases =
     []
 
 pub culprit-meshes : map computed culpritCases ≡ map (λ c. c .expected) culpritCases
-unfolding total twiceArea lowest lowestFrom firstOutside firstMisnamed firstRepeat firstFlat firstUnused firstClash faultOf refusal compatible closure splitEdges splitAt split refined pairs span G1-4 good taken without coarsened goodNodes pass restored culpritOf checkNo refineNo coarsenNo checks refines coarsens restores
+unfolding total twiceArea lowest lowestFrom firstOutside firstMisnamed firstRepeat firstFlat firstUnused firstClash faultOf refusal compatible noneLeft partedBy apart firstCrowded firstOverlap uncrowded disjoint closure splitEdges splitAt split refined pairs span G1-4 good taken without coarsened goodNodes pass restored culpritOf checkNo refineNo coarsenNo checks refines coarsens restores
 culprit-meshes = refl

@@ -9,6 +9,7 @@ use Rattle.lists.specs.Search.{lowest, lowestFrom, items, itemsFrom}
 use Rattle.meaning.specs.declared.Told.{Told}
 use Rattle.meaning.specs.Mesh.{place, correction, twiceArea}
 use Rattle.meaning.specs.Lawful.{refusal, compatible, faultOf, firstOutside, firstMisnamed, firstRepeat, firstFlat, firstUnused, firstClash}
+use Rattle.meaning.specs.Proper.{noneLeft, partedBy, apart, firstCrowded, firstOverlap, uncrowded, disjoint}
 use Rattle.meaning.specs.Split.{newest, allThree, closure, splitEdges, splitAt, split, refined}
 use Rattle.meaning.specs.Good.{pairs, span, G1-4, good}
 use Rattle.meaning.specs.Setting.{corrected, setFault}
@@ -144,7 +145,7 @@ outcomes =
     []
 
 hand-tables : map (λ r. r .got) outcomes ≡ map (λ r. r .expected) outcomes
-unfolding outcomes wrong lent said blamed square middle grown spare two wide four six outside misnamed repeated beyond turned _is_ lowest lowestFrom items itemsFrom nodeAt rowAt meshOf twiceArea firstOutside firstMisnamed firstRepeat firstFlat firstUnused firstClash faultOf refusal compatible closure splitEdges splitAt split refined pairs span G1-4 good taken without coarsened goodNodes pass restored culpritOf checkNo refineNo coarsenNo checks refines coarsens restores sizesFit checkOut refineOut coarsenOut restoreOut corrected setFault sets setOut
+unfolding outcomes wrong lent said blamed square middle grown spare two wide four six outside misnamed repeated beyond turned _is_ lowest lowestFrom items itemsFrom nodeAt rowAt meshOf twiceArea firstOutside firstMisnamed firstRepeat firstFlat firstUnused firstClash faultOf refusal compatible noneLeft partedBy apart firstCrowded firstOverlap uncrowded disjoint closure splitEdges splitAt split refined pairs span G1-4 good taken without coarsened goodNodes pass restored culpritOf checkNo refineNo coarsenNo checks refines coarsens restores sizesFit checkOut refineOut coarsenOut restoreOut corrected setFault sets setOut
 hand-tables = refl
 
 -- W6: what a question leaves: nodes and rows as they were, past the counts too

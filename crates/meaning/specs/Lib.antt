@@ -17,4 +17,5 @@ pub mod QuarterMeshes
 pub mod CulpritMeshes
 pub mod SettingMeshes
 pub mod AskingMeshes
+pub mod ProperMeshes
 pub mod HandTables

@@ -9,6 +9,7 @@ use lib.ListN.{take, replicate}
 use Rattle.lists.specs.Search.{lowest, lowestFrom, items, itemsFrom}
 use Rattle.meaning.specs.Mesh.{twiceArea}
 use Rattle.meaning.specs.Lawful.{refusal, compatible, faultOf, firstOutside, firstMisnamed, firstRepeat, firstFlat, firstUnused, firstClash}
+use Rattle.meaning.specs.Proper.{noneLeft, partedBy, apart, firstCrowded, firstOverlap, uncrowded, disjoint}
 use Rattle.meaning.specs.Split.{closure, splitEdges, splitAt, split, refined}
 use Rattle.meaning.specs.Good.{pairs, span, G1-4, good}
 use Rattle.meaning.specs.Coarsen.{taken, without, coarsened, goodNodes, pass, restored}
@@ -138,7 +139,7 @@ rows =
     []
 
 cuts-told : map (λ r. told (r .turns)) rows ≡ map (λ r. r .seen) rows
-unfolding rows told words digits square waits done ended hadOf beginOut takeOut untimely further byteRead lineRead longer wiped fits whole lineLent writes lowest lowestFrom items itemsFrom twiceArea refusal compatible faultOf firstOutside firstMisnamed firstRepeat firstFlat firstUnused firstClash closure splitEdges splitAt split refined pairs span G1-4 good taken without coarsened goodNodes pass restored nodeAt rowAt meshOf checkNo refineNo coarsenNo checks refines coarsens restores corrected setFault sets culpritOf sizesFit checkOut refineOut coarsenOut restoreOut setOut setNode setRow isDigit worth number listed signed unsigned hexDigit hex correctionIn nodeIn rowIn answerLine nodeLine rowLine allLines refinesIn wellFormed listsBelow admits takes addNode addRow marksOf called sessionAfter frame lineStep endOut
+unfolding rows told words digits square waits done ended hadOf beginOut takeOut untimely further byteRead lineRead longer wiped fits whole lineLent writes lowest lowestFrom items itemsFrom twiceArea refusal compatible noneLeft partedBy apart firstCrowded firstOverlap uncrowded disjoint faultOf firstOutside firstMisnamed firstRepeat firstFlat firstUnused firstClash closure splitEdges splitAt split refined pairs span G1-4 good taken without coarsened goodNodes pass restored nodeAt rowAt meshOf checkNo refineNo coarsenNo checks refines coarsens restores corrected setFault sets culpritOf sizesFit checkOut refineOut coarsenOut restoreOut setOut setNode setRow isDigit worth number listed signed unsigned hexDigit hex correctionIn nodeIn rowIn answerLine nodeLine rowLine allLines refinesIn wellFormed listsBelow admits takes addNode addRow marksOf called sessionAfter frame lineStep endOut
 cuts-told = refl
 
 -- ---- single calls: the number, how many bytes were taken and how many written, how many wait
@@ -243,5 +244,5 @@ calls =
     []
 
 calls-answered : map (λ c. c .got) calls ≡ map (λ c. c .expected) calls
-unfolding calls unfit tooMuch ones call lent readerOf shown take-of end-of begin-of fit beginOut takeOut untimely further byteRead lineRead longer wiped fits whole lineLent writes lowest lowestFrom items itemsFrom refusal compatible faultOf firstOutside firstMisnamed firstRepeat firstFlat firstUnused firstClash nodeAt rowAt meshOf checkNo checks culpritOf sizesFit checkOut setRow isDigit worth number listed hexDigit hex rowIn answerLine refinesIn wellFormed admits takes addRow called sessionAfter frame lineStep endOut
+unfolding calls unfit tooMuch ones call lent readerOf shown take-of end-of begin-of fit beginOut takeOut untimely further byteRead lineRead longer wiped fits whole lineLent writes lowest lowestFrom items itemsFrom refusal compatible noneLeft partedBy apart firstCrowded firstOverlap uncrowded disjoint faultOf firstOutside firstMisnamed firstRepeat firstFlat firstUnused firstClash nodeAt rowAt meshOf checkNo checks culpritOf sizesFit checkOut setRow isDigit worth number listed hexDigit hex rowIn answerLine refinesIn wellFormed admits takes addRow called sessionAfter frame lineStep endOut
 calls-answered = refl

@@ -10,6 +10,7 @@ use lib.ListN.{take, set, replicate}
 use Rattle.lists.specs.Search.{lowest, lowestFrom, items, itemsFrom}
 use Rattle.meaning.specs.Mesh.{twiceArea}
 use Rattle.meaning.specs.Lawful.{refusal, compatible, faultOf, firstOutside, firstMisnamed, firstRepeat, firstFlat, firstUnused, firstClash}
+use Rattle.meaning.specs.Proper.{noneLeft, partedBy, apart, firstCrowded, firstOverlap, uncrowded, disjoint}
 use Rattle.meaning.specs.Split.{closure, splitEdges, splitAt, split, refined}
 use Rattle.meaning.specs.Good.{pairs, span, G1-4, good}
 use Rattle.meaning.specs.Coarsen.{taken, without, coarsened, goodNodes, pass, restored}
@@ -151,7 +152,7 @@ talks =
     []
 
 talks-heard : map (λ t. program (t .says)) talks ≡ map (λ t. t .hears) talks
-unfolding talks said talk corners over square on stretched onStretched lowest lowestFrom items itemsFrom twiceArea refusal compatible faultOf firstOutside firstMisnamed firstRepeat firstFlat firstUnused firstClash closure splitEdges splitAt split refined pairs span G1-4 good taken without coarsened goodNodes pass restored nodeAt rowAt meshOf checkNo refineNo coarsenNo checks refines coarsens restores corrected setFault sets culpritOf sizesFit checkOut refineOut coarsenOut restoreOut setOut setNode setRow isDigit worth number listed signed unsigned hexDigit hex correctionIn nodeIn rowIn answerLine nodeLine rowLine allLines refinesIn wellFormed listsBelow admits takes addNode addRow marksOf called sessionAfter frame lineStep program
+unfolding talks said talk corners over square on stretched onStretched lowest lowestFrom items itemsFrom twiceArea refusal compatible noneLeft partedBy apart firstCrowded firstOverlap uncrowded disjoint faultOf firstOutside firstMisnamed firstRepeat firstFlat firstUnused firstClash closure splitEdges splitAt split refined pairs span G1-4 good taken without coarsened goodNodes pass restored nodeAt rowAt meshOf checkNo refineNo coarsenNo checks refines coarsens restores corrected setFault sets culpritOf sizesFit checkOut refineOut coarsenOut restoreOut setOut setNode setRow isDigit worth number listed signed unsigned hexDigit hex correctionIn nodeIn rowIn answerLine nodeLine rowLine allLines refinesIn wellFormed listsBelow admits takes addNode addRow marksOf called sessionAfter frame lineStep program
 talks-heard = refl
 
 -- ---- single lines, on tables of any size
@@ -215,7 +216,7 @@ rows =
     []
 
 lines-stepped : map (λ r. r .got) rows ≡ map (λ r. r .expected) rows
-unfolding rows only full tight lowest lowestFrom items itemsFrom twiceArea refusal compatible faultOf firstOutside firstMisnamed firstRepeat firstFlat firstUnused firstClash closure splitEdges splitAt split refined pairs span G1-4 good taken without coarsened goodNodes pass restored nodeAt rowAt meshOf checkNo refineNo coarsenNo checks refines coarsens restores corrected setFault sets culpritOf sizesFit checkOut refineOut coarsenOut restoreOut setOut setNode setRow isDigit worth number listed signed unsigned hexDigit hex correctionIn nodeIn rowIn answerLine nodeLine rowLine allLines refinesIn wellFormed listsBelow admits takes addNode addRow marksOf called sessionAfter frame lineStep
+unfolding rows only full tight lowest lowestFrom items itemsFrom twiceArea refusal compatible noneLeft partedBy apart firstCrowded firstOverlap uncrowded disjoint faultOf firstOutside firstMisnamed firstRepeat firstFlat firstUnused firstClash closure splitEdges splitAt split refined pairs span G1-4 good taken without coarsened goodNodes pass restored nodeAt rowAt meshOf checkNo refineNo coarsenNo checks refines coarsens restores corrected setFault sets culpritOf sizesFit checkOut refineOut coarsenOut restoreOut setOut setNode setRow isDigit worth number listed signed unsigned hexDigit hex correctionIn nodeIn rowIn answerLine nodeLine rowLine allLines refinesIn wellFormed listsBelow admits takes addNode addRow marksOf called sessionAfter frame lineStep
 lines-stepped = refl
 
 -- ---- W4: texts that may go on
@@ -254,5 +255,5 @@ texts =
     []
 
 texts-stand : map (λ t. standing (t .came)) texts ≡ map (λ t. t .leaves) texts
-unfolding texts after standing corners square lowest lowestFrom items itemsFrom twiceArea refusal compatible faultOf firstOutside firstMisnamed firstRepeat firstFlat firstUnused firstClash closure splitEdges splitAt split refined nodeAt rowAt meshOf checkNo refineNo checks refines culpritOf sizesFit checkOut refineOut setNode setRow isDigit worth number listed signed unsigned hexDigit hex correctionIn nodeIn rowIn answerLine refinesIn wellFormed listsBelow admits takes addNode addRow marksOf called sessionAfter frame lineStep
+unfolding texts after standing corners square lowest lowestFrom items itemsFrom twiceArea refusal compatible noneLeft partedBy apart firstCrowded firstOverlap uncrowded disjoint faultOf firstOutside firstMisnamed firstRepeat firstFlat firstUnused firstClash closure splitEdges splitAt split refined nodeAt rowAt meshOf checkNo refineNo checks refines culpritOf sizesFit checkOut refineOut setNode setRow isDigit worth number listed signed unsigned hexDigit hex correctionIn nodeIn rowIn answerLine refinesIn wellFormed listsBelow admits takes addNode addRow marksOf called sessionAfter frame lineStep
 texts-stand = refl

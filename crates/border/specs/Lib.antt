@@ -3,3 +3,5 @@ pub mod Sums
 pub mod Under
 pub mod Cancel
 pub mod Count
+pub mod Clear
+pub mod ClearMeshes

@@ -5,3 +5,4 @@ pub mod Cancel
 pub mod Count
 pub mod Clear
 pub mod ClearMeshes
+pub mod Nudge

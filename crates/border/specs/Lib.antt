@@ -6,3 +6,4 @@ pub mod Count
 pub mod Clear
 pub mod ClearMeshes
 pub mod Nudge
+pub mod Close

@@ -160,6 +160,13 @@ module _ (A : Place) (s : Point) where
 flat-twice : (A C : Place) → turn A A C ≡ pos 0
 flat-twice A C = ring4 (λ a b c d. (Turn a b a b c d, K (pos 0))) (A .x) (A .y) (C .x) (C .y) tt
 
+-- a place makes no area with an edge that it ends
+pub flat-from : (A B : Place) → turn A B A ≡ pos 0
+flat-from A B = turn-cycle A B A ∙ turn-cycle B A A ∙ flat-twice A B
+
+pub flat-to : (A B : Place) → turn A B B ≡ pos 0
+flat-to A B = turn-cycle A B B ∙ flat-twice B A
+
 -- places that make an area are two
 pub apart-of-turn : (A B C : Place) → pos 0 <ℤ turn A B C → A ≢ B
 apart-of-turn A B C h e = let f : turn A B C ≡ pos 0 = ap (λ P. turn A P C) (sym e) ∙ flat-twice A C in omega (arith, onℤ)

@@ -23,7 +23,7 @@ use Rattle.border.specs.Clear.{steep}
 use Rattle.border.specs.Nudge.{Upright, nudged, flat-from, flat-to, still-above, still-below, near-x, near-y, nudged-above, nudged-ahead, nudged-behind, nudged-inside}
 
 -- 2^46 times P, and each corner once
-abbrev toward : Place → Shape → Point
+abbrev pub toward : Place → Shape → Point
 toward P t = record {
   X = pos 70_368_744_177_664 *ℤ P .x +ℤ (t .p .x +ℤ (t .q .x +ℤ t .r .x));
   Y = pos 70_368_744_177_664 *ℤ P .y +ℤ (t .p .y +ℤ (t .q .y +ℤ t .r .y));

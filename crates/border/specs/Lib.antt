@@ -7,3 +7,4 @@ pub mod Clear
 pub mod ClearMeshes
 pub mod Nudge
 pub mod Close
+pub mod Fan

@@ -8,3 +8,4 @@ pub mod ClearMeshes
 pub mod Nudge
 pub mod Close
 pub mod Fan
+pub mod Beside

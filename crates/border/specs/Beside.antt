@@ -34,7 +34,7 @@ dot A P Q = (P .x -ℤ A .x) *ℤ (Q .x -ℤ A .x) +ℤ (P .y -ℤ A .y) *ℤ (Q
 abbrev Dot : Expr → Expr → Expr → Expr → Expr → Expr → Expr
 Dot ax ay px py qx qy = (px :- ax) :* (qx :- ax) :+ (py :- ay) :* (qy :- ay)
 
-facing-from : (A B : Place) → facing A B A ≡ pos 0
+pub facing-from : (A B : Place) → facing A B A ≡ pos 0
 facing-from A B = ring4 (λ a b c d. (Facing a b c d a b, K (pos 0))) (A .x) (A .y) (B .x) (B .y) tt
 
 facing-to : (A B : Place) → facing A B B ≡ pos 0

@@ -1,8 +1,7 @@
 -- The rows round a node that no border arrow leaves: every point close to the node is inside one of them. Their number is the same for all close points, since
 -- the arrows through the node come to 0, and the arrows opposite it run under a close point where they pass the node. Assumes nothing.
 use mathlib.Core.Bool.{Bool, true, false, not, _&&_, _||_}
-use mathlib.Core.List.{List, [], _∷_, List·Memᴰ}
-use mathlib.Core.Logic.{_≢_}
+use mathlib.Core.List.{List·Memᴰ}
 use mathlib.Core.Path.{_≡_, refl, sym, ap, ap₂, subst, _∙_}
 use Prim.Native.Nat.{ℕ, _≤_, _<_}
 use native.Mathlib.Omega.{arith}
@@ -23,9 +22,9 @@ use Rattle.meaning.specs.Asking.{HoldsPoint}
 use Rattle.meaning.specs.Proper.{Shape, Point, Inside, area, shape}
 use Rattle.laws.specs.Area.{turn-cycle}
 use Rattle.laws.specs.RowMean.{corner-of, corner-holds}
-use Rattle.border.specs.Sums.{when, one, when-neg, exchange, added, added-eq, added-sum, added-zero, added-count, added-joined}
+use Rattle.border.specs.Sums.{when, one, when-neg, added, added-eq, added-sum, added-zero, added-count, added-joined}
 use Rattle.border.specs.Under.{Off, key, under, inside, inside-yes, yes-inside, under-swapped, one-triangle}
-use Rattle.border.specs.Cancel.{arrowsOf, border, border-sum, leave-arrive}
+use Rattle.border.specs.Cancel.{border, border-sum, leave-arrive}
 use Rattle.border.specs.Count.{OffRows, underArrow}
 use Rattle.border.specs.Clear.{steep}
 use Rattle.border.specs.Nudge.{Upright, steep-apart, apart-of-turn, place-range, row-upright, nudged-rows}

@@ -9,3 +9,5 @@ pub mod Nudge
 pub mod Close
 pub mod Fan
 pub mod Beside
+pub mod Crowd
+pub mod Safe

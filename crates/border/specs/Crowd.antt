@@ -31,7 +31,7 @@ use Rattle.border.specs.Cancel.{reverse, arrowsOf, border}
 use Rattle.border.specs.Nudge.{Upright, Single, not-both, row-upright, apart-of-turn, nudged-off, flat-from}
 use Rattle.border.specs.Close.{toward, close, toward-weight, close-above}
 use Rattle.border.specs.Fan.{Inner, row-inside, row-at, row-holds-node, fan-covers}
-use Rattle.border.specs.Beside.{Turned, turned-arrow, turned-upright, turned-inside, turned-holds, turned-corner, facing-from, beside, inside-back, inside-no-corner, inside-held, one-corner}
+use Rattle.border.specs.Corners.{Turned, turned-arrow, turned-upright, turned-inside, turned-holds, turned-corner, facing-from, beside, inside-back, inside-no-corner, inside-held, one-corner}
 
 -- no border arrow begins on a border edge but in an end of it
 abbrev pub Untouched : Mesh → Type 0

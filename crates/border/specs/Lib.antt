@@ -8,6 +8,6 @@ pub mod ClearMeshes
 pub mod Nudge
 pub mod Close
 pub mod Fan
-pub mod Beside
+pub mod Corners
 pub mod Crowd
 pub mod Safe

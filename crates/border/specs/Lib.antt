@@ -3,3 +3,4 @@ pub mod Sums
 pub mod Under
 pub mod Cancel
 pub mod Count
+pub mod Segment

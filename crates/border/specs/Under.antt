@@ -88,6 +88,9 @@ not-lt a b n = go (ltZ a b) refl
         swap true w = refl
         swap false w = absurd (n (le-antisymm (ltZ-false b a w) (ltZ-false a b e)))
 
+pub below-zero : (a : ℤ) → a ≢ pos 0 → ltZ (pos 0) a ≡ false → a <ℤ pos 0
+below-zero a n e = ltZ-true a (pos 0) (not-lt (pos 0) a (λ w. n (sym w)) ∙ ap not e)
+
 lt-zero : (a b : ℤ) → ltZ a b ≡ ltZ (pos 0) (b -ℤ a)
 lt-zero a b = both-ways _ _ (λ e. lt-ltZ (pos 0) (b -ℤ a) (let l = ltZ-true a b e in omega (arith, onℤ, subℤ b a)))
     (λ e. lt-ltZ a b (let l = ltZ-true (pos 0) (b -ℤ a) e in omega (arith, onℤ, subℤ b a)))
@@ -180,9 +183,6 @@ some-above l m n h = go (ltZ (pos 0) l) (ltZ (pos 0) m) (ltZ (pos 0) n) refl ref
 not-one-side : (x y z : ℤ) → x ≢ pos 0 → y ≢ pos 0 → z ≢ pos 0 → x +ℤ (y +ℤ z) ≡ pos 0 → sameSigns (ltZ (pos 0) x) (ltZ (pos 0) y) (ltZ (pos 0) z) ≡ false
 not-one-side x y z h i j s = go (ltZ (pos 0) x) (ltZ (pos 0) y) (ltZ (pos 0) z) refl refl refl
   where
-    below : (a : ℤ) → a ≢ pos 0 → ltZ (pos 0) a ≡ false → a <ℤ pos 0
-    below a n e = ltZ-true a (pos 0) (not-lt (pos 0) a (λ w. n (sym w)) ∙ ap not e)
-
     go : (a b c : Bool) → ltZ (pos 0) x ≡ a → ltZ (pos 0) y ≡ b → ltZ (pos 0) z ≡ c → sameSigns a b c ≡ false
     go true true true e f g = absurd (omega (arith, onℤ, tests, sumℤ y z, sumℤ x (y +ℤ z)))
     go true true false e f g = refl
@@ -190,9 +190,9 @@ not-one-side x y z h i j s = go (ltZ (pos 0) x) (ltZ (pos 0) y) (ltZ (pos 0) z) 
     go false true c e f g = refl
     go false false true e f g = refl
     go false false false e f g =
-        let a = below x h e in
-        let b = below y i f in
-        let c = below z j g in
+        let a = below-zero x h e in
+        let b = below-zero y i f in
+        let c = below-zero z j g in
         absurd (omega (arith, onℤ, sumℤ y z, sumℤ x (y +ℤ z)))
 
 -- what p, q, r and the point are to each other, as numbers alone

@@ -6,7 +6,7 @@ use native.Mathlib.Omega.{arith}
 use lib.IntN.{ℤ, pos, negℤ, _+ℤ_, _-ℤ_, _*ℤ_}
 use lib.Signed.{ltZ, _≤ℤ_, _<ℤ_}
 use Rattle.whole.specs.Diff.{onℤ, sumℤ, subℤ, negℤ-ud}
-use Rattle.whole.specs.Ring.{Expr, K, _:+_, _:-_, _:*_, neg, ring2, ring3, ring4, ring6, ring8, ring10}
+use Rattle.whole.specs.Ring.{Expr, K, _:+_, _:-_, _:*_, neg, ring2, ring3, ring4, ring6, ring8, ring9, ring10, combine₁}
 use Rattle.whole.specs.Tests.{ltZ-true}
 use Rattle.whole.specs.Order.{scale-le}
 use Rattle.meaning.specs.declared.Place.{Place}
@@ -155,3 +155,83 @@ module _ (f : Form) (A B C D : Place) (apart : Apart f A B C D) where
       go true false e g = absurd (crossing s t hs ws ht wt (ltZ-true (pos 0) (left C D s) e) (below-zero (left C D t) (apart t ht wt) g))
       go false true e g = absurd (crossing t s ht wt hs ws (ltZ-true (pos 0) (left C D t) g) (below-zero (left C D s) (apart s hs ws) e))
       go false false e g = refl
+
+-- ---- the point of a segment that has a given point's key
+
+-- a place, as a point
+abbrev pub corner : Place → Point
+corner A = record { X = A .x; Y = A .y; W = pos 1 }
+
+-- on the line of A and B, with the key of s
+abbrev pub spot : Form → Place → Place → Point → Point
+spot f A B s = mix (negℤ (ahead f B s)) (corner A) (ahead f A s) (corner B)
+
+-- how much the key of B is above that of A
+abbrev pub rise : Form → Place → Place → ℤ
+rise f A B = key f B -ℤ key f A
+
+pub left-corner : (A B C : Place) → left A B (corner C) ≡ turn A B C
+left-corner A B C =
+    ring6 (λ a b c d e g. (Left a b c d e g (K (pos 1)), (c :- a) :* (g :- b) :- (e :- a) :* (d :- b))) (A .x) (A .y) (B .x) (B .y) (C .x) (C .y) tt
+
+pub left-start : (A B : Place) → left A B (corner A) ≡ pos 0
+left-start A B = ring4 (λ a b c d. (Left a b c d a b (K (pos 1)), K (pos 0))) (A .x) (A .y) (B .x) (B .y) tt
+
+pub left-end : (A B : Place) → left A B (corner B) ≡ pos 0
+left-end A B = ring4 (λ a b c d. (Left a b c d c d (K (pos 1)), K (pos 0))) (A .x) (A .y) (B .x) (B .y) tt
+
+pub ahead-corner : (f : Form) (A B : Place) → ahead f A (corner B) ≡ rise f A B
+ahead-corner f A B = ring2 (λ a b. (b :- a :* K (pos 1), b :- a)) (key f A) (key f B) tt
+
+module _ (f : Form) (A B : Place) (s : Point) where
+  pub spot-line : left A B (spot f A B s) ≡ pos 0
+  spot-line = left-mix A B (negℤ (ahead f B s)) (ahead f A s) (corner A) (corner B) ∙ mean-zero (negℤ (ahead f B s)) (ahead f A s) (left A B (corner A)) (left A B (corner B)) (left-start A B) (left-end A B)
+
+  pub spot-weight : spot f A B s .W ≡ rise f A B *ℤ s .W
+  spot-weight = ring4 (λ a b k w. (neg (k :- b :* w) :* K (pos 1) :+ (k :- a :* w) :* K (pos 1), (b :- a) :* w)) (key f A) (key f B) (keyAt f s) (s .W) tt
+
+  pub spot-ahead : (C : Place) → ahead f C (spot f A B s) ≡ rise f A B *ℤ ahead f C s
+  spot-ahead C =
+      ahead-mix f C (negℤ (ahead f B s)) (ahead f A s) (corner A) (corner B) ∙
+      ring6 (λ a b c k w z. (neg (k :- b :* w) :* (a :- c :* K (pos 1)) :+ (k :- a :* w) :* (b :- c :* K (pos 1)), (b :- a) :* (k :- c :* w)))
+      (key f A) (key f B) (key f C) (keyAt f s) (s .W) (pos 0) tt
+
+  -- D − C across B − A, and across s − A
+  abbrev across-ab : Place → Place → ℤ
+  across-ab C D = (D .x -ℤ C .x) *ℤ (B .y -ℤ A .y) -ℤ (B .x -ℤ A .x) *ℤ (D .y -ℤ C .y)
+
+  abbrev across-s : Place → Place → ℤ
+  across-s C D = (D .x -ℤ C .x) *ℤ (s .Y -ℤ A .y *ℤ s .W) -ℤ (s .X -ℤ A .x *ℤ s .W) *ℤ (D .y -ℤ C .y)
+
+  end-from-start : (C D : Place) → left C D (corner B) ≡ left C D (corner A) +ℤ across-ab C D
+  end-from-start C D =
+      ring8 (λ ax ay bx by cx cy dx dy. (Left cx cy dx dy bx by (K (pos 1)), Left cx cy dx dy ax ay (K (pos 1)) :+ ((dx :- cx) :* (by :- ay) :- (bx :- ax) :* (dy :- cy))))
+      (A .x) (A .y) (B .x) (B .y) (C .x) (C .y) (D .x) (D .y) tt
+
+  point-from-start : (C D : Place) → left C D s ≡ s .W *ℤ left C D (corner A) +ℤ across-s C D
+  point-from-start C D =
+      ring9 (λ ax ay cx cy dx dy x y w. (Left cx cy dx dy x y w, w :* Left cx cy dx dy ax ay (K (pos 1)) :+ ((dx :- cx) :* (y :- ay :* w) :- (x :- ax :* w) :* (dy :- cy))))
+      (A .x) (A .y) (C .x) (C .y) (D .x) (D .y) (s .X) (s .Y) (s .W) tt
+
+  ahead-vector : ahead f A s ≡ f .along *ℤ (s .X -ℤ A .x *ℤ s .W) +ℤ f .across *ℤ (s .Y -ℤ A .y *ℤ s .W)
+  ahead-vector =
+      ring8 (λ a b ax ay x y w z. (Ahead a b ax ay x y w, a :* (x :- ax :* w) :+ b :* (y :- ay :* w))) (f .along) (f .across) (A .x) (A .y) (s .X) (s .Y) (s .W) (pos 0) tt
+
+  rise-vector : (P Q : Place) → rise f P Q ≡ f .along *ℤ (Q .x -ℤ P .x) +ℤ f .across *ℤ (Q .y -ℤ P .y)
+  rise-vector P Q =
+      ring6 (λ a b px py qx qy. ((a :* qx :+ b :* qy) :- (a :* px :+ b :* py), a :* (qx :- px) :+ b :* (qy :- py))) (f .along) (f .across) (P .x) (P .y) (Q .x) (Q .y) tt
+
+  vectors : (C D : Place) → ahead f A s *ℤ across-ab C D ≡ rise f A B *ℤ across-s C D -ℤ rise f C D *ℤ left A B s
+  vectors C D =
+      rw (ahead-vector, rise-vector A B, rise-vector C D)
+      (ring8 (λ a b ux uy wx wy x y. ((a :* x :+ b :* y) :* (wx :* uy :- ux :* wy), (a :* ux :+ b :* uy) :* (wx :* y :- x :* wy) :- (a :* wx :+ b :* wy) :* (ux :* y :- x :* uy)))
+      (f .along) (f .across) (B .x -ℤ A .x) (B .y -ℤ A .y) (D .x -ℤ C .x) (D .y -ℤ C .y) (s .X -ℤ A .x *ℤ s .W) (s .Y -ℤ A .y *ℤ s .W) tt)
+
+  -- by how much the segment is above C–D at the key of s: by how much s is above C–D, less by how much s is above the segment
+  pub left-spot : (C D : Place) → left C D (spot f A B s) ≡ rise f A B *ℤ left C D s -ℤ rise f C D *ℤ left A B s
+  left-spot C D =
+      left-mix C D (negℤ (ahead f B s)) (ahead f A s) (corner A) (corner B) ∙
+      rw (end-from-start C D, point-from-start C D)
+      (combine₁ (pos 1) (vectors C D)
+      (ring9 (λ a b k w t u v r l. ((neg (k :- b :* w) :* t :+ (k :- a :* w) :* (t :+ u)) :- ((b :- a) :* (w :* t :+ v) :- r :* l), K (pos 1) :* ((k :- a :* w) :* u :- ((b :- a) :* v :- r :* l))))
+      (key f A) (key f B) (keyAt f s) (s .W) (left C D (corner A)) (across-ab C D) (across-s C D) (rise f C D) (left A B s) tt))

@@ -4,3 +4,4 @@ pub mod Under
 pub mod Cancel
 pub mod Count
 pub mod Segment
+pub mod Along

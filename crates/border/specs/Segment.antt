@@ -235,3 +235,40 @@ module _ (f : Form) (A B : Place) (s : Point) where
       (combine₁ (pos 1) (vectors C D)
       (ring9 (λ a b k w t u v r l. ((neg (k :- b :* w) :* t :+ (k :- a :* w) :* (t :+ u)) :- ((b :- a) :* (w :* t :+ v) :- r :* l), K (pos 1) :* ((k :- a :* w) :* u :- ((b :- a) :* v :- r :* l))))
       (key f A) (key f B) (keyAt f s) (s .W) (left C D (corner A)) (across-ab C D) (across-s C D) (rise f C D) (left A B s) tt))
+
+-- the key of s is strictly between those of A and B
+pub record Spans (f : Form) (A B : Place) (s : Point) : Type 0 where
+  pub weight : pos 0 <ℤ s .W
+  pub past-low : pos 0 <ℤ ahead f A s
+  pub before-high : ahead f B s <ℤ pos 0
+
+pub times-below : (a x : ℤ) → pos 0 <ℤ a → x <ℤ pos 0 → (a *ℤ x) <ℤ pos 0
+times-below a x h l =
+    let p = times-above a (negℤ x) h (omega (arith, onℤ, negℤ-ud x)) in
+    below (a *ℤ x) (subst (λ k. pos 0 <ℤ k) (ring2 (λ a x. (a :* neg x, neg (a :* x))) a x tt) p)
+  where
+    below : (z : ℤ) → pos 0 <ℤ negℤ z → z <ℤ pos 0
+    below z h = omega (arith, onℤ, negℤ-ud z)
+
+times-to : (a x : ℤ) → pos 0 <ℤ a → x ≤ℤ pos 0 → (a *ℤ x) ≤ℤ pos 0
+times-to a x h l =
+    let p = times-from a (negℤ x) h (omega (arith, onℤ, negℤ-ud x)) in
+    upto (a *ℤ x) (subst (λ k. pos 0 ≤ℤ k) (ring2 (λ a x. (a :* neg x, neg (a :* x))) a x tt) p)
+  where
+    upto : (z : ℤ) → pos 0 ≤ℤ negℤ z → z ≤ℤ pos 0
+    upto z h = omega (arith, onℤ, negℤ-ud z)
+
+pub strictly-spans : (f : Form) (A B : Place) (s : Point) → Strictly f A B s → Spans f A B s
+strictly-spans f A B s h = record { weight = h .weight; past-low = h .past-low; before-high = h .before-high }
+
+pub spot-strictly : (f : Form) (A B : Place) (s : Point) → pos 0 <ℤ rise f A B → Spans f A B s → Strictly f A B (spot f A B s)
+spot-strictly f A B s r h = record {
+    weight = subst (λ k. pos 0 <ℤ k) (sym (spot-weight f A B s)) (times-above (rise f A B) (s .W) r (h .weight));
+    on-line = spot-line f A B s;
+    past-low = subst (λ k. pos 0 <ℤ k) (sym (spot-ahead f A B s A)) (times-above (rise f A B) (ahead f A s) r (h .past-low));
+    before-high = subst (λ k. k <ℤ pos 0) (sym (spot-ahead f A B s B)) (times-below (rise f A B) (ahead f B s) r (h .before-high)) }
+
+pub spot-within : (f : Form) (A B : Place) (s : Point) → pos 0 <ℤ rise f A B → (C D : Place) → Within f C D s → Within f C D (spot f A B s)
+spot-within f A B s r C D h = record {
+    from-low = subst (λ k. pos 0 ≤ℤ k) (sym (spot-ahead f A B s C)) (times-from (rise f A B) (ahead f C s) r (h .from-low));
+    to-high = subst (λ k. k ≤ℤ pos 0) (sym (spot-ahead f A B s D)) (times-to (rise f A B) (ahead f D s) r (h .to-high)) }

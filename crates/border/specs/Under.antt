@@ -77,7 +77,7 @@ left-swapped A B s =
 
 -- ---- tests of numbers that are not 0
 
-not-lt : (a b : ℤ) → a ≢ b → ltZ b a ≡ not (ltZ a b)
+pub not-lt : (a b : ℤ) → a ≢ b → ltZ b a ≡ not (ltZ a b)
 not-lt a b n = go (ltZ a b) refl
   where
     go : (t : Bool) → ltZ a b ≡ t → ltZ b a ≡ not t
@@ -91,7 +91,7 @@ not-lt a b n = go (ltZ a b) refl
 pub below-zero : (a : ℤ) → a ≢ pos 0 → ltZ (pos 0) a ≡ false → a <ℤ pos 0
 below-zero a n e = ltZ-true a (pos 0) (not-lt (pos 0) a (λ w. n (sym w)) ∙ ap not e)
 
-lt-zero : (a b : ℤ) → ltZ a b ≡ ltZ (pos 0) (b -ℤ a)
+pub lt-zero : (a b : ℤ) → ltZ a b ≡ ltZ (pos 0) (b -ℤ a)
 lt-zero a b = both-ways _ _ (λ e. lt-ltZ (pos 0) (b -ℤ a) (let l = ltZ-true a b e in omega (arith, onℤ, subℤ b a)))
     (λ e. lt-ltZ a b (let l = ltZ-true (pos 0) (b -ℤ a) e in omega (arith, onℤ, subℤ b a)))
 

@@ -45,7 +45,7 @@ pub behind-later : (f : Form) (v : Place) (s t : Point) → pos 0 <ℤ s .W → 
 behind-later f v s t hs ht h e =
     let p = times-above (ahead f v s) (t .W) (ltZ-true (pos 0) (ahead f v s) e) ht in
     let q : ahead f v t *ℤ s .W ≡ ahead f v s *ℤ t .W +ℤ (keyAt f t *ℤ s .W -ℤ keyAt f s *ℤ t .W) =
-        ring6 (λ k l w z v n. ((l :- v :* z) :* w, (k :- v :* w) :* z :+ (l :* w :- k :* z))) (keyAt f s) (keyAt f t) (s .W) (t .W) (key f v) (pos 0) tt in
+    ring6 (λ k l w z v n. ((l :- v :* z) :* w, (k :- v :* w) :* z :+ (l :* w :- k :* z))) (keyAt f s) (keyAt f t) (s .W) (t .W) (key f v) (pos 0) tt in
     lt-ltZ (pos 0) (ahead f v t) (unscale-above (ahead f v t) (s .W) hs (subst (λ k. pos 0 <ℤ k) (sym q) (both (ahead f v s *ℤ t .W) (keyAt f t *ℤ s .W) (keyAt f s *ℤ t .W) p h)))
   where
     both : (a b c : ℤ) → pos 0 <ℤ a → c <ℤ b → pos 0 <ℤ (a +ℤ (b -ℤ c))
@@ -95,9 +95,10 @@ module _ (f : Form) (A B : Place) (low-high : pos 0 <ℤ rise f A B) (s t : Poin
   -- such a key is between those of A and B
   corner-spans : (v : Place) → behind f v s ≡ false → behind f v t ≡ true → Spans f A B (corner v)
   corner-spans v e g = record {
-      weight = omega (arith, onℤ);
-      past-low = subst (λ k. pos 0 <ℤ k) (sym (ahead-corner f A v)) from-low;
-      before-high = subst (λ k. k <ℤ pos 0) (sym (ahead-corner f B v)) (swap (key f v) (key f B) to-high) }
+    weight = omega (arith, onℤ);
+    past-low = subst (λ k. pos 0 <ℤ k) (sym (ahead-corner f A v)) from-low;
+    before-high = subst (λ k. k <ℤ pos 0) (sym (ahead-corner f B v)) (swap (key f v) (key f B) to-high);
+  }
     where
       from-low : pos 0 <ℤ rise f A v
       from-low =

@@ -5,3 +5,4 @@ pub mod Cancel
 pub mod Count
 pub mod Segment
 pub mod Along
+pub mod Beside

@@ -117,15 +117,17 @@ mean-zero a b x y e g = rw (e, g) (ring2 (λ a b. (a :* K (pos 0) :+ b :* K (pos
 -- a mean of two points of the segment is one
 pub mix-strictly : (f : Form) (A B : Place) (a b : ℤ) (s t : Point) → pos 0 <ℤ a → pos 0 <ℤ b → Strictly f A B s → Strictly f A B t → Strictly f A B (mix a s b t)
 mix-strictly f A B a b s t ha hb hs ht = record {
-    weight = mean-above a b (s .W) (t .W) ha hb (hs .weight) (ht .weight);
-    on-line = left-mix A B a b s t ∙ mean-zero a b _ _ (hs .on-line) (ht .on-line);
-    past-low = subst (λ k. pos 0 <ℤ k) (sym (ahead-mix f A a b s t)) (mean-above a b _ _ ha hb (hs .past-low) (ht .past-low));
-    before-high = subst (λ k. k <ℤ pos 0) (sym (ahead-mix f B a b s t)) (mean-below a b _ _ ha hb (hs .before-high) (ht .before-high)) }
+  weight = mean-above a b (s .W) (t .W) ha hb (hs .weight) (ht .weight);
+  on-line = left-mix A B a b s t ∙ mean-zero a b _ _ (hs .on-line) (ht .on-line);
+  past-low = subst (λ k. pos 0 <ℤ k) (sym (ahead-mix f A a b s t)) (mean-above a b _ _ ha hb (hs .past-low) (ht .past-low));
+  before-high = subst (λ k. k <ℤ pos 0) (sym (ahead-mix f B a b s t)) (mean-below a b _ _ ha hb (hs .before-high) (ht .before-high));
+}
 
 pub mix-within : (f : Form) (C D : Place) (a b : ℤ) (s t : Point) → pos 0 <ℤ a → pos 0 <ℤ b → Within f C D s → Within f C D t → Within f C D (mix a s b t)
 mix-within f C D a b s t ha hb hs ht = record {
-    from-low = subst (λ k. pos 0 ≤ℤ k) (sym (ahead-mix f C a b s t)) (mean-from a b _ _ ha hb (hs .from-low) (ht .from-low));
-    to-high = subst (λ k. k ≤ℤ pos 0) (sym (ahead-mix f D a b s t)) (mean-to a b _ _ ha hb (hs .to-high) (ht .to-high)) }
+  from-low = subst (λ k. pos 0 ≤ℤ k) (sym (ahead-mix f C a b s t)) (mean-from a b _ _ ha hb (hs .from-low) (ht .from-low));
+  to-high = subst (λ k. k ≤ℤ pos 0) (sym (ahead-mix f D a b s t)) (mean-to a b _ _ ha hb (hs .to-high) (ht .to-high));
+}
 
 -- ---- one side
 
@@ -263,12 +265,14 @@ strictly-spans f A B s h = record { weight = h .weight; past-low = h .past-low; 
 
 pub spot-strictly : (f : Form) (A B : Place) (s : Point) → pos 0 <ℤ rise f A B → Spans f A B s → Strictly f A B (spot f A B s)
 spot-strictly f A B s r h = record {
-    weight = subst (λ k. pos 0 <ℤ k) (sym (spot-weight f A B s)) (times-above (rise f A B) (s .W) r (h .weight));
-    on-line = spot-line f A B s;
-    past-low = subst (λ k. pos 0 <ℤ k) (sym (spot-ahead f A B s A)) (times-above (rise f A B) (ahead f A s) r (h .past-low));
-    before-high = subst (λ k. k <ℤ pos 0) (sym (spot-ahead f A B s B)) (times-below (rise f A B) (ahead f B s) r (h .before-high)) }
+  weight = subst (λ k. pos 0 <ℤ k) (sym (spot-weight f A B s)) (times-above (rise f A B) (s .W) r (h .weight));
+  on-line = spot-line f A B s;
+  past-low = subst (λ k. pos 0 <ℤ k) (sym (spot-ahead f A B s A)) (times-above (rise f A B) (ahead f A s) r (h .past-low));
+  before-high = subst (λ k. k <ℤ pos 0) (sym (spot-ahead f A B s B)) (times-below (rise f A B) (ahead f B s) r (h .before-high));
+}
 
 pub spot-within : (f : Form) (A B : Place) (s : Point) → pos 0 <ℤ rise f A B → (C D : Place) → Within f C D s → Within f C D (spot f A B s)
 spot-within f A B s r C D h = record {
-    from-low = subst (λ k. pos 0 ≤ℤ k) (sym (spot-ahead f A B s C)) (times-from (rise f A B) (ahead f C s) r (h .from-low));
-    to-high = subst (λ k. k ≤ℤ pos 0) (sym (spot-ahead f A B s D)) (times-to (rise f A B) (ahead f D s) r (h .to-high)) }
+  from-low = subst (λ k. pos 0 ≤ℤ k) (sym (spot-ahead f A B s C)) (times-from (rise f A B) (ahead f C s) r (h .from-low));
+  to-high = subst (λ k. k ≤ℤ pos 0) (sym (spot-ahead f A B s D)) (times-to (rise f A B) (ahead f D s) r (h .to-high));
+}

@@ -24,7 +24,7 @@ behind f v s = ltZ (pos 0) (ahead f v s)
 abbrev pub Earlier : Form → Point → Point → Type 0
 Earlier f s t = (keyAt f s *ℤ t .W) <ℤ (keyAt f t *ℤ s .W)
 
-unscale-above : (a d : ℤ) → pos 0 <ℤ d → pos 0 <ℤ (a *ℤ d) → pos 0 <ℤ a
+pub unscale-above : (a d : ℤ) → pos 0 <ℤ d → pos 0 <ℤ (a *ℤ d) → pos 0 <ℤ a
 unscale-above a d h l = unscale-lt d (pos 0) a h (subst (λ k. k <ℤ (a *ℤ d)) (ring2 (λ a d. (K (pos 0), K (pos 0) :* d)) a d tt) l)
 
 ahead-lower : (f : Form) (C D : Place) (s : Point) → ahead f C s ≡ ahead f D s +ℤ rise f C D *ℤ s .W

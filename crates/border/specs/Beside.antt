@@ -8,7 +8,8 @@ use native.Mathlib.Omega.{arith}
 use lib.IntN.{ℤ, pos, negsuc, negℤ, _+ℤ_, _-ℤ_, _*ℤ_}
 use lib.Signed.{ltZ, _≤ℤ_, _<ℤ_}
 use Rattle.whole.specs.Diff.{onℤ, sumℤ, subℤ, negℤ-ud}
-use Rattle.whole.specs.Tests.{ltZ-true, lt-ltZ, le-ltZ}
+use Rattle.whole.specs.Tests.{ltZ-true, ltZ-false, lt-ltZ, le-ltZ}
+use Rattle.whole.specs.Order.{le-antisymm}
 use Rattle.whole.specs.Ring.{Expr, K, _:+_, _:-_, _:*_, neg, ring2, ring3, ring4, ring6}
 use Rattle.lists.specs.Lists.{only, All, nil, cons}
 use Rattle.lists.specs.ListsLaw.{All-imp}
@@ -23,6 +24,7 @@ use Rattle.border.specs.Under.{Form, key, keyAt, under, ahead, under-swa
 use Rattle.border.specs.Cancel.{Once, arrowsOf, border, balance}
 use Rattle.border.specs.Count.{underArrow}
 use Rattle.border.specs.Segment.{Strictly, Apart, rise}
+use Rattle.border.specs.Alike.{under-alike}
 use Rattle.border.specs.Along.{Earlier, behind, lower, between, moved}
 
 -- C–D does not meet A–B strictly between A and B, and is not along the form's lines
@@ -138,3 +140,16 @@ module _ (f : Form) (m : Mesh) (ts : List Tri) (no-twice : Once (arrowsOf ts)) (
       where
         same : (a b : ℤ) → a -ℤ b ≡ pos 0 → a ≡ b
         same a b h = omega (arith, onℤ, subℤ a b)
+
+  -- at any two points of e
+  pub beside : Ends m e A B → (s t : Point) → Strictly f A B s → Strictly f A B t → All (λ d. ClearArrow f m A B d × Free f m s d × Free f m t d) (others e (border ts)) →
+      added (underArrow f m t) (others e (border ts)) ≡ added (underArrow f m s) (others e (border ts))
+  beside ends s t hs ht h = go (ltZ (keyAt f s *ℤ t .W) (keyAt f t *ℤ s .W)) (ltZ (keyAt f t *ℤ s .W) (keyAt f s *ℤ t .W)) refl refl
+    where
+      go : (a b : Bool) → ltZ (keyAt f s *ℤ t .W) (keyAt f t *ℤ s .W) ≡ a → ltZ (keyAt f t *ℤ s .W) (keyAt f s *ℤ t .W) ≡ b →
+          added (underArrow f m t) (others e (border ts)) ≡ added (underArrow f m s) (others e (border ts))
+      go true b x y = beside-later ends s t hs ht (ltZ-true (keyAt f s *ℤ t .W) (keyAt f t *ℤ s .W) x) h
+      go false true x y = sym (beside-later ends t s ht hs (ltZ-true (keyAt f t *ℤ s .W) (keyAt f s *ℤ t .W) y) (All-imp (λ d (c, p, q). (c, q, p)) h))
+      go false false x y =
+          let k = le-antisymm (ltZ-false (keyAt f t *ℤ s .W) (keyAt f s *ℤ t .W) y) (ltZ-false (keyAt f s *ℤ t .W) (keyAt f t *ℤ s .W) x) in
+          sym (λ i. added (λ d. under-alike f A B low-high s t hs ht k (at m (d .from)) (at m (d .to)) i) (others e (border ts)))

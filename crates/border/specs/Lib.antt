@@ -5,4 +5,5 @@ pub mod Cancel
 pub mod Count
 pub mod Segment
 pub mod Along
+pub mod Alike
 pub mod Beside

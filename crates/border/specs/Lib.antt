@@ -7,3 +7,5 @@ pub mod Segment
 pub mod Along
 pub mod Alike
 pub mod Beside
+pub mod Least
+pub mod Nearest

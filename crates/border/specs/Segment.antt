@@ -252,7 +252,7 @@ times-below a x h l =
     below : (z : ℤ) → pos 0 <ℤ negℤ z → z <ℤ pos 0
     below z h = omega (arith, onℤ, negℤ-ud z)
 
-times-to : (a x : ℤ) → pos 0 <ℤ a → x ≤ℤ pos 0 → (a *ℤ x) ≤ℤ pos 0
+pub times-to : (a x : ℤ) → pos 0 <ℤ a → x ≤ℤ pos 0 → (a *ℤ x) ≤ℤ pos 0
 times-to a x h l =
     let p = times-from a (negℤ x) h (omega (arith, onℤ, negℤ-ud x)) in
     upto (a *ℤ x) (subst (λ k. pos 0 ≤ℤ k) (ring2 (λ a x. (a :* neg x, neg (a :* x))) a x tt) p)

@@ -1,0 +1,147 @@
+-- Below a point: the nearest border arrow says how many rows the point is inside, and they are at most one. Assumes nothing.
+use mathlib.Core.Bool.{Bool, true, false, not, _&&_}
+use mathlib.Core.List.{List, [], _∷_, List·Memᴰ}
+use mathlib.Core.Logic.{_≢_}
+use mathlib.Core.Path.{_≡_, refl, sym, ap, ap₂, subst, _∙_}
+use Prim.Native.Nat.{ℕ, _≤_}
+use native.Mathlib.Omega.{arith}
+use lib.IntN.{ℤ, pos, negsuc, negℤ, _+ℤ_, _-ℤ_, _*ℤ_}
+use lib.Signed.{ltZ, _≤ℤ_, _<ℤ_}
+use Rattle.whole.specs.Diff.{onℤ, sumℤ, subℤ, negℤ-ud}
+use Rattle.whole.specs.Ring.{Expr, K, _:+_, _:-_, _:*_, neg, ring2, ring3}
+use Rattle.whole.specs.Tests.{ltZ-true, ltZ-false, lt-ltZ, le-ltZ}
+use Rattle.whole.specs.Order.{le-antisymm}
+use Rattle.lists.specs.Lists.{any, only, count, cases, All, nil, cons}
+use Rattle.lists.specs.ListsLaw.{clash, both-ways, and-left, and-right, any-at, All-imp, All-both, All-at, All-of, All-joined}
+use Rattle.lists.specs.MembersLaw.{only-keeps, only-passes}
+use Rattle.meaning.specs.declared.Place.{Place}
+use Rattle.meaning.specs.declared.Tri.{Tri}
+use Rattle.meaning.specs.Mesh.{Mesh, Arrow, arrow, arrows, sameArrow, at}
+use Rattle.meaning.specs.Proper.{Point, Shape, area, shape, left}
+use Rattle.laws.specs.Edges.{sameArrow-eq}
+use Rattle.border.specs.Sums.{when, one, added, added-eq, added-only, added-any, added-zero, added-parts}
+use Rattle.border.specs.Under.{Form, Off, key, keyAt, under, ahead, under-swapped, below-zero, times-above}
+use Rattle.border.specs.Cancel.{Once, arrowsOf, border, balance}
+use Rattle.border.specs.Count.{underArrow, depth, OffRows, depth-border}
+use Rattle.border.specs.Segment.{Strictly, Within, Spans, Apart, rise, spot, above, left-spot, spot-ahead, spot-strictly, spot-within, times-to}
+use Rattle.border.specs.Along.{behind, under-rising, unscale-above}
+use Rattle.border.specs.Beside.{Clear, clear-back, Slant, rising, falling, slant, others, Free, ClearArrow, Ends, forth, back, beside}
+use Rattle.border.specs.Least.{Least, none-passes, least, find-least}
+
+-- ---- an arrow by its lower and its higher end
+
+module _ (f : Form) (m : Mesh) (e : Arrow) where
+  -- its key rises from start to end
+  abbrev pub upward : Bool
+  upward = ltZ (pos 0) (rise f (at m (e .from)) (at m (e .to)))
+
+  abbrev pub lowEnd : Place
+  lowEnd = cases upward (at m (e .from)) (at m (e .to))
+
+  abbrev pub highEnd : Place
+  highEnd = cases upward (at m (e .to)) (at m (e .from))
+
+-- the number, or for an arrow that falls its negative
+abbrev pub signed : Bool → ℤ → ℤ
+signed true k = k
+signed false k = negℤ k
+
+-- the arrow is under the point, whichever way it runs
+abbrev pub beneath : Form → Mesh → Point → Arrow → Bool
+beneath f m s e = behind f (lowEnd f m e) s && (not (behind f (highEnd f m e) s) && above (lowEnd f m e) (highEnd f m e) s)
+
+-- no arrow is along the form's lines
+abbrev pub Slanted : Form → Mesh → Arrow → Type 0
+Slanted f m e = rise f (at m (e .from)) (at m (e .to)) ≢ pos 0
+
+module _ (f : Form) (m : Mesh) (e : Arrow) where
+  pub low-high : Slanted f m e → pos 0 <ℤ rise f (lowEnd f m e) (highEnd f m e)
+  low-high n = go (upward f m e) refl
+    where
+      swap : (a b : ℤ) → (b -ℤ a) <ℤ pos 0 → pos 0 <ℤ (a -ℤ b)
+      swap a b h = omega (arith, onℤ, subℤ a b, subℤ b a)
+
+      go : (b : Bool) → upward f m e ≡ b → pos 0 <ℤ rise f (cases b (at m (e .from)) (at m (e .to))) (cases b (at m (e .to)) (at m (e .from)))
+      go true h = ltZ-true (pos 0) (rise f (at m (e .from)) (at m (e .to))) h
+      go false h = swap (key f (at m (e .from))) (key f (at m (e .to))) (below-zero (rise f (at m (e .from)) (at m (e .to))) n h)
+
+  pub arrow-ends : Ends m e (lowEnd f m e) (highEnd f m e)
+  arrow-ends = go (upward f m e)
+    where
+      go : (b : Bool) → Ends m e (cases b (at m (e .from)) (at m (e .to))) (cases b (at m (e .to)) (at m (e .from)))
+      go true = forth refl refl
+      go false = back refl refl
+
+  pub clear-ends : (A B : Place) → ClearArrow f m A B e → Clear f A B (lowEnd f m e) (highEnd f m e)
+  clear-ends A B h = go (upward f m e)
+    where
+      go : (b : Bool) → Clear f A B (cases b (at m (e .from)) (at m (e .to))) (cases b (at m (e .to)) (at m (e .from)))
+      go true = h
+      go false = clear-back f A B (at m (e .from)) (at m (e .to)) h
+
+  pub free-ends : (s : Point) → Free f m s e → (ahead f (lowEnd f m e) s ≢ pos 0) × (ahead f (highEnd f m e) s ≢ pos 0)
+  free-ends s h = go (upward f m e)
+    where
+      go : (b : Bool) → (ahead f (cases b (at m (e .from)) (at m (e .to))) s ≢ pos 0) × (ahead f (cases b (at m (e .to)) (at m (e .from))) s ≢ pos 0)
+      go true = (h .from-free, h .to-free)
+      go false = (h .to-free, h .from-free)
+
+  -- 1 or −1 where it is beneath, as it rises or falls
+  pub under-beneath : (s : Point) → Slanted f m e → pos 0 <ℤ s .W → Free f m s e → underArrow f m s e ≡ signed (upward f m e) (one (beneath f m s e))
+  under-beneath s n w h =
+      turned (upward f m e) ∙
+      ap (signed (upward f m e)) (under-rising f (lowEnd f m e) (highEnd f m e) s (low-high n) w (free-ends s h .1))
+    where
+      turned : (b : Bool) → under f (at m (e .from)) (at m (e .to)) s ≡ signed b (under f (cases b (at m (e .from)) (at m (e .to))) (cases b (at m (e .to)) (at m (e .from))) s)
+      turned true = refl
+      turned false = under-swapped f (at m (e .to)) (at m (e .from)) s
+
+-- ---- what is beneath a point, and what is beneath the nearest segment below it
+
+sign-times : (r x : ℤ) → pos 0 <ℤ r → ltZ (pos 0) (r *ℤ x) ≡ ltZ (pos 0) x
+sign-times r x h =
+    both-ways _ _ (λ e. lt-ltZ (pos 0) x (unscale-above x r h (subst (λ k. pos 0 <ℤ k) (ring2 (λ r x. (r :* x, x :* r)) r x tt) (ltZ-true (pos 0) (r *ℤ x) e))))
+    (λ e. lt-ltZ (pos 0) (r *ℤ x) (times-above r x h (ltZ-true (pos 0) x e)))
+
+module _ (f : Form) (A B : Place) (up : pos 0 <ℤ rise f A B) (s : Point) (spans : Spans f A B s) (over : pos 0 <ℤ left A B s) where
+  behind-spot : (v : Place) → behind f v (spot f A B s) ≡ behind f v s
+  behind-spot v = ap (ltZ (pos 0)) (spot-ahead f A B s v) ∙ sign-times (rise f A B) (ahead f v s) up
+
+  module _ (C D : Place) (up′ : pos 0 <ℤ rise f C D) (apart : Apart f A B C D) (nearer : above C D s ≡ true → (left A B s *ℤ rise f C D) ≤ℤ (left C D s *ℤ rise f A B)) where
+    above-spot : Within f C D s → above C D s ≡ above C D (spot f A B s)
+    above-spot w = go (above C D s) refl
+      where
+        from : (a b x y : ℤ) → (y *ℤ b) ≤ℤ (x *ℤ a) → pos 0 ≤ℤ (a *ℤ x -ℤ b *ℤ y)
+        from a b x y h =
+            let p : y *ℤ b ≡ b *ℤ y = ring2 (λ y b. (y :* b, b :* y)) y b tt in
+            let q : x *ℤ a ≡ a *ℤ x = ring2 (λ x a. (x :* a, a :* x)) x a tt in
+            omega (arith, onℤ, subℤ (a *ℤ x) (b *ℤ y))
+
+        less : (u v : ℤ) → u ≤ℤ pos 0 → pos 0 <ℤ v → (u -ℤ v) ≤ℤ pos 0
+        less u v h i = omega (arith, onℤ, subℤ u v)
+
+        go : (b : Bool) → above C D s ≡ b → b ≡ above C D (spot f A B s)
+        go true e = sym (not-zero (left C D (spot f A B s)) (apart (spot f A B s) (spot-strictly f A B s up spans) (spot-within f A B s up C D w))
+            (subst (λ k. pos 0 ≤ℤ k) (sym (left-spot f A B s C D)) (from (rise f A B) (rise f C D) (left C D s) (left A B s) (nearer e))))
+          where
+            not-zero : (z : ℤ) → z ≢ pos 0 → pos 0 ≤ℤ z → ltZ (pos 0) z ≡ true
+            not-zero z n h = step (ltZ (pos 0) z) refl
+              where
+                step : (b : Bool) → ltZ (pos 0) z ≡ b → b ≡ true
+                step true e = refl
+                step false e = absurd (n (le-antisymm (ltZ-false (pos 0) z e) h))
+        go false e = sym (le-ltZ (pos 0) (left C D (spot f A B s)) (subst (λ k. k ≤ℤ pos 0) (sym (left-spot f A B s C D))
+            (less (rise f A B *ℤ left C D s) (rise f C D *ℤ left A B s) (times-to (rise f A B) (left C D s) up (ltZ-false (pos 0) (left C D s) e)) (times-above (rise f C D) (left A B s) up′ over))))
+
+    beneath-spot : behind f C s && (not (behind f D s) && above C D s) ≡ behind f C (spot f A B s) && (not (behind f D (spot f A B s)) && above C D (spot f A B s))
+    beneath-spot =
+        go (behind f C s) (behind f D s) refl refl ∙
+        sym (ap₂ (λ x y. x && (not y && above C D (spot f A B s))) (behind-spot C) (behind-spot D))
+      where
+        weaker : (z : ℤ) → pos 0 <ℤ z → pos 0 ≤ℤ z
+        weaker z h = omega (arith, onℤ)
+
+        go : (x y : Bool) → behind f C s ≡ x → behind f D s ≡ y → x && (not y && above C D s) ≡ x && (not y && above C D (spot f A B s))
+        go true true e g = refl
+        go true false e g = above-spot (record { from-low = weaker (ahead f C s) (ltZ-true (pos 0) (ahead f C s) e); to-high = ltZ-false (pos 0) (ahead f D s) g })
+        go false y e g = refl

@@ -7,21 +7,22 @@ use Prim.Native.Nat.{ℕ, _≤_}
 use native.Mathlib.Omega.{arith}
 use lib.IntN.{ℤ, pos, negsuc, negℤ, _+ℤ_, _-ℤ_, _*ℤ_}
 use lib.Signed.{ltZ, _≤ℤ_, _<ℤ_}
+use borrow.Author.Tests.{eq-eqb}
 use Rattle.whole.specs.Diff.{onℤ, sumℤ, subℤ, negℤ-ud}
 use Rattle.whole.specs.Ring.{Expr, K, _:+_, _:-_, _:*_, neg, ring2, ring3}
 use Rattle.whole.specs.Tests.{ltZ-true, ltZ-false, lt-ltZ, le-ltZ}
 use Rattle.whole.specs.Order.{le-antisymm}
-use Rattle.lists.specs.Lists.{any, only, count, cases, All, nil, cons}
-use Rattle.lists.specs.ListsLaw.{clash, both-ways, and-left, and-right, any-at, All-imp, All-both, All-at, All-of, All-joined}
+use Rattle.lists.specs.Lists.{any, only, count, consIf, sucIf, cases, All, nil, cons}
+use Rattle.lists.specs.ListsLaw.{clash, both-ways, and-both, and-left, and-right, any-at, All-imp, All-both, All-at, All-of, All-joined}
 use Rattle.lists.specs.MembersLaw.{only-keeps, only-passes}
 use Rattle.meaning.specs.declared.Place.{Place}
 use Rattle.meaning.specs.declared.Tri.{Tri}
-use Rattle.meaning.specs.Mesh.{Mesh, Arrow, arrow, arrows, sameArrow, at}
+use Rattle.meaning.specs.Mesh.{Mesh, Arrow, arrow, arrows, sameArrow, holdsArrow, at}
 use Rattle.meaning.specs.Proper.{Point, Shape, area, shape, left}
 use Rattle.laws.specs.Edges.{sameArrow-eq}
 use Rattle.border.specs.Sums.{when, one, added, added-eq, added-only, added-any, added-zero, added-parts}
-use Rattle.border.specs.Under.{Form, Off, key, keyAt, under, ahead, under-swapped, below-zero, times-above}
-use Rattle.border.specs.Cancel.{Once, arrowsOf, border, balance}
+use Rattle.border.specs.Under.{sign-product, Form, Off, key, keyAt, under, ahead, under-swapped, below-zero, times-above}
+use Rattle.border.specs.Cancel.{Once, reverse, arrowsOf, border}
 use Rattle.border.specs.Count.{underArrow, depth, OffRows, depth-border}
 use Rattle.border.specs.Segment.{Strictly, Within, Spans, Apart, rise, spot, above, left-spot, spot-ahead, spot-strictly, spot-within, times-to}
 use Rattle.border.specs.Along.{behind, under-rising, unscale-above}
@@ -107,9 +108,10 @@ module _ (f : Form) (A B : Place) (up : pos 0 <ℤ rise f A B) (s : Point) (span
   behind-spot : (v : Place) → behind f v (spot f A B s) ≡ behind f v s
   behind-spot v = ap (ltZ (pos 0)) (spot-ahead f A B s v) ∙ sign-times (rise f A B) (ahead f v s) up
 
-  module _ (C D : Place) (up′ : pos 0 <ℤ rise f C D) (apart : Apart f A B C D) (nearer : above C D s ≡ true → (left A B s *ℤ rise f C D) ≤ℤ (left C D s *ℤ rise f A B)) where
-    above-spot : Within f C D s → above C D s ≡ above C D (spot f A B s)
-    above-spot w = go (above C D s) refl
+  module _ (C D : Place) (up′ : pos 0 <ℤ rise f C D) (apart : Apart f A B C D)
+      (nearer : behind f C s && (not (behind f D s) && above C D s) ≡ true → (left A B s *ℤ rise f C D) ≤ℤ (left C D s *ℤ rise f A B)) where
+    above-spot : Within f C D s → behind f C s ≡ true → behind f D s ≡ false → above C D s ≡ above C D (spot f A B s)
+    above-spot w past-c before-d = go (above C D s) refl
       where
         from : (a b x y : ℤ) → (y *ℤ b) ≤ℤ (x *ℤ a) → pos 0 ≤ℤ (a *ℤ x -ℤ b *ℤ y)
         from a b x y h =
@@ -122,7 +124,7 @@ module _ (f : Form) (A B : Place) (up : pos 0 <ℤ rise f A B) (s : Point) (span
 
         go : (b : Bool) → above C D s ≡ b → b ≡ above C D (spot f A B s)
         go true e = sym (not-zero (left C D (spot f A B s)) (apart (spot f A B s) (spot-strictly f A B s up spans) (spot-within f A B s up C D w))
-            (subst (λ k. pos 0 ≤ℤ k) (sym (left-spot f A B s C D)) (from (rise f A B) (rise f C D) (left C D s) (left A B s) (nearer e))))
+            (subst (λ k. pos 0 ≤ℤ k) (sym (left-spot f A B s C D)) (from (rise f A B) (rise f C D) (left C D s) (left A B s) (nearer (and-both past-c (and-both (ap not before-d) e))))))
           where
             not-zero : (z : ℤ) → z ≢ pos 0 → pos 0 ≤ℤ z → ltZ (pos 0) z ≡ true
             not-zero z n h = step (ltZ (pos 0) z) refl
@@ -143,5 +145,156 @@ module _ (f : Form) (A B : Place) (up : pos 0 <ℤ rise f A B) (s : Point) (span
 
         go : (x y : Bool) → behind f C s ≡ x → behind f D s ≡ y → x && (not y && above C D s) ≡ x && (not y && above C D (spot f A B s))
         go true true e g = refl
-        go true false e g = above-spot (record { from-low = weaker (ahead f C s) (ltZ-true (pos 0) (ahead f C s) e); to-high = ltZ-false (pos 0) (ahead f D s) g })
+        go true false e g = above-spot (record { from-low = weaker (ahead f C s) (ltZ-true (pos 0) (ahead f C s) e); to-high = ltZ-false (pos 0) (ahead f D s) g }) e g
         go false y e g = refl
+
+-- ---- the border
+
+sameArrow-refl : (e : Arrow) → sameArrow e e ≡ true
+sameArrow-refl e = and-both (eq-eqb (e .from) (e .from) refl) (eq-eqb (e .to) (e .to) refl)
+
+only-count : {X : Type 0} (p q : X → Bool) (l : List X) → count q (only p l) ≤ count q l
+only-count p q [] = omega arith
+only-count p q (x ∷ xs) = go (p x) (q x) (only-count p q xs)
+  where
+    go : (a b : Bool) → count q (only p xs) ≤ count q xs → count q (consIf a x (only p xs)) ≤ sucIf (q x) (count q xs)
+    go true b h = more (q x)
+      where
+        more : (c : Bool) → sucIf c (count q (only p xs)) ≤ sucIf c (count q xs)
+        more true = omega arith
+        more false = h
+    go false b h = more (q x)
+      where
+        more : (c : Bool) → count q (only p xs) ≤ sucIf c (count q xs)
+        more true = omega arith
+        more false = h
+
+-- nothing meets e, and no row lies just right of it: at a point of e the other border arrows come to what e itself would add there
+pub record Bare (f : Form) (m : Mesh) (ts : List Tri) (e : Arrow) : Type 0 where
+  pub slanted : Slanted f m e
+  pub clear : All (ClearArrow f m (lowEnd f m e) (highEnd f m e)) (others e (border ts))
+  pub point : Point
+  pub on : Strictly f (lowEnd f m e) (highEnd f m e) point
+  pub point-free : All (Free f m point) (others e (border ts))
+  pub nothing : added (underArrow f m point) (others e (border ts)) ≡ one (not (upward f m e))
+
+module _ (f : Form) (m : Mesh) (ts : List Tri) (no-twice : Once (arrowsOf ts)) (bare : All (Bare f m ts) (border ts)) (s : Point) (w : pos 0 <ℤ s .W) (free : All (Free f m s) (border ts)) where
+  abbrev A′ : Arrow → Place
+  A′ = lowEnd f m
+
+  abbrev B′ : Arrow → Place
+  B′ = highEnd f m
+
+  gaps : Least (λ e. left (lowEnd f m e) (highEnd f m e) s) (λ e. rise f (lowEnd f m e) (highEnd f m e)) (beneath f m s) (border ts)
+  gaps = find-least _ _ _ (All-imp (λ e b. low-high f m e (b .slanted)) bare)
+
+  signed-zero : (b : Bool) → signed b (pos 0) ≡ pos 0
+  signed-zero true = refl
+  signed-zero false = refl
+
+  none-beneath : All (λ e. beneath f m s e ≡ false) (border ts) → added (underArrow f m s) (border ts) ≡ pos 0
+  none-beneath h =
+      added-zero (underArrow f m s)
+      (All-imp (λ e (n, (b, g)). under-beneath f m e s (b .slanted) w g ∙ ap (λ c. signed (upward f m e) (one c)) n ∙ signed-zero (upward f m e)) (All-both h (All-both bare free)))
+
+  module _ (e : Arrow) (here : List·Memᴰ e (border ts)) (below : beneath f m s e ≡ true)
+      (nearest : All (λ d. beneath f m s d ≡ true → (left (A′ e) (B′ e) s *ℤ rise f (A′ d) (B′ d)) ≤ℤ (left (A′ d) (B′ d) s *ℤ rise f (A′ e) (B′ e))) (border ts)) where
+    own : Bare f m ts e
+    own = All-at bare here
+
+    up : pos 0 <ℤ rise f (A′ e) (B′ e)
+    up = low-high f m e (own .slanted)
+
+    low-past : behind f (A′ e) s ≡ true
+    low-past = and-left (behind f (A′ e) s) (not (behind f (B′ e) s) && above (A′ e) (B′ e) s) below
+
+    rest : not (behind f (B′ e) s) && above (A′ e) (B′ e) s ≡ true
+    rest = and-right (behind f (A′ e) s) (not (behind f (B′ e) s) && above (A′ e) (B′ e) s) below
+
+    high-not : behind f (B′ e) s ≡ false
+    high-not = go (behind f (B′ e) s) (and-left (not (behind f (B′ e) s)) (above (A′ e) (B′ e) s) rest)
+      where
+        go : (b : Bool) → not b ≡ true → b ≡ false
+        go true h = clash (sym h)
+        go false h = refl
+
+    spans : Spans f (A′ e) (B′ e) s
+    spans = record {
+      weight = w;
+      past-low = ltZ-true (pos 0) (ahead f (A′ e) s) low-past;
+      before-high = below-zero (ahead f (B′ e) s) (free-ends f m e s (All-at free here) .1) high-not;
+    }
+
+    over : pos 0 <ℤ left (A′ e) (B′ e) s
+    over = ltZ-true (pos 0) (left (A′ e) (B′ e) s) (and-right (not (behind f (B′ e) s)) (above (A′ e) (B′ e) s) rest)
+
+    abbrev foot : Point
+    foot = spot f (A′ e) (B′ e) s
+
+    foot-on : Strictly f (A′ e) (B′ e) foot
+    foot-on = spot-strictly f (A′ e) (B′ e) s up spans
+
+    scaled-not : (a x : ℤ) → pos 0 <ℤ a → x ≢ pos 0 → a *ℤ x ≢ pos 0
+    scaled-not a x h n = sign-product a x (λ g. positive-not a h g) n .1
+      where
+        positive-not : (a : ℤ) → pos 0 <ℤ a → a ≡ pos 0 → ⊥
+        positive-not a h g = omega (arith, onℤ)
+
+    free-at : (v : Place) → ahead f v s ≢ pos 0 → ahead f v foot ≢ pos 0
+    free-at v n g = scaled-not (rise f (A′ e) (B′ e)) (ahead f v s) up n (sym (spot-ahead f (A′ e) (B′ e) s v) ∙ g)
+
+    free-foot : (d : Arrow) → Free f m s d → Free f m foot d
+    free-foot d g = record { from-free = free-at (at m (d .from)) (g .from-free); to-free = free-at (at m (d .to)) (g .to-free) }
+
+    same-foot : (d : Arrow) → Bare f m ts d → Free f m s d → ClearArrow f m (A′ e) (B′ e) d →
+        (beneath f m s d ≡ true → (left (A′ e) (B′ e) s *ℤ rise f (A′ d) (B′ d)) ≤ℤ (left (A′ d) (B′ d) s *ℤ rise f (A′ e) (B′ e))) →
+        underArrow f m s d ≡ underArrow f m foot d
+    same-foot d b g c n =
+        under-beneath f m d s (b .slanted) w g ∙ ap (λ x. signed (upward f m d) (one x))
+        (beneath-spot f (A′ e) (B′ e) up s spans over (A′ d) (B′ d) (low-high f m d (b .slanted)) (clear-ends f m d (A′ e) (B′ e) c .apart) n) ∙
+        sym (under-beneath f m d foot (b .slanted) (foot-on .weight) (free-foot d g))
+
+    -- all others count the same under the point and under its foot on e, and so under e's own point
+    others-sum : added (underArrow f m s) (others e (border ts)) ≡ one (not (upward f m e))
+    others-sum =
+        added-eq (underArrow f m s) (underArrow f m foot)
+        (All-imp (λ d (b, (g, (c, n))). same-foot d b g c n) (All-both (kept bare) (All-both (kept free) (All-both (own .clear) (kept nearest))))) ∙
+        beside f m ts no-twice (A′ e) (B′ e) up e (arrow-ends f m e) (own .point) foot (own .on) foot-on
+        (All-imp (λ d (c, (p, g)). (c, p, free-foot d g)) (All-both (own .clear) (All-both (own .point-free) (kept free)))) ∙
+        own .nothing
+      where
+        kept : {P : Arrow → Type 0} → All P (border ts) → All P (others e (border ts))
+        kept h = only-keeps (λ d. not (sameArrow e d)) h
+
+    -- e itself is there once
+    own-sum : added (underArrow f m s) (only (sameArrow e) (border ts)) ≡ underArrow f m s e
+    own-sum =
+        added-only (underArrow f m s) (sameArrow e) (border ts) ∙ (λ i. added (λ d. same d i) (border ts)) ∙
+        added-any (sameArrow e) (underArrow f m s e) (border ts) once-there ∙ ap (λ b. when b (underArrow f m s e)) (any-at (sameArrow e) (sameArrow-refl e) here)
+      where
+        same : (d : Arrow) → when (sameArrow e d) (underArrow f m s d) ≡ when (sameArrow e d) (underArrow f m s e)
+        same d = go (sameArrow e d) refl
+          where
+            go : (b : Bool) → sameArrow e d ≡ b → when b (underArrow f m s d) ≡ when b (underArrow f m s e)
+            go true h = sym (ap (underArrow f m s) (sameArrow-eq e d h))
+            go false h = refl
+
+        once-there : count (sameArrow e) (border ts) ≤ 1
+        once-there = let a = only-count (λ d. not (any (holdsArrow (reverse d)) ts)) (sameArrow e) (arrowsOf ts) in let b = no-twice e in omega arith
+
+    border-sum-least : added (underArrow f m s) (border ts) ≡ one (upward f m e)
+    border-sum-least =
+        added-parts (underArrow f m s) (sameArrow e) (border ts) ∙ ap₂ _+ℤ_ (own-sum ∙ under-beneath f m e s (own .slanted) w (All-at free here) ∙ ap (λ b. signed (upward f m e) (one b)) below) others-sum ∙
+        total (upward f m e)
+      where
+        total : (b : Bool) → signed b (pos 1) +ℤ one (not b) ≡ one b
+        total true = refl
+        total false = refl
+
+  -- the border comes to 0 or 1 under the point
+  pub zero-or-one : (b : Bool) × (added (underArrow f m s) (border ts) ≡ one b)
+  zero-or-one = go gaps
+    where
+      go : Least (λ e. left (lowEnd f m e) (highEnd f m e) s) (λ e. rise f (lowEnd f m e) (highEnd f m e)) (beneath f m s) (border ts) → (b : Bool) × (added (underArrow f m s) (border ts) ≡ one b)
+      go (none-passes h) = (false, none-beneath h)
+      go (least e i p h) = (upward f m e, border-sum-least e i p h)

@@ -106,7 +106,7 @@ lt-not {z} h = le-ltZ (pos 0) z (omega (arith, onℤ))
 positive : (a : ℕ) → ltZ (pos 0) (pos (suc a)) ≡ true
 positive a = lt-ltZ (pos 0) (pos (suc a)) (omega (arith, onℤ))
 
-sign-product : (a b : ℤ) → a ≢ pos 0 → b ≢ pos 0 → (ltZ (pos 0) (a *ℤ b) ≡ agree (ltZ (pos 0) a) (ltZ (pos 0) b)) × (a *ℤ b ≢ pos 0)
+pub sign-product : (a b : ℤ) → a ≢ pos 0 → b ≢ pos 0 → (ltZ (pos 0) (a *ℤ b) ≡ agree (ltZ (pos 0) a) (ltZ (pos 0) b)) × (a *ℤ b ≢ pos 0)
 sign-product (pos zero) b h i = absurd (h refl)
 sign-product (pos (suc a)) (pos zero) h i = absurd (i refl)
 sign-product (pos (suc a)) (pos (suc b)) h i =

@@ -298,3 +298,31 @@ module _ (f : Form) (m : Mesh) (ts : List Tri) (no-twice : Once (arrowsOf ts)) (
       go : Least (λ e. left (lowEnd f m e) (highEnd f m e) s) (λ e. rise f (lowEnd f m e) (highEnd f m e)) (beneath f m s) (border ts) → (b : Bool) × (added (underArrow f m s) (border ts) ≡ one b)
       go (none-passes h) = (false, none-beneath h)
       go (least e i p h) = (upward f m e, border-sum-least e i p h)
+
+-- ---- at most one row
+
+-- of a point off the rows no border arrow's end has the key
+pub free-border : (f : Form) (m : Mesh) (s : Point) → OffRows f m s → All (Free f m s) (border (m .tris))
+free-border f m s off = only-keeps _ (All-joined arrows (All-imp row off))
+  where
+    not-zero : (v : Place) → key f v *ℤ s .W ≢ keyAt f s → ahead f v s ≢ pos 0
+    not-zero v n e = n (equal (keyAt f s) (key f v *ℤ s .W) e)
+      where
+        equal : (a b : ℤ) → a -ℤ b ≡ pos 0 → b ≡ a
+        equal a b e = omega (arith, onℤ, subℤ a b)
+
+    row : (t : Tri) → Off f (shape m t) s → All (Free f m s) (arrows t)
+    row t o =
+        let p = not-zero (at m (t .p)) (o .key-p) in
+        let q = not-zero (at m (t .q)) (o .key-q) in
+        let r = not-zero (at m (t .r)) (o .key-r) in
+        cons (record { from-free = p; to-free = q }) (cons (record { from-free = q; to-free = r }) (cons (record { from-free = r; to-free = p }) nil))
+
+-- where no border arrow is met and no row lies just right of one, no point off the lines is inside two rows
+pub at-most-one : (f : Form) (m : Mesh) → All (λ t. pos 0 <ℤ area (shape m t)) (m .tris) → Once (arrowsOf (m .tris)) → All (Bare f m (m .tris)) (border (m .tris)) →
+    (s : Point) → pos 0 <ℤ s .W → OffRows f m s → depth m s ≤ 1
+at-most-one f m h o bare s w off = go (zero-or-one f m (m .tris) o bare s w (free-border f m s off))
+  where
+    go : (b : Bool) × (added (underArrow f m s) (border (m .tris)) ≡ one b) → depth m s ≤ 1
+    go (true, e) = let g : pos (depth m s) ≡ pos 1 = depth-border f m s h o off ∙ e in omega (arith, onℤ)
+    go (false, e) = let g : pos (depth m s) ≡ pos 0 = depth-border f m s h o off ∙ e in omega (arith, onℤ)

@@ -9,3 +9,4 @@ pub mod Alike
 pub mod Beside
 pub mod Least
 pub mod Nearest
+pub mod Near

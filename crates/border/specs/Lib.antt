@@ -10,3 +10,4 @@ pub mod Beside
 pub mod Least
 pub mod Nearest
 pub mod Near
+pub mod Disjoint

@@ -10,11 +10,13 @@ use lib.Signed.{ltZ, _≤ℤ_, _<ℤ_}
 use Rattle.whole.specs.Diff.{onℤ, sumℤ, subℤ, mulℤ, negℤ-ud}
 use Rattle.whole.specs.Ring.{Expr, K, _:+_, _:-_, _:*_, neg, ring2, ring3, ring6, ring9, combine₂}
 use Rattle.lists.specs.Lists.{All, nil, cons}
+use Rattle.lists.specs.ListsLaw.{All-imp}
 use Rattle.meaning.specs.declared.Place.{Place}
-use Rattle.meaning.specs.Mesh.{turn}
-use Rattle.meaning.specs.Proper.{Point, Shape, Inside, area, left}
+use Rattle.meaning.specs.Mesh.{Mesh, turn}
+use Rattle.meaning.specs.Proper.{Point, Shape, Inside, area, shape, left}
 use Rattle.laws.specs.Area.{turn-cycle}
 use Rattle.border.specs.Under.{Form, Off, key, keyAt, ahead, Left}
+use Rattle.border.specs.Count.{OffRows}
 use Rattle.border.specs.Segment.{Ahead}
 
 -- ---- from some number on
@@ -141,3 +143,15 @@ inside-near t s k h =
   where
     side : (A B : Place) → pos 0 <ℤ left A B s → Eventually (λ n. pos 0 <ℤ left A B (near s k n))
     side A B i = imply-from (λ n l. subst (λ z. pos 0 <ℤ z) (sym (left-near A B s k n)) l) (line-above (left A B s) (tilt A B k) i)
+
+-- near any point there is one off the lines and keys of all rows, of which all holds that holds near enough
+pub generic-near : (f : Form) → f .across ≢ pos 0 → (m : Mesh) → All (λ t. pos 0 <ℤ area (shape m t)) (m .tris) → (s : Point) → pos 0 <ℤ s .W →
+    (Q : Point → Type 0) → ((k : ℕ) → Eventually (λ n. Q (near s k n))) → (p : Point) × (pos 0 <ℤ p .W) × OffRows f m p × Q p
+generic-near f across m h s w Q q =
+    let directions = both-from (all-from (All-imp (λ t g. tilted-from (shape m t) g) h)) (line-not (f .across) (f .along) (λ e. absurd (across e))) in
+    let k = directions .start in
+    let (tilted, grows) = directions .holds k (omega arith) in
+    let distances = both-from (line-above (s .W) (pos 0) w) (both-from (all-from (All-imp (λ t g. off-near f (shape m t) s k w g grows) tilted)) (q k)) in
+    let n = distances .start in
+    let (weight, (off, holds)) = distances .holds n (omega arith) in
+    (near s k n, weight, off, holds)

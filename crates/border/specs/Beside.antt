@@ -1,27 +1,28 @@
 -- Beside a border arrow: what the other border arrows count is the same at all points of it that have no node's key. Assumes nothing.
 use mathlib.Core.Bool.{Bool, true, false, not, _&&_}
-use mathlib.Core.List.{List, [], _∷_}
+use mathlib.Core.List.{List, [], _∷_, List·Memᴰ}
 use mathlib.Core.Logic.{_≢_, _⊎_, inl, inr}
 use mathlib.Core.Path.{_≡_, refl, sym, ap, ap₂, subst, _∙_}
-use Prim.Native.Nat.{ℕ}
+use Prim.Native.Nat.{ℕ, _≤_}
 use native.Mathlib.Omega.{arith}
 use lib.IntN.{ℤ, pos, negsuc, negℤ, _+ℤ_, _-ℤ_, _*ℤ_}
 use lib.Signed.{ltZ, _≤ℤ_, _<ℤ_}
+use borrow.Author.Tests.{eq-eqb}
 use Rattle.whole.specs.Diff.{onℤ, sumℤ, subℤ, negℤ-ud}
 use Rattle.whole.specs.Tests.{ltZ-true, ltZ-false, lt-ltZ, le-ltZ}
 use Rattle.whole.specs.Order.{le-antisymm}
 use Rattle.whole.specs.Ring.{Expr, K, _:+_, _:-_, _:*_, neg, ring2, ring3, ring4, ring6}
-use Rattle.lists.specs.Lists.{only, All, nil, cons}
-use Rattle.lists.specs.ListsLaw.{All-imp}
+use Rattle.lists.specs.Lists.{any, only, count, consIf, sucIf, All}
+use Rattle.lists.specs.ListsLaw.{and-both, any-at, All-imp}
 use Rattle.lists.specs.MembersLaw.{only-passes}
 use Rattle.meaning.specs.declared.Place.{Place}
 use Rattle.meaning.specs.declared.Tri.{Tri}
-use Rattle.meaning.specs.Mesh.{Mesh, Arrow, arrow, sameArrow, at}
+use Rattle.meaning.specs.Mesh.{Mesh, Arrow, arrow, sameArrow, holdsArrow, at}
 use Rattle.meaning.specs.Proper.{Point, left}
 use Rattle.laws.specs.Edges.{sameArrow-eq}
-use Rattle.border.specs.Sums.{one, added, added-eq, added-zero, added-sum, added-neg, added-parts}
+use Rattle.border.specs.Sums.{when, one, added, added-eq, added-zero, added-sum, added-neg, added-only, added-any, added-parts}
 use Rattle.border.specs.Under.{Form, key, keyAt, under, ahead, under-swapped, below-zero}
-use Rattle.border.specs.Cancel.{Once, arrowsOf, border, balance}
+use Rattle.border.specs.Cancel.{Once, reverse, arrowsOf, border, balance}
 use Rattle.border.specs.Count.{underArrow}
 use Rattle.border.specs.Segment.{Strictly, Apart, rise}
 use Rattle.border.specs.Alike.{under-alike}
@@ -74,6 +75,46 @@ module _ (f : Form) (A B : Place) (low-high : pos 0 <ℤ rise f A B) (s t : Poin
 -- the other arrows
 abbrev pub others : Arrow → List Arrow → List Arrow
 others e es = only (λ d. not (sameArrow e d)) es
+
+sameArrow-refl : (e : Arrow) → sameArrow e e ≡ true
+sameArrow-refl e = and-both (eq-eqb (e .from) (e .from) refl) (eq-eqb (e .to) (e .to) refl)
+
+only-count : {X : Type 0} (p q : X → Bool) (l : List X) → count q (only p l) ≤ count q l
+only-count p q [] = omega arith
+only-count p q (x ∷ xs) = go (p x) (q x) (only-count p q xs)
+  where
+    go : (a b : Bool) → count q (only p xs) ≤ count q xs → count q (consIf a x (only p xs)) ≤ sucIf (q x) (count q xs)
+    go true b h = more (q x)
+      where
+        more : (c : Bool) → sucIf c (count q (only p xs)) ≤ sucIf c (count q xs)
+        more true = omega arith
+        more false = h
+    go false b h = more (q x)
+      where
+        more : (c : Bool) → count q (only p xs) ≤ sucIf c (count q xs)
+        more true = omega arith
+        more false = h
+
+-- an arrow of the border is there once
+module _ (ts : List Tri) (no-twice : Once (arrowsOf ts)) (e : Arrow) (here : List·Memᴰ e (border ts)) (φ : Arrow → ℤ) where
+  own-sum : added φ (only (sameArrow e) (border ts)) ≡ φ e
+  own-sum =
+      added-only φ (sameArrow e) (border ts) ∙ (λ i. added (λ d. same d i) (border ts)) ∙
+      added-any (sameArrow e) (φ e) (border ts) once-there ∙ ap (λ b. when b (φ e)) (any-at (sameArrow e) (sameArrow-refl e) here)
+    where
+      same : (d : Arrow) → when (sameArrow e d) (φ d) ≡ when (sameArrow e d) (φ e)
+      same d = go (sameArrow e d) refl
+        where
+          go : (b : Bool) → sameArrow e d ≡ b → when b (φ d) ≡ when b (φ e)
+          go true h = sym (ap φ (sameArrow-eq e d h))
+          go false h = refl
+
+      once-there : count (sameArrow e) (border ts) ≤ 1
+      once-there = let a = only-count (λ d. not (any (holdsArrow (reverse d)) ts)) (sameArrow e) (arrowsOf ts) in let b = no-twice e in omega arith
+
+  -- it and the others
+  pub border-split : added φ (border ts) ≡ φ e +ℤ added φ (others e (border ts))
+  border-split = added-parts φ (sameArrow e) (border ts) ∙ ap (λ k. k +ℤ added φ (others e (border ts))) own-sum
 
 -- neither end of d has the key of s
 pub record Free (f : Form) (m : Mesh) (s : Point) (d : Arrow) : Type 0 where

@@ -26,7 +26,7 @@ use Rattle.border.specs.Cancel.{Once, reverse, arrowsOf, border}
 use Rattle.border.specs.Count.{underArrow, depth, OffRows, depth-border}
 use Rattle.border.specs.Segment.{Strictly, Within, Spans, Apart, rise, spot, above, left-spot, spot-ahead, spot-strictly, spot-within, times-to}
 use Rattle.border.specs.Along.{behind, under-rising, unscale-above}
-use Rattle.border.specs.Beside.{Clear, clear-back, Slant, rising, falling, slant, others, Free, ClearArrow, Ends, forth, back, beside}
+use Rattle.border.specs.Beside.{Clear, clear-back, Slant, rising, falling, slant, others, Free, ClearArrow, Ends, forth, back, border-split, beside}
 use Rattle.border.specs.Least.{Least, none-passes, least, find-least}
 
 -- ---- an arrow by its lower and its higher end
@@ -150,25 +150,6 @@ module _ (f : Form) (A B : Place) (up : pos 0 <ℤ rise f A B) (s : Point) (span
 
 -- ---- the border
 
-sameArrow-refl : (e : Arrow) → sameArrow e e ≡ true
-sameArrow-refl e = and-both (eq-eqb (e .from) (e .from) refl) (eq-eqb (e .to) (e .to) refl)
-
-only-count : {X : Type 0} (p q : X → Bool) (l : List X) → count q (only p l) ≤ count q l
-only-count p q [] = omega arith
-only-count p q (x ∷ xs) = go (p x) (q x) (only-count p q xs)
-  where
-    go : (a b : Bool) → count q (only p xs) ≤ count q xs → count q (consIf a x (only p xs)) ≤ sucIf (q x) (count q xs)
-    go true b h = more (q x)
-      where
-        more : (c : Bool) → sucIf c (count q (only p xs)) ≤ sucIf c (count q xs)
-        more true = omega arith
-        more false = h
-    go false b h = more (q x)
-      where
-        more : (c : Bool) → count q (only p xs) ≤ sucIf c (count q xs)
-        more true = omega arith
-        more false = h
-
 -- nothing meets e, and no row lies just right of it: at a point of e the other border arrows come to what e itself would add there
 pub record Bare (f : Form) (m : Mesh) (ts : List Tri) (e : Arrow) : Type 0 where
   pub slanted : Slanted f m e
@@ -266,25 +247,10 @@ module _ (f : Form) (m : Mesh) (ts : List Tri) (no-twice : Once (arrowsOf ts)) (
         kept : {P : Arrow → Type 0} → All P (border ts) → All P (others e (border ts))
         kept h = only-keeps (λ d. not (sameArrow e d)) h
 
-    -- e itself is there once
-    own-sum : added (underArrow f m s) (only (sameArrow e) (border ts)) ≡ underArrow f m s e
-    own-sum =
-        added-only (underArrow f m s) (sameArrow e) (border ts) ∙ (λ i. added (λ d. same d i) (border ts)) ∙
-        added-any (sameArrow e) (underArrow f m s e) (border ts) once-there ∙ ap (λ b. when b (underArrow f m s e)) (any-at (sameArrow e) (sameArrow-refl e) here)
-      where
-        same : (d : Arrow) → when (sameArrow e d) (underArrow f m s d) ≡ when (sameArrow e d) (underArrow f m s e)
-        same d = go (sameArrow e d) refl
-          where
-            go : (b : Bool) → sameArrow e d ≡ b → when b (underArrow f m s d) ≡ when b (underArrow f m s e)
-            go true h = sym (ap (underArrow f m s) (sameArrow-eq e d h))
-            go false h = refl
-
-        once-there : count (sameArrow e) (border ts) ≤ 1
-        once-there = let a = only-count (λ d. not (any (holdsArrow (reverse d)) ts)) (sameArrow e) (arrowsOf ts) in let b = no-twice e in omega arith
-
     border-sum-least : added (underArrow f m s) (border ts) ≡ one (upward f m e)
     border-sum-least =
-        added-parts (underArrow f m s) (sameArrow e) (border ts) ∙ ap₂ _+ℤ_ (own-sum ∙ under-beneath f m e s (own .slanted) w (All-at free here) ∙ ap (λ b. signed (upward f m e) (one b)) below) others-sum ∙
+        border-split ts no-twice e here (underArrow f m s) ∙
+        ap₂ _+ℤ_ (under-beneath f m e s (own .slanted) w (All-at free here) ∙ ap (λ b. signed (upward f m e) (one b)) below) others-sum ∙
         total (upward f m e)
       where
         total : (b : Bool) → signed b (pos 1) +ℤ one (not b) ≡ one b

@@ -11,3 +11,4 @@ pub mod Least
 pub mod Nearest
 pub mod Near
 pub mod Disjoint
+pub mod Sides

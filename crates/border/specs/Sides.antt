@@ -1,0 +1,89 @@
+-- Just right and just left of a border arrow: how many rows are there, by the other border arrows at a point of it. Assumes nothing.
+use mathlib.Core.Bool.{Bool, true, false, not, _&&_}
+use mathlib.Core.List.{List, [], _∷_, List·Memᴰ}
+use mathlib.Core.Logic.{_≢_}
+use mathlib.Core.Path.{_≡_, refl, sym, ap, ap₂, subst, _∙_}
+use Prim.Native.Nat.{ℕ, zero, suc, _+_, _≤_, _<_}
+use native.Mathlib.Omega.{arith}
+use lib.IntN.{ℤ, pos, negsuc, negℤ, _+ℤ_, _-ℤ_, _*ℤ_}
+use lib.Signed.{ltZ, _≤ℤ_, _<ℤ_}
+use Rattle.whole.specs.Diff.{onℤ, sumℤ, subℤ, negℤ-ud}
+use Rattle.whole.specs.Ring.{Expr, K, _:+_, _:-_, _:*_, neg, ring3, ring4}
+use Rattle.whole.specs.Tests.{ltZ-true, ltZ-false, lt-ltZ, le-ltZ}
+use Rattle.lists.specs.Lists.{cases, All, nil, cons}
+use Rattle.lists.specs.ListsLaw.{clash, All-imp, All-both, All-at}
+use Rattle.lists.specs.MembersLaw.{only-keeps}
+use Rattle.meaning.specs.declared.Place.{Place}
+use Rattle.meaning.specs.declared.Tri.{Tri}
+use Rattle.meaning.specs.Mesh.{Mesh, Arrow, sameArrow, at}
+use Rattle.meaning.specs.Proper.{Point, area, shape, left}
+use Rattle.border.specs.Sums.{one, added, added-eq}
+use Rattle.border.specs.Under.{Form, key, keyAt, ahead, below-zero, left-swapped}
+use Rattle.border.specs.Cancel.{Once, arrowsOf, border}
+use Rattle.border.specs.Count.{underArrow, depth, OffRows, depth-border}
+use Rattle.border.specs.Segment.{Strictly, Within, Apart, rise, above}
+use Rattle.border.specs.Along.{behind}
+use Rattle.border.specs.Beside.{Clear, others, Free, ClearArrow, border-split}
+use Rattle.border.specs.Nearest.{upward, lowEnd, highEnd, signed, beneath, Slanted, Bare, low-high, clear-ends, free-ends, under-beneath, free-border}
+use Rattle.border.specs.Near.{Eventually, from-now, both-from, imply-from, all-from, line, line-above, near, tilt, growth, left-near, ahead-near, left-off, ahead-off, weight-stays, Direction, direction-back, directions, point-near}
+
+-- ---- signs that stay
+
+sign-stays : (c d : ℤ) → c ≢ pos 0 → Eventually (λ n. ltZ (pos 0) (line c d n) ≡ ltZ (pos 0) c)
+sign-stays c d n = go (ltZ (pos 0) c) refl
+  where
+    minus : (n : ℕ) (c d : ℤ) → line (negℤ c) (negℤ d) n ≡ negℤ (line c d n)
+    minus n c d = ring3 (λ n c d. (n :* neg c :+ neg d, neg (n :* c :+ d))) (pos n) c d tt
+
+    negative : (z : ℤ) → z <ℤ pos 0 → pos 0 <ℤ negℤ z
+    negative z h = omega (arith, onℤ, negℤ-ud z)
+
+    not-above : (z : ℤ) → pos 0 <ℤ negℤ z → ltZ (pos 0) z ≡ false
+    not-above z h = le-ltZ (pos 0) z (omega (arith, onℤ, negℤ-ud z))
+
+    go : (b : Bool) → ltZ (pos 0) c ≡ b → Eventually (λ n. ltZ (pos 0) (line c d n) ≡ b)
+    go true e = imply-from (λ n l. lt-ltZ (pos 0) (line c d n) l) (line-above c d (ltZ-true (pos 0) c e))
+    go false e =
+        imply-from (λ n l. not-above (line c d n) (subst (λ k. pos 0 <ℤ k) (minus n c d) l)) (line-above (negℤ c) (negℤ d) (negative c (below-zero c n e)))
+
+module _ (f : Form) (s : Point) (u v : ℤ) where
+  pub behind-stays : (A : Place) → ahead f A s ≢ pos 0 → Eventually (λ n. behind f A (near s u v n) ≡ behind f A s)
+  behind-stays A h = imply-from (λ n l. ap (ltZ (pos 0)) (ahead-near f A s u v n) ∙ l) (sign-stays (ahead f A s) (growth f u v) h)
+
+  pub above-stays : (C D : Place) → left C D s ≢ pos 0 → Eventually (λ n. above C D (near s u v n) ≡ above C D s)
+  above-stays C D h = imply-from (λ n l. ap (ltZ (pos 0)) (left-near C D s u v n) ∙ l) (sign-stays (left C D s) (tilt C D u v) h)
+
+  between-stays : (C D : Place) → ahead f C s ≢ pos 0 → ahead f D s ≢ pos 0 → (Within f C D s → left C D s ≢ pos 0) →
+      Eventually (λ n. behind f C (near s u v n) && (not (behind f D (near s u v n)) && above C D (near s u v n)) ≡ behind f C s && (not (behind f D s) && above C D s))
+  between-stays C D nc nd off = go (behind f C s) (behind f D s) refl refl
+    where
+      weaker : (z : ℤ) → pos 0 <ℤ z → pos 0 ≤ℤ z
+      weaker z h = omega (arith, onℤ)
+
+      shut : (a c : Bool) {b : Bool} → b ≡ true → a && (not b && c) ≡ false
+      shut true c h = ap (λ b. not b && c) h
+      shut false c h = refl
+
+      go : (x y : Bool) → behind f C s ≡ x → behind f D s ≡ y →
+          Eventually (λ n. behind f C (near s u v n) && (not (behind f D (near s u v n)) && above C D (near s u v n)) ≡ behind f C s && (not (behind f D s) && above C D s))
+      go true true e g =
+          imply-from (λ n l. shut (behind f C (near s u v n)) (above C D (near s u v n)) (l ∙ g) ∙ sym (shut (behind f C s) (above C D s) g)) (behind-stays D nd)
+      go true false e g =
+          imply-from (λ n (a, (b, c)). λ i. a i && (not (b i) && c i))
+          (both-from (behind-stays C nc) (both-from (behind-stays D nd)
+          (above-stays C D (off (record { from-low = weaker (ahead f C s) (ltZ-true (pos 0) (ahead f C s) e); to-high = ltZ-false (pos 0) (ahead f D s) g })))))
+      go false y e g =
+          imply-from (λ n l. ap (λ b. b && (not (behind f D (near s u v n)) && above C D (near s u v n))) (l ∙ e) ∙ sym (ap (λ b. b && (not (behind f D s) && above C D s)) e)) (behind-stays C nc)
+
+  -- what an arrow counts stays, if it does not pass through the point
+  module _ (m : Mesh) (w : pos 0 <ℤ s .W) (grows : growth f u v ≢ pos 0) (d : Arrow) (slanted : Slanted f m d) (free : Free f m s d) where
+    free-near : Eventually (λ n. Free f m (near s u v n) d)
+    free-near = imply-from (λ n (a, b). record { from-free = a; to-free = b }) (both-from (ahead-off s u v f (at m (d .from)) grows) (ahead-off s u v f (at m (d .to)) grows))
+
+    beneath-stays : (Within f (lowEnd f m d) (highEnd f m d) s → left (lowEnd f m d) (highEnd f m d) s ≢ pos 0) → Eventually (λ n. beneath f m (near s u v n) d ≡ beneath f m s d)
+    beneath-stays off = between-stays (lowEnd f m d) (highEnd f m d) (free-ends f m d s free .0) (free-ends f m d s free .1) off
+
+    pub under-stays : (Within f (lowEnd f m d) (highEnd f m d) s → left (lowEnd f m d) (highEnd f m d) s ≢ pos 0) → Eventually (λ n. underArrow f m (near s u v n) d ≡ underArrow f m s d)
+    under-stays off =
+        imply-from (λ n (a, (b, c)). under-beneath f m d (near s u v n) slanted b c ∙ ap (λ x. signed (upward f m d) (one x)) a ∙ sym (under-beneath f m d s slanted w free))
+        (both-from (beneath-stays off) (both-from (weight-stays s u v w) free-near))

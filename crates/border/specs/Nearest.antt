@@ -150,14 +150,22 @@ module _ (f : Form) (A B : Place) (up : pos 0 <ℤ rise f A B) (s : Point) (span
 
 -- ---- the border
 
--- nothing meets e, and no row lies just right of it: at a point of e the other border arrows come to what e itself would add there
-pub record Bare (f : Form) (m : Mesh) (ts : List Tri) (e : Arrow) : Type 0 where
+-- no other border arrow meets e between its ends; and a point of e whose key no end of another has
+pub record Lone (f : Form) (m : Mesh) (ts : List Tri) (e : Arrow) : Type 0 where
   pub slanted : Slanted f m e
   pub clear : All (ClearArrow f m (lowEnd f m e) (highEnd f m e)) (others e (border ts))
   pub point : Point
   pub on : Strictly f (lowEnd f m e) (highEnd f m e) point
   pub point-free : All (Free f m point) (others e (border ts))
-  pub nothing : added (underArrow f m point) (others e (border ts)) ≡ one (not (upward f m e))
+
+-- what the other border arrows come to at e's point
+abbrev pub othersAt : (f : Form) (m : Mesh) (ts : List Tri) (e : Arrow) → Lone f m ts e → ℤ
+othersAt f m ts e l = added (underArrow f m (l .point)) (others e (border ts))
+
+-- and no row lies just right of e: the others come to what e itself takes away there
+pub record Bare (f : Form) (m : Mesh) (ts : List Tri) (e : Arrow) : Type 0 where
+  pub lone : Lone f m ts e
+  pub nothing : othersAt f m ts e lone ≡ one (not (upward f m e))
 
 module _ (f : Form) (m : Mesh) (ts : List Tri) (no-twice : Once (arrowsOf ts)) (bare : All (Bare f m ts) (border ts)) (s : Point) (w : pos 0 <ℤ s .W) (free : All (Free f m s) (border ts)) where
   abbrev A′ : Arrow → Place
@@ -167,7 +175,7 @@ module _ (f : Form) (m : Mesh) (ts : List Tri) (no-twice : Once (arrowsOf ts)) (
   B′ = highEnd f m
 
   gaps : Least (λ e. left (lowEnd f m e) (highEnd f m e) s) (λ e. rise f (lowEnd f m e) (highEnd f m e)) (beneath f m s) (border ts)
-  gaps = find-least _ _ _ (All-imp (λ e b. low-high f m e (b .slanted)) bare)
+  gaps = find-least _ _ _ (All-imp (λ e b. low-high f m e (b .lone .slanted)) bare)
 
   signed-zero : (b : Bool) → signed b (pos 0) ≡ pos 0
   signed-zero true = refl
@@ -176,7 +184,7 @@ module _ (f : Form) (m : Mesh) (ts : List Tri) (no-twice : Once (arrowsOf ts)) (
   none-beneath : All (λ e. beneath f m s e ≡ false) (border ts) → added (underArrow f m s) (border ts) ≡ pos 0
   none-beneath h =
       added-zero (underArrow f m s)
-      (All-imp (λ e (n, (b, g)). under-beneath f m e s (b .slanted) w g ∙ ap (λ c. signed (upward f m e) (one c)) n ∙ signed-zero (upward f m e)) (All-both h (All-both bare free)))
+      (All-imp (λ e (n, (b, g)). under-beneath f m e s (b .lone .slanted) w g ∙ ap (λ c. signed (upward f m e) (one c)) n ∙ signed-zero (upward f m e)) (All-both h (All-both bare free)))
 
   module _ (e : Arrow) (here : List·Memᴰ e (border ts)) (below : beneath f m s e ≡ true)
       (nearest : All (λ d. beneath f m s d ≡ true → (left (A′ e) (B′ e) s *ℤ rise f (A′ d) (B′ d)) ≤ℤ (left (A′ d) (B′ d) s *ℤ rise f (A′ e) (B′ e))) (border ts)) where
@@ -184,7 +192,7 @@ module _ (f : Form) (m : Mesh) (ts : List Tri) (no-twice : Once (arrowsOf ts)) (
     own = All-at bare here
 
     up : pos 0 <ℤ rise f (A′ e) (B′ e)
-    up = low-high f m e (own .slanted)
+    up = low-high f m e (own .lone .slanted)
 
     low-past : behind f (A′ e) s ≡ true
     low-past = and-left (behind f (A′ e) s) (not (behind f (B′ e) s) && above (A′ e) (B′ e) s) below
@@ -231,17 +239,17 @@ module _ (f : Form) (m : Mesh) (ts : List Tri) (no-twice : Once (arrowsOf ts)) (
         (beneath f m s d ≡ true → (left (A′ e) (B′ e) s *ℤ rise f (A′ d) (B′ d)) ≤ℤ (left (A′ d) (B′ d) s *ℤ rise f (A′ e) (B′ e))) →
         underArrow f m s d ≡ underArrow f m foot d
     same-foot d b g c n =
-        under-beneath f m d s (b .slanted) w g ∙ ap (λ x. signed (upward f m d) (one x))
-        (beneath-spot f (A′ e) (B′ e) up s spans over (A′ d) (B′ d) (low-high f m d (b .slanted)) (clear-ends f m d (A′ e) (B′ e) c .apart) n) ∙
-        sym (under-beneath f m d foot (b .slanted) (foot-on .weight) (free-foot d g))
+        under-beneath f m d s (b .lone .slanted) w g ∙ ap (λ x. signed (upward f m d) (one x))
+        (beneath-spot f (A′ e) (B′ e) up s spans over (A′ d) (B′ d) (low-high f m d (b .lone .slanted)) (clear-ends f m d (A′ e) (B′ e) c .apart) n) ∙
+        sym (under-beneath f m d foot (b .lone .slanted) (foot-on .weight) (free-foot d g))
 
     -- all others count the same under the point and under its foot on e, and so under e's own point
     others-sum : added (underArrow f m s) (others e (border ts)) ≡ one (not (upward f m e))
     others-sum =
         added-eq (underArrow f m s) (underArrow f m foot)
-        (All-imp (λ d (b, (g, (c, n))). same-foot d b g c n) (All-both (kept bare) (All-both (kept free) (All-both (own .clear) (kept nearest))))) ∙
-        beside f m ts no-twice (A′ e) (B′ e) up e (arrow-ends f m e) (own .point) foot (own .on) foot-on
-        (All-imp (λ d (c, (p, g)). (c, p, free-foot d g)) (All-both (own .clear) (All-both (own .point-free) (kept free)))) ∙
+        (All-imp (λ d (b, (g, (c, n))). same-foot d b g c n) (All-both (kept bare) (All-both (kept free) (All-both (own .lone .clear) (kept nearest))))) ∙
+        beside f m ts no-twice (A′ e) (B′ e) up e (arrow-ends f m e) (own .lone .point) foot (own .lone .on) foot-on
+        (All-imp (λ d (c, (p, g)). (c, p, free-foot d g)) (All-both (own .lone .clear) (All-both (own .lone .point-free) (kept free)))) ∙
         own .nothing
       where
         kept : {P : Arrow → Type 0} → All P (border ts) → All P (others e (border ts))
@@ -250,7 +258,7 @@ module _ (f : Form) (m : Mesh) (ts : List Tri) (no-twice : Once (arrowsOf ts)) (
     border-sum-least : added (underArrow f m s) (border ts) ≡ one (upward f m e)
     border-sum-least =
         border-split ts no-twice e here (underArrow f m s) ∙
-        ap₂ _+ℤ_ (under-beneath f m e s (own .slanted) w (All-at free here) ∙ ap (λ b. signed (upward f m e) (one b)) below) others-sum ∙
+        ap₂ _+ℤ_ (under-beneath f m e s (own .lone .slanted) w (All-at free here) ∙ ap (λ b. signed (upward f m e) (one b)) below) others-sum ∙
         total (upward f m e)
       where
         total : (b : Bool) → signed b (pos 1) +ℤ one (not b) ≡ one b

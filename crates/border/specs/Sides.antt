@@ -24,7 +24,7 @@ use Rattle.border.specs.Count.{underArrow, depth, OffRows, depth-border}
 use Rattle.border.specs.Segment.{Strictly, Within, Apart, rise, above}
 use Rattle.border.specs.Along.{behind}
 use Rattle.border.specs.Beside.{Clear, others, Free, ClearArrow, border-split}
-use Rattle.border.specs.Nearest.{upward, lowEnd, highEnd, signed, beneath, Slanted, Bare, low-high, clear-ends, free-ends, under-beneath, free-border}
+use Rattle.border.specs.Nearest.{upward, lowEnd, highEnd, signed, beneath, Slanted, Lone, othersAt, low-high, clear-ends, free-ends, under-beneath, free-border}
 use Rattle.border.specs.Near.{Eventually, from-now, both-from, imply-from, all-from, line, line-above, near, tilt, growth, left-near, ahead-near, left-off, ahead-off, weight-stays, Direction, direction-back, directions, point-near}
 
 -- ---- signs that stay
@@ -87,3 +87,50 @@ module _ (f : Form) (s : Point) (u v : ℤ) where
     under-stays off =
         imply-from (λ n (a, (b, c)). under-beneath f m d (near s u v n) slanted b c ∙ ap (λ x. signed (upward f m d) (one x)) a ∙ sym (under-beneath f m d s slanted w free))
         (both-from (beneath-stays off) (both-from (weight-stays s u v w) free-near))
+
+-- ---- on either side of a border arrow
+
+module _ (f : Form) (m : Mesh) (ts : List Tri) (slanted : All (Slanted f m) (border ts)) (e : Arrow) (lone : Lone f m ts e) (u v : ℤ) (grows : growth f u v ≢ pos 0) where
+  -- the others count as at e's point
+  others-near : Eventually (λ n. added (underArrow f m (near (lone .point) u v n)) (others e (border ts)) ≡ othersAt f m ts e lone)
+  others-near =
+      imply-from (λ n h. added-eq (underArrow f m (near (lone .point) u v n)) (underArrow f m (lone .point)) h)
+      (all-from (All-imp (λ d (k, (g, c)). under-stays f (lone .point) u v m (lone .on .weight) grows d k g
+      (clear-ends f m d (lowEnd f m e) (highEnd f m e) c .apart (lone .point) (lone .on)))
+      (All-both (only-keeps (λ d. not (sameArrow e d)) slanted) (All-both (lone .point-free) (lone .clear)))))
+
+  ends-free : Free f m (lone .point) e
+  ends-free = go (upward f m e) (lone .on .past-low) (lone .on .before-high)
+    where
+      above-not : (z : ℤ) → pos 0 <ℤ z → z ≢ pos 0
+      above-not z h g = omega (arith, onℤ)
+
+      below-not : (z : ℤ) → z <ℤ pos 0 → z ≢ pos 0
+      below-not z h g = omega (arith, onℤ)
+
+      go : (b : Bool) → pos 0 <ℤ ahead f (cases b (at m (e .from)) (at m (e .to))) (lone .point) → ahead f (cases b (at m (e .to)) (at m (e .from))) (lone .point) <ℤ pos 0 → Free f m (lone .point) e
+      go true h i = record { from-free = above-not (ahead f (at m (e .from)) (lone .point)) h; to-free = below-not (ahead f (at m (e .to)) (lone .point)) i }
+      go false h i = record { from-free = below-not (ahead f (at m (e .from)) (lone .point)) i; to-free = above-not (ahead f (at m (e .to)) (lone .point)) h }
+
+  -- e itself counts as the direction turns
+  own-near : Eventually (λ n. underArrow f m (near (lone .point) u v n) e ≡ signed (upward f m e) (one (ltZ (pos 0) (tilt (lowEnd f m e) (highEnd f m e) u v))))
+  own-near =
+      imply-from (λ n (w, (g, (a, b))). under-beneath f m e (near (lone .point) u v n) (lone .slanted) w g ∙
+      ap (signed (upward f m e)) (λ i. one (low-past n a i && (not (high-not n b i) && side n i))))
+      (both-from (weight-stays (lone .point) u v (lone .on .weight)) (both-from (free-near f (lone .point) u v m (lone .on .weight) grows e (lone .slanted) ends-free)
+      (both-from (behind-stays f (lone .point) u v (lowEnd f m e) (free-ends f m e (lone .point) ends-free .0))
+      (behind-stays f (lone .point) u v (highEnd f m e) (free-ends f m e (lone .point) ends-free .1)))))
+    where
+      low-past : (n : ℕ) → behind f (lowEnd f m e) (near (lone .point) u v n) ≡ behind f (lowEnd f m e) (lone .point) → behind f (lowEnd f m e) (near (lone .point) u v n) ≡ true
+      low-past n h = h ∙ lt-ltZ (pos 0) (ahead f (lowEnd f m e) (lone .point)) (lone .on .past-low)
+
+      not-above : (z : ℤ) → z <ℤ pos 0 → ltZ (pos 0) z ≡ false
+      not-above z h = le-ltZ (pos 0) z (omega (arith, onℤ))
+
+      high-not : (n : ℕ) → behind f (highEnd f m e) (near (lone .point) u v n) ≡ behind f (highEnd f m e) (lone .point) → behind f (highEnd f m e) (near (lone .point) u v n) ≡ false
+      high-not n h = h ∙ not-above (ahead f (highEnd f m e) (lone .point)) (lone .on .before-high)
+
+      side : (n : ℕ) → above (lowEnd f m e) (highEnd f m e) (near (lone .point) u v n) ≡ ltZ (pos 0) (tilt (lowEnd f m e) (highEnd f m e) u v)
+      side n =
+          ap (ltZ (pos 0)) (left-near (lowEnd f m e) (highEnd f m e) (lone .point) u v n ∙ ap (λ k. line k (tilt (lowEnd f m e) (highEnd f m e) u v) n) (lone .on .on-line) ∙
+          ring3 (λ n t z. (n :* K (pos 0) :+ t, t)) (pos n) (tilt (lowEnd f m e) (highEnd f m e) u v) (pos 0) tt)

@@ -159,7 +159,7 @@ directions f across m h =
     imply-from (λ k (a, b). record { tilted = a; grows = λ e. b (sym (ring3 (λ a b k. (a :* K (pos 1) :+ b :* k, k :* b :+ a)) (f .along) (f .across) (pos k) tt) ∙ e) })
     (both-from (all-from (All-imp (λ t g. tilted-from (shape m t) g) h)) (line-not (f .across) (f .along) (λ e. absurd (across e))))
 
-tilt-back : (A B : Place) (u v : ℤ) → tilt A B (negℤ u) (negℤ v) ≡ negℤ (tilt A B u v)
+pub tilt-back : (A B : Place) (u v : ℤ) → tilt A B (negℤ u) (negℤ v) ≡ negℤ (tilt A B u v)
 tilt-back A B u v = ring4 (λ x y u v. (x :* neg v :- neg u :* y, neg (x :* v :- u :* y))) (B .x -ℤ A .x) (B .y -ℤ A .y) u v tt
 
 -- and the other way round

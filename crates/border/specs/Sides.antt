@@ -8,24 +8,24 @@ use native.Mathlib.Omega.{arith}
 use lib.IntN.{ℤ, pos, negsuc, negℤ, _+ℤ_, _-ℤ_, _*ℤ_}
 use lib.Signed.{ltZ, _≤ℤ_, _<ℤ_}
 use Rattle.whole.specs.Diff.{onℤ, sumℤ, subℤ, negℤ-ud}
-use Rattle.whole.specs.Ring.{Expr, K, _:+_, _:-_, _:*_, neg, ring3, ring4}
+use Rattle.whole.specs.Ring.{Expr, K, _:+_, _:-_, _:*_, neg, ring3, ring6}
 use Rattle.whole.specs.Tests.{ltZ-true, ltZ-false, lt-ltZ, le-ltZ}
-use Rattle.lists.specs.Lists.{cases, All, nil, cons}
-use Rattle.lists.specs.ListsLaw.{clash, All-imp, All-both, All-at}
-use Rattle.lists.specs.MembersLaw.{only-keeps}
+use Rattle.lists.specs.Lists.{any, cases, All, nil, cons}
+use Rattle.lists.specs.ListsLaw.{clash, All-imp, All-both, All-at, All-joined}
+use Rattle.lists.specs.MembersLaw.{only-keeps, only-out}
 use Rattle.meaning.specs.declared.Place.{Place}
 use Rattle.meaning.specs.declared.Tri.{Tri}
-use Rattle.meaning.specs.Mesh.{Mesh, Arrow, sameArrow, at}
+use Rattle.meaning.specs.Mesh.{Mesh, Arrow, arrows, sameArrow, holdsArrow, at}
 use Rattle.meaning.specs.Proper.{Point, area, shape, left}
 use Rattle.border.specs.Sums.{one, added, added-eq}
 use Rattle.border.specs.Under.{Form, key, keyAt, ahead, below-zero, left-swapped}
-use Rattle.border.specs.Cancel.{Once, arrowsOf, border}
+use Rattle.border.specs.Cancel.{Once, reverse, arrowsOf, border}
 use Rattle.border.specs.Count.{underArrow, depth, OffRows, depth-border}
 use Rattle.border.specs.Segment.{Strictly, Within, Apart, rise, above}
 use Rattle.border.specs.Along.{behind}
 use Rattle.border.specs.Beside.{Clear, others, Free, ClearArrow, border-split}
 use Rattle.border.specs.Nearest.{upward, lowEnd, highEnd, signed, beneath, Slanted, Lone, othersAt, low-high, clear-ends, free-ends, under-beneath, free-border}
-use Rattle.border.specs.Near.{Eventually, from-now, both-from, imply-from, all-from, line, line-above, near, tilt, growth, left-near, ahead-near, left-off, ahead-off, weight-stays, Direction, direction-back, directions, point-near}
+use Rattle.border.specs.Near.{tilt-back, Eventually, from-now, both-from, imply-from, all-from, line, line-above, near, tilt, growth, left-near, ahead-near, left-off, ahead-off, weight-stays, Direction, direction-back, directions, point-near}
 
 -- ---- signs that stay
 
@@ -134,3 +134,102 @@ module _ (f : Form) (m : Mesh) (ts : List Tri) (slanted : All (Slanted f m) (bor
       side n =
           ap (ltZ (pos 0)) (left-near (lowEnd f m e) (highEnd f m e) (lone .point) u v n ∙ ap (λ k. line k (tilt (lowEnd f m e) (highEnd f m e) u v) n) (lone .on .on-line) ∙
           ring3 (λ n t z. (n :* K (pos 0) :+ t, t)) (pos n) (tilt (lowEnd f m e) (highEnd f m e) u v) (pos 0) tt)
+
+-- the direction turns left or right of every arrow
+tilt-arrows : (f : Form) (m : Mesh) (u v : ℤ) → Direction f m u v → All (λ e. tilt (at m (e .from)) (at m (e .to)) u v ≢ pos 0) (arrowsOf (m .tris))
+tilt-arrows f m u v d = All-joined arrows (All-imp (λ t h. cons (h .tilt-pq) (cons (h .tilt-qr) (cons (h .tilt-rp) nil))) (d .tilted))
+
+tilt-swapped : (A B : Place) (u v : ℤ) → tilt B A u v ≡ negℤ (tilt A B u v)
+tilt-swapped A B u v = ring6 (λ a b c d u v. ((a :- c) :* v :- u :* (b :- d), neg ((c :- a) :* v :- u :* (d :- b)))) (A .x) (A .y) (B .x) (B .y) u v tt
+
+-- a direction to the left of e, and one to the right
+module _ (f : Form) (across : f .across ≢ pos 0) (m : Mesh) (positive : All (λ t. pos 0 <ℤ area (shape m t)) (m .tris)) (e : Arrow) (here : List·Memᴰ e (arrowsOf (m .tris))) where
+  pub record Toward (P : ℤ → Type 0) : Type 0 where
+    pub u : ℤ
+    pub v : ℤ
+    pub direction : Direction f m u v
+    pub turns : P (tilt (at m (e .from)) (at m (e .to)) u v)
+
+  abbrev chosen : ℕ
+  chosen = directions f across m positive .start
+
+  some : Direction f m (pos 1) (pos (directions f across m positive .start))
+  some = directions f across m positive .holds (directions f across m positive .start) (omega arith)
+
+  pub to-left : Toward (λ z. pos 0 <ℤ z)
+  to-left = go (ltZ (pos 0) (tilt (at m (e .from)) (at m (e .to)) (pos 1) (pos chosen))) refl
+    where
+      negative : (z : ℤ) → z <ℤ pos 0 → pos 0 <ℤ negℤ z
+      negative z h = omega (arith, onℤ, negℤ-ud z)
+
+      go : (b : Bool) → ltZ (pos 0) (tilt (at m (e .from)) (at m (e .to)) (pos 1) (pos chosen)) ≡ b → Toward (λ z. pos 0 <ℤ z)
+      go true h = record { u = pos 1; v = pos chosen; direction = some; turns = ltZ-true (pos 0) (tilt (at m (e .from)) (at m (e .to)) (pos 1) (pos chosen)) h }
+      go false h = record {
+          u = negℤ (pos 1); v = negℤ (pos chosen); direction = direction-back f m (pos 1) (pos chosen) some;
+          turns = subst (λ k. pos 0 <ℤ k) (sym (tilt-back (at m (e .from)) (at m (e .to)) (pos 1) (pos chosen)))
+              (negative _ (below-zero (tilt (at m (e .from)) (at m (e .to)) (pos 1) (pos chosen)) (All-at (tilt-arrows f m (pos 1) (pos chosen) some) here) h)) }
+
+  pub to-right : Toward (λ z. z <ℤ pos 0)
+  to-right =
+      let l = to-left in
+      record { u = negℤ (l .u); v = negℤ (l .v); direction = direction-back f m (l .u) (l .v) (l .direction);
+          turns = subst (λ k. k <ℤ pos 0) (sym (tilt-back (at m (e .from)) (at m (e .to)) (l .u) (l .v))) (negative (tilt (at m (e .from)) (at m (e .to)) (l .u) (l .v)) (l .turns)) }
+    where
+      negative : (z : ℤ) → pos 0 <ℤ z → negℤ z <ℤ pos 0
+      negative z h = omega (arith, onℤ, negℤ-ud z)
+
+module _ (f : Form) (m : Mesh) (e : Arrow) (u v : ℤ) where
+  -- right of it an arrow that falls takes one away; left of it one that rises adds one
+  own-right : tilt (at m (e .from)) (at m (e .to)) u v <ℤ pos 0 → signed (upward f m e) (one (ltZ (pos 0) (tilt (lowEnd f m e) (highEnd f m e) u v))) ≡ negℤ (one (not (upward f m e)))
+  own-right h = go (upward f m e)
+    where
+      not-above : (z : ℤ) → z <ℤ pos 0 → ltZ (pos 0) z ≡ false
+      not-above z h = le-ltZ (pos 0) z (omega (arith, onℤ))
+
+      neg-above : (z : ℤ) → z <ℤ pos 0 → ltZ (pos 0) (negℤ z) ≡ true
+      neg-above z h = lt-ltZ (pos 0) (negℤ z) (omega (arith, onℤ, negℤ-ud z))
+
+      go : (b : Bool) → signed b (one (ltZ (pos 0) (tilt (cases b (at m (e .from)) (at m (e .to))) (cases b (at m (e .to)) (at m (e .from))) u v))) ≡ negℤ (one (not b))
+      go true = ap one (not-above (tilt (at m (e .from)) (at m (e .to)) u v) h)
+      go false = ap (λ b. negℤ (one b)) (ap (ltZ (pos 0)) (tilt-swapped (at m (e .from)) (at m (e .to)) u v) ∙ neg-above (tilt (at m (e .from)) (at m (e .to)) u v) h)
+
+  own-left : pos 0 <ℤ tilt (at m (e .from)) (at m (e .to)) u v → signed (upward f m e) (one (ltZ (pos 0) (tilt (lowEnd f m e) (highEnd f m e) u v))) ≡ one (upward f m e)
+  own-left h = go (upward f m e)
+    where
+      neg-not : (z : ℤ) → pos 0 <ℤ z → ltZ (pos 0) (negℤ z) ≡ false
+      neg-not z h = le-ltZ (pos 0) (negℤ z) (omega (arith, onℤ, negℤ-ud z))
+
+      go : (b : Bool) → signed b (one (ltZ (pos 0) (tilt (cases b (at m (e .from)) (at m (e .to))) (cases b (at m (e .to)) (at m (e .from))) u v))) ≡ one b
+      go true = ap one (lt-ltZ (pos 0) (tilt (at m (e .from)) (at m (e .to)) u v) h)
+      go false = ap (λ b. negℤ (one b)) (ap (ltZ (pos 0)) (tilt-swapped (at m (e .from)) (at m (e .to)) u v) ∙ neg-not (tilt (at m (e .from)) (at m (e .to)) u v) h)
+
+-- a point off the rows, and how many rows it is inside
+pub record Depth (f : Form) (m : Mesh) (k : ℤ) : Type 0 where
+  pub point : Point
+  pub weight : pos 0 <ℤ point .W
+  pub off : OffRows f m point
+  pub is : pos (depth m point) ≡ k
+
+module _ (f : Form) (across : f .across ≢ pos 0) (m : Mesh) (positive : All (λ t. pos 0 <ℤ area (shape m t)) (m .tris)) (no-twice : Once (arrowsOf (m .tris)))
+    (slanted : All (Slanted f m) (border (m .tris))) (e : Arrow) (here : List·Memᴰ e (border (m .tris))) (lone : Lone f m (m .tris) e) where
+  depth-toward : (k u v : ℤ) → Direction f m u v → signed (upward f m e) (one (ltZ (pos 0) (tilt (lowEnd f m e) (highEnd f m e) u v))) ≡ k → Depth f m (k +ℤ othersAt f m (m .tris) e lone)
+  depth-toward k u v d own =
+      let (p, w, off, (a, b)) = point-near f m (lone .point) u v (lone .on .weight) d
+          (λ p. (underArrow f m p e ≡ signed (upward f m e) (one (ltZ (pos 0) (tilt (lowEnd f m e) (highEnd f m e) u v)))) × (added (underArrow f m p) (others e (border (m .tris))) ≡ othersAt f m (m .tris) e lone))
+          (both-from (own-near f m (m .tris) slanted e lone u v (d .grows)) (others-near f m (m .tris) slanted e lone u v (d .grows))) in
+      record { point = p; weight = w; off = off; is = depth-border f m p positive no-twice off ∙ border-split (m .tris) no-twice e here (underArrow f m p) ∙ ap₂ _+ℤ_ (a ∙ own) b }
+
+  in-arrows : List·Memᴰ e (arrowsOf (m .tris))
+  in-arrows = only-out (λ d. not (any (holdsArrow (reverse d)) (m .tris))) (arrowsOf (m .tris)) here
+
+  -- just right of e
+  pub right-depth : Depth f m (negℤ (one (not (upward f m e))) +ℤ othersAt f m (m .tris) e lone)
+  right-depth =
+      let r = to-right f across m positive e in-arrows in
+      depth-toward (negℤ (one (not (upward f m e)))) (r .u) (r .v) (r .direction) (own-right f m e (r .u) (r .v) (r .turns))
+
+  -- just left of e
+  pub left-depth : Depth f m (one (upward f m e) +ℤ othersAt f m (m .tris) e lone)
+  left-depth =
+      let r = to-left f across m positive e in-arrows in
+      depth-toward (one (upward f m e)) (r .u) (r .v) (r .direction) (own-left f m e (r .u) (r .v) (r .turns))

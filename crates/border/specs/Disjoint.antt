@@ -35,7 +35,7 @@ none-shared f across m h o bare i j l k share =
     let t = shape m (rowOf (m .tris) i) in
     let u = shape m (rowOf (m .tris) j) in
     let (p, w, off, both) = generic-near f across m h (share .point) (share .weight) (λ p. Inside t p × Inside u p)
-        (λ a b. both-from (inside-near t (share .point) a b (share .in-first)) (inside-near u (share .point) a b (share .in-second))) in
+    (λ a b. both-from (inside-near t (share .point) a b (share .in-first)) (inside-near u (share .point) a b (share .in-second))) in
     let a = at-most-one f m h o bare p w off in
     let b = depth-two m p i j l k (both .0) (both .1) in
     omega arith

@@ -165,8 +165,9 @@ tilt-back A B u v = ring4 (λ x y u v. (x :* neg v :- neg u :* y, neg (x :* v :-
 -- and the other way round
 pub direction-back : (f : Form) (m : Mesh) (u v : ℤ) → Direction f m u v → Direction f m (negℤ u) (negℤ v)
 direction-back f m u v d = record {
-    tilted = All-imp (λ t h. record { tilt-pq = turned (t .p) (t .q) (h .tilt-pq); tilt-qr = turned (t .q) (t .r) (h .tilt-qr); tilt-rp = turned (t .r) (t .p) (h .tilt-rp) }) (d .tilted);
-    grows = λ e. d .grows (zero-back (growth f u v) (sym (ring4 (λ a b u v. (a :* neg u :+ b :* neg v, neg (a :* u :+ b :* v))) (f .along) (f .across) u v tt) ∙ e)) }
+  tilted = All-imp (λ t h. record { tilt-pq = turned (t .p) (t .q) (h .tilt-pq); tilt-qr = turned (t .q) (t .r) (h .tilt-qr); tilt-rp = turned (t .r) (t .p) (h .tilt-rp) }) (d .tilted);
+  grows = λ e. d .grows (zero-back (growth f u v) (sym (ring4 (λ a b u v. (a :* neg u :+ b :* neg v, neg (a :* u :+ b :* v))) (f .along) (f .across) u v tt) ∙ e));
+}
   where
     zero-back : (z : ℤ) → negℤ z ≡ pos 0 → z ≡ pos 0
     zero-back z e = omega (arith, onℤ, negℤ-ud z)

@@ -5,11 +5,11 @@ use mathlib.Core.Logic.{_≢_}
 use mathlib.Core.Path.{_≡_, refl, sym, ap, ap₂, subst, _∙_}
 use Prim.Native.Nat.{ℕ, _≤_}
 use native.Mathlib.Omega.{arith}
-use lib.IntN.{ℤ, pos, negsuc, negℤ, _+ℤ_, _-ℤ_, _*ℤ_}
+use lib.IntN.{+ℤ-comm, ℤ, pos, negsuc, negℤ, _+ℤ_, _-ℤ_, _*ℤ_}
 use lib.Signed.{ltZ, _≤ℤ_, _<ℤ_}
 use borrow.Author.Tests.{eq-eqb}
 use Rattle.whole.specs.Diff.{onℤ, sumℤ, subℤ, negℤ-ud}
-use Rattle.whole.specs.Ring.{Expr, K, _:+_, _:-_, _:*_, neg, ring2, ring3}
+use Rattle.whole.specs.Ring.{Expr, K, _:+_, _:-_, _:*_, neg, ring2, ring4, ring6}
 use Rattle.whole.specs.Tests.{ltZ-true, ltZ-false, lt-ltZ, le-ltZ}
 use Rattle.whole.specs.Order.{le-antisymm}
 use Rattle.lists.specs.Lists.{any, only, count, consIf, sucIf, cases, All, nil, cons}
@@ -21,10 +21,10 @@ use Rattle.meaning.specs.Mesh.{Mesh, Arrow, arrow, arrows, sameArrow, holdsArro
 use Rattle.meaning.specs.Proper.{Point, Shape, area, shape, left}
 use Rattle.laws.specs.Edges.{sameArrow-eq}
 use Rattle.border.specs.Sums.{when, one, added, added-eq, added-only, added-any, added-zero, added-parts}
-use Rattle.border.specs.Under.{sign-product, Form, Off, key, keyAt, under, ahead, under-swapped, below-zero, times-above}
+use Rattle.border.specs.Under.{Left, sign-product, Form, Off, key, keyAt, under, ahead, under-swapped, below-zero, times-above}
 use Rattle.border.specs.Cancel.{Once, reverse, arrowsOf, border}
 use Rattle.border.specs.Count.{underArrow, depth, OffRows, depth-border}
-use Rattle.border.specs.Segment.{Strictly, Within, Spans, Apart, rise, spot, above, left-spot, spot-ahead, spot-strictly, spot-within, times-to}
+use Rattle.border.specs.Segment.{Ahead, corner, joint, Strictly, Within, Spans, Apart, rise, spot, above, left-spot, spot-ahead, spot-strictly, spot-within, times-to}
 use Rattle.border.specs.Along.{behind, under-rising, unscale-above}
 use Rattle.border.specs.Beside.{Clear, clear-back, Slant, rising, falling, slant, others, Free, ClearArrow, Ends, forth, back, border-split, beside}
 use Rattle.border.specs.Least.{Least, none-passes, least, find-least}
@@ -150,22 +150,48 @@ module _ (f : Form) (A B : Place) (up : pos 0 <ℤ rise f A B) (s : Point) (span
 
 -- ---- the border
 
--- no other border arrow meets e between its ends; and a point of e whose key no end of another has
+-- the middle of e
+abbrev pub middle : Mesh → Arrow → Point
+middle m e = joint (corner (at m (e .from))) (corner (at m (e .to)))
+
+middle-between : (f : Form) (A B : Place) → pos 0 <ℤ rise f A B → Strictly f A B (joint (corner A) (corner B))
+middle-between f A B h = record {
+  weight = omega (arith, onℤ);
+  on-line = ring4 (λ a b c d. (Left a b c d (a :+ c) (b :+ d) (K (pos 1) :+ K (pos 1)), K (pos 0))) (A .x) (A .y) (B .x) (B .y) tt;
+  past-low = subst (λ k. pos 0 <ℤ k) (ring6 (λ f g a b c d. ((f :* c :+ g :* d) :- (f :* a :+ g :* b), Ahead f g a b (a :+ c) (b :+ d) (K (pos 1) :+ K (pos 1)))) (f .along) (f .across) (A .x) (A .y) (B .x) (B .y) tt) h;
+  before-high = below (ahead f B (joint (corner A) (corner B)))
+      (subst (λ k. pos 0 <ℤ k) (ring6 (λ f g a b c d. ((f :* c :+ g :* d) :- (f :* a :+ g :* b), neg (Ahead f g c d (a :+ c) (b :+ d) (K (pos 1) :+ K (pos 1))))) (f .along) (f .across) (A .x) (A .y) (B .x) (B .y) tt) h);
+}
+  where
+    below : (z : ℤ) → pos 0 <ℤ negℤ z → z <ℤ pos 0
+    below z h = omega (arith, onℤ, negℤ-ud z)
+
+-- it is strictly between the ends
+pub middle-on : (f : Form) (m : Mesh) (e : Arrow) → Slanted f m e → Strictly f (lowEnd f m e) (highEnd f m e) (middle m e)
+middle-on f m e n = go (upward f m e) (low-high f m e n)
+  where
+    swapped : (A B : Place) → joint (corner B) (corner A) ≡ joint (corner A) (corner B)
+    swapped A B = λ i. record { X = +ℤ-comm (B .x) (A .x) i; Y = +ℤ-comm (B .y) (A .y) i; W = pos 1 +ℤ pos 1 }
+
+    go : (b : Bool) → pos 0 <ℤ rise f (cases b (at m (e .from)) (at m (e .to))) (cases b (at m (e .to)) (at m (e .from))) →
+        Strictly f (cases b (at m (e .from)) (at m (e .to))) (cases b (at m (e .to)) (at m (e .from))) (middle m e)
+    go true h = middle-between f (at m (e .from)) (at m (e .to)) h
+    go false h = subst (Strictly f (at m (e .to)) (at m (e .from))) (swapped (at m (e .from)) (at m (e .to))) (middle-between f (at m (e .to)) (at m (e .from)) h)
+
+-- no other border arrow meets e between its ends, and none has an end with the key of e's middle
 pub record Lone (f : Form) (m : Mesh) (ts : List Tri) (e : Arrow) : Type 0 where
   pub slanted : Slanted f m e
   pub clear : All (ClearArrow f m (lowEnd f m e) (highEnd f m e)) (others e (border ts))
-  pub point : Point
-  pub on : Strictly f (lowEnd f m e) (highEnd f m e) point
-  pub point-free : All (Free f m point) (others e (border ts))
+  pub middle-free : All (Free f m (middle m e)) (others e (border ts))
 
--- what the other border arrows come to at e's point
-abbrev pub othersAt : (f : Form) (m : Mesh) (ts : List Tri) (e : Arrow) → Lone f m ts e → ℤ
-othersAt f m ts e l = added (underArrow f m (l .point)) (others e (border ts))
+-- what the other border arrows come to at e's middle
+abbrev pub othersAt : Form → Mesh → List Tri → Arrow → ℤ
+othersAt f m ts e = added (underArrow f m (middle m e)) (others e (border ts))
 
 -- and no row lies just right of e: the others come to what e itself takes away there
 pub record Bare (f : Form) (m : Mesh) (ts : List Tri) (e : Arrow) : Type 0 where
   pub lone : Lone f m ts e
-  pub nothing : othersAt f m ts e lone ≡ one (not (upward f m e))
+  pub nothing : othersAt f m ts e ≡ one (not (upward f m e))
 
 module _ (f : Form) (m : Mesh) (ts : List Tri) (no-twice : Once (arrowsOf ts)) (bare : All (Bare f m ts) (border ts)) (s : Point) (w : pos 0 <ℤ s .W) (free : All (Free f m s) (border ts)) where
   abbrev A′ : Arrow → Place
@@ -248,8 +274,8 @@ module _ (f : Form) (m : Mesh) (ts : List Tri) (no-twice : Once (arrowsOf ts)) (
     others-sum =
         added-eq (underArrow f m s) (underArrow f m foot)
         (All-imp (λ d (b, (g, (c, n))). same-foot d b g c n) (All-both (kept bare) (All-both (kept free) (All-both (own .lone .clear) (kept nearest))))) ∙
-        beside f m ts no-twice (A′ e) (B′ e) up e (arrow-ends f m e) (own .lone .point) foot (own .lone .on) foot-on
-        (All-imp (λ d (c, (p, g)). (c, p, free-foot d g)) (All-both (own .lone .clear) (All-both (own .lone .point-free) (kept free)))) ∙
+        beside f m ts no-twice (A′ e) (B′ e) up e (arrow-ends f m e) (middle m e) foot (middle-on f m e (own .lone .slanted)) foot-on
+        (All-imp (λ d (c, (p, g)). (c, p, free-foot d g)) (All-both (own .lone .clear) (All-both (own .lone .middle-free) (kept free)))) ∙
         own .nothing
       where
         kept : {P : Arrow → Type 0} → All P (border ts) → All P (others e (border ts))

@@ -24,7 +24,7 @@ use Rattle.border.specs.Count.{underArrow, depth, OffRows, depth-border}
 use Rattle.border.specs.Segment.{Strictly, Within, Apart, rise, above}
 use Rattle.border.specs.Along.{behind}
 use Rattle.border.specs.Beside.{Clear, others, Free, ClearArrow, border-split}
-use Rattle.border.specs.Nearest.{upward, lowEnd, highEnd, signed, beneath, Slanted, Lone, othersAt, low-high, clear-ends, free-ends, under-beneath, free-border}
+use Rattle.border.specs.Nearest.{upward, lowEnd, highEnd, signed, beneath, Slanted, middle, middle-on, Lone, othersAt, low-high, clear-ends, free-ends, under-beneath, free-border}
 use Rattle.border.specs.Near.{tilt-back, Eventually, from-now, both-from, imply-from, all-from, line, line-above, near, tilt, growth, left-near, ahead-near, left-off, ahead-off, weight-stays, Direction, direction-back, directions, point-near}
 
 -- ---- signs that stay
@@ -91,16 +91,19 @@ module _ (f : Form) (s : Point) (u v : ℤ) where
 -- ---- on either side of a border arrow
 
 module _ (f : Form) (m : Mesh) (ts : List Tri) (slanted : All (Slanted f m) (border ts)) (e : Arrow) (lone : Lone f m ts e) (u v : ℤ) (grows : growth f u v ≢ pos 0) where
-  -- the others count as at e's point
-  others-near : Eventually (λ n. added (underArrow f m (near (lone .point) u v n)) (others e (border ts)) ≡ othersAt f m ts e lone)
-  others-near =
-      imply-from (λ n h. added-eq (underArrow f m (near (lone .point) u v n)) (underArrow f m (lone .point)) h)
-      (all-from (All-imp (λ d (k, (g, c)). under-stays f (lone .point) u v m (lone .on .weight) grows d k g
-      (clear-ends f m d (lowEnd f m e) (highEnd f m e) c .apart (lone .point) (lone .on)))
-      (All-both (only-keeps (λ d. not (sameArrow e d)) slanted) (All-both (lone .point-free) (lone .clear)))))
+  on : Strictly f (lowEnd f m e) (highEnd f m e) (middle m e)
+  on = middle-on f m e (lone .slanted)
 
-  ends-free : Free f m (lone .point) e
-  ends-free = go (upward f m e) (lone .on .past-low) (lone .on .before-high)
+  -- the others count as at e's middle
+  others-near : Eventually (λ n. added (underArrow f m (near (middle m e) u v n)) (others e (border ts)) ≡ othersAt f m ts e)
+  others-near =
+      imply-from (λ n h. added-eq (underArrow f m (near (middle m e) u v n)) (underArrow f m (middle m e)) h)
+      (all-from (All-imp (λ d (k, (g, c)). under-stays f (middle m e) u v m (on .weight) grows d k g
+      (clear-ends f m d (lowEnd f m e) (highEnd f m e) c .apart (middle m e) on))
+      (All-both (only-keeps (λ d. not (sameArrow e d)) slanted) (All-both (lone .middle-free) (lone .clear)))))
+
+  ends-free : Free f m (middle m e) e
+  ends-free = go (upward f m e) (on .past-low) (on .before-high)
     where
       above-not : (z : ℤ) → pos 0 <ℤ z → z ≢ pos 0
       above-not z h g = omega (arith, onℤ)
@@ -108,31 +111,31 @@ module _ (f : Form) (m : Mesh) (ts : List Tri) (slanted : All (Slanted f m) (bor
       below-not : (z : ℤ) → z <ℤ pos 0 → z ≢ pos 0
       below-not z h g = omega (arith, onℤ)
 
-      go : (b : Bool) → pos 0 <ℤ ahead f (cases b (at m (e .from)) (at m (e .to))) (lone .point) → ahead f (cases b (at m (e .to)) (at m (e .from))) (lone .point) <ℤ pos 0 → Free f m (lone .point) e
-      go true h i = record { from-free = above-not (ahead f (at m (e .from)) (lone .point)) h; to-free = below-not (ahead f (at m (e .to)) (lone .point)) i }
-      go false h i = record { from-free = below-not (ahead f (at m (e .from)) (lone .point)) i; to-free = above-not (ahead f (at m (e .to)) (lone .point)) h }
+      go : (b : Bool) → pos 0 <ℤ ahead f (cases b (at m (e .from)) (at m (e .to))) (middle m e) → ahead f (cases b (at m (e .to)) (at m (e .from))) (middle m e) <ℤ pos 0 → Free f m (middle m e) e
+      go true h i = record { from-free = above-not (ahead f (at m (e .from)) (middle m e)) h; to-free = below-not (ahead f (at m (e .to)) (middle m e)) i }
+      go false h i = record { from-free = below-not (ahead f (at m (e .from)) (middle m e)) i; to-free = above-not (ahead f (at m (e .to)) (middle m e)) h }
 
   -- e itself counts as the direction turns
-  own-near : Eventually (λ n. underArrow f m (near (lone .point) u v n) e ≡ signed (upward f m e) (one (ltZ (pos 0) (tilt (lowEnd f m e) (highEnd f m e) u v))))
+  own-near : Eventually (λ n. underArrow f m (near (middle m e) u v n) e ≡ signed (upward f m e) (one (ltZ (pos 0) (tilt (lowEnd f m e) (highEnd f m e) u v))))
   own-near =
-      imply-from (λ n (w, (g, (a, b))). under-beneath f m e (near (lone .point) u v n) (lone .slanted) w g ∙
+      imply-from (λ n (w, (g, (a, b))). under-beneath f m e (near (middle m e) u v n) (lone .slanted) w g ∙
       ap (signed (upward f m e)) (λ i. one (low-past n a i && (not (high-not n b i) && side n i))))
-      (both-from (weight-stays (lone .point) u v (lone .on .weight)) (both-from (free-near f (lone .point) u v m (lone .on .weight) grows e (lone .slanted) ends-free)
-      (both-from (behind-stays f (lone .point) u v (lowEnd f m e) (free-ends f m e (lone .point) ends-free .0))
-      (behind-stays f (lone .point) u v (highEnd f m e) (free-ends f m e (lone .point) ends-free .1)))))
+      (both-from (weight-stays (middle m e) u v (on .weight)) (both-from (free-near f (middle m e) u v m (on .weight) grows e (lone .slanted) ends-free)
+      (both-from (behind-stays f (middle m e) u v (lowEnd f m e) (free-ends f m e (middle m e) ends-free .0))
+      (behind-stays f (middle m e) u v (highEnd f m e) (free-ends f m e (middle m e) ends-free .1)))))
     where
-      low-past : (n : ℕ) → behind f (lowEnd f m e) (near (lone .point) u v n) ≡ behind f (lowEnd f m e) (lone .point) → behind f (lowEnd f m e) (near (lone .point) u v n) ≡ true
-      low-past n h = h ∙ lt-ltZ (pos 0) (ahead f (lowEnd f m e) (lone .point)) (lone .on .past-low)
+      low-past : (n : ℕ) → behind f (lowEnd f m e) (near (middle m e) u v n) ≡ behind f (lowEnd f m e) (middle m e) → behind f (lowEnd f m e) (near (middle m e) u v n) ≡ true
+      low-past n h = h ∙ lt-ltZ (pos 0) (ahead f (lowEnd f m e) (middle m e)) (on .past-low)
 
       not-above : (z : ℤ) → z <ℤ pos 0 → ltZ (pos 0) z ≡ false
       not-above z h = le-ltZ (pos 0) z (omega (arith, onℤ))
 
-      high-not : (n : ℕ) → behind f (highEnd f m e) (near (lone .point) u v n) ≡ behind f (highEnd f m e) (lone .point) → behind f (highEnd f m e) (near (lone .point) u v n) ≡ false
-      high-not n h = h ∙ not-above (ahead f (highEnd f m e) (lone .point)) (lone .on .before-high)
+      high-not : (n : ℕ) → behind f (highEnd f m e) (near (middle m e) u v n) ≡ behind f (highEnd f m e) (middle m e) → behind f (highEnd f m e) (near (middle m e) u v n) ≡ false
+      high-not n h = h ∙ not-above (ahead f (highEnd f m e) (middle m e)) (on .before-high)
 
-      side : (n : ℕ) → above (lowEnd f m e) (highEnd f m e) (near (lone .point) u v n) ≡ ltZ (pos 0) (tilt (lowEnd f m e) (highEnd f m e) u v)
+      side : (n : ℕ) → above (lowEnd f m e) (highEnd f m e) (near (middle m e) u v n) ≡ ltZ (pos 0) (tilt (lowEnd f m e) (highEnd f m e) u v)
       side n =
-          ap (ltZ (pos 0)) (left-near (lowEnd f m e) (highEnd f m e) (lone .point) u v n ∙ ap (λ k. line k (tilt (lowEnd f m e) (highEnd f m e) u v) n) (lone .on .on-line) ∙
+          ap (ltZ (pos 0)) (left-near (lowEnd f m e) (highEnd f m e) (middle m e) u v n ∙ ap (λ k. line k (tilt (lowEnd f m e) (highEnd f m e) u v) n) (on .on-line) ∙
           ring3 (λ n t z. (n :* K (pos 0) :+ t, t)) (pos n) (tilt (lowEnd f m e) (highEnd f m e) u v) (pos 0) tt)
 
 -- the direction turns left or right of every arrow
@@ -165,15 +168,22 @@ module _ (f : Form) (across : f .across ≢ pos 0) (m : Mesh) (positive : All (�
       go : (b : Bool) → ltZ (pos 0) (tilt (at m (e .from)) (at m (e .to)) (pos 1) (pos chosen)) ≡ b → Toward (λ z. pos 0 <ℤ z)
       go true h = record { u = pos 1; v = pos chosen; direction = some; turns = ltZ-true (pos 0) (tilt (at m (e .from)) (at m (e .to)) (pos 1) (pos chosen)) h }
       go false h = record {
-          u = negℤ (pos 1); v = negℤ (pos chosen); direction = direction-back f m (pos 1) (pos chosen) some;
-          turns = subst (λ k. pos 0 <ℤ k) (sym (tilt-back (at m (e .from)) (at m (e .to)) (pos 1) (pos chosen)))
-              (negative _ (below-zero (tilt (at m (e .from)) (at m (e .to)) (pos 1) (pos chosen)) (All-at (tilt-arrows f m (pos 1) (pos chosen) some) here) h)) }
+        u = negℤ (pos 1);
+        v = negℤ (pos chosen);
+        direction = direction-back f m (pos 1) (pos chosen) some;
+        turns = subst (λ k. pos 0 <ℤ k) (sym (tilt-back (at m (e .from)) (at m (e .to)) (pos 1) (pos chosen)))
+            (negative _ (below-zero (tilt (at m (e .from)) (at m (e .to)) (pos 1) (pos chosen)) (All-at (tilt-arrows f m (pos 1) (pos chosen) some) here) h));
+      }
 
   pub to-right : Toward (λ z. z <ℤ pos 0)
   to-right =
       let l = to-left in
-      record { u = negℤ (l .u); v = negℤ (l .v); direction = direction-back f m (l .u) (l .v) (l .direction);
-          turns = subst (λ k. k <ℤ pos 0) (sym (tilt-back (at m (e .from)) (at m (e .to)) (l .u) (l .v))) (negative (tilt (at m (e .from)) (at m (e .to)) (l .u) (l .v)) (l .turns)) }
+      record {
+        u = negℤ (l .u);
+        v = negℤ (l .v);
+        direction = direction-back f m (l .u) (l .v) (l .direction);
+        turns = subst (λ k. k <ℤ pos 0) (sym (tilt-back (at m (e .from)) (at m (e .to)) (l .u) (l .v))) (negative (tilt (at m (e .from)) (at m (e .to)) (l .u) (l .v)) (l .turns));
+      }
     where
       negative : (z : ℤ) → pos 0 <ℤ z → negℤ z <ℤ pos 0
       negative z h = omega (arith, onℤ, negℤ-ud z)
@@ -212,24 +222,24 @@ pub record Depth (f : Form) (m : Mesh) (k : ℤ) : Type 0 where
 
 module _ (f : Form) (across : f .across ≢ pos 0) (m : Mesh) (positive : All (λ t. pos 0 <ℤ area (shape m t)) (m .tris)) (no-twice : Once (arrowsOf (m .tris)))
     (slanted : All (Slanted f m) (border (m .tris))) (e : Arrow) (here : List·Memᴰ e (border (m .tris))) (lone : Lone f m (m .tris) e) where
-  depth-toward : (k u v : ℤ) → Direction f m u v → signed (upward f m e) (one (ltZ (pos 0) (tilt (lowEnd f m e) (highEnd f m e) u v))) ≡ k → Depth f m (k +ℤ othersAt f m (m .tris) e lone)
+  depth-toward : (k u v : ℤ) → Direction f m u v → signed (upward f m e) (one (ltZ (pos 0) (tilt (lowEnd f m e) (highEnd f m e) u v))) ≡ k → Depth f m (k +ℤ othersAt f m (m .tris) e)
   depth-toward k u v d own =
-      let (p, w, off, (a, b)) = point-near f m (lone .point) u v (lone .on .weight) d
-          (λ p. (underArrow f m p e ≡ signed (upward f m e) (one (ltZ (pos 0) (tilt (lowEnd f m e) (highEnd f m e) u v)))) × (added (underArrow f m p) (others e (border (m .tris))) ≡ othersAt f m (m .tris) e lone))
-          (both-from (own-near f m (m .tris) slanted e lone u v (d .grows)) (others-near f m (m .tris) slanted e lone u v (d .grows))) in
+      let (p, w, off, (a, b)) = point-near f m (middle m e) u v (middle-on f m e (lone .slanted) .weight) d
+      (λ p. (underArrow f m p e ≡ signed (upward f m e) (one (ltZ (pos 0) (tilt (lowEnd f m e) (highEnd f m e) u v)))) × (added (underArrow f m p) (others e (border (m .tris))) ≡ othersAt f m (m .tris) e))
+      (both-from (own-near f m (m .tris) slanted e lone u v (d .grows)) (others-near f m (m .tris) slanted e lone u v (d .grows))) in
       record { point = p; weight = w; off = off; is = depth-border f m p positive no-twice off ∙ border-split (m .tris) no-twice e here (underArrow f m p) ∙ ap₂ _+ℤ_ (a ∙ own) b }
 
   in-arrows : List·Memᴰ e (arrowsOf (m .tris))
   in-arrows = only-out (λ d. not (any (holdsArrow (reverse d)) (m .tris))) (arrowsOf (m .tris)) here
 
   -- just right of e
-  pub right-depth : Depth f m (negℤ (one (not (upward f m e))) +ℤ othersAt f m (m .tris) e lone)
+  pub right-depth : Depth f m (negℤ (one (not (upward f m e))) +ℤ othersAt f m (m .tris) e)
   right-depth =
       let r = to-right f across m positive e in-arrows in
       depth-toward (negℤ (one (not (upward f m e)))) (r .u) (r .v) (r .direction) (own-right f m e (r .u) (r .v) (r .turns))
 
   -- just left of e
-  pub left-depth : Depth f m (one (upward f m e) +ℤ othersAt f m (m .tris) e lone)
+  pub left-depth : Depth f m (one (upward f m e) +ℤ othersAt f m (m .tris) e)
   left-depth =
       let r = to-left f across m positive e in-arrows in
       depth-toward (one (upward f m e)) (r .u) (r .v) (r .direction) (own-left f m e (r .u) (r .v) (r .turns))

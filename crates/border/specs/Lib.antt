@@ -3,6 +3,15 @@ pub mod Sums
 pub mod Under
 pub mod Cancel
 pub mod Count
+pub mod Segment
+pub mod Along
+pub mod Alike
+pub mod Beside
+pub mod Least
+pub mod Nearest
+pub mod Near
+pub mod Disjoint
+pub mod Sides
 pub mod Clear
 pub mod ClearMeshes
 pub mod Nudge

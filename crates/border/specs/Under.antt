@@ -77,7 +77,7 @@ left-swapped A B s =
 
 -- ---- tests of numbers that are not 0
 
-not-lt : (a b : ℤ) → a ≢ b → ltZ b a ≡ not (ltZ a b)
+pub not-lt : (a b : ℤ) → a ≢ b → ltZ b a ≡ not (ltZ a b)
 not-lt a b n = go (ltZ a b) refl
   where
     go : (t : Bool) → ltZ a b ≡ t → ltZ b a ≡ not t
@@ -88,7 +88,10 @@ not-lt a b n = go (ltZ a b) refl
         swap true w = refl
         swap false w = absurd (n (le-antisymm (ltZ-false b a w) (ltZ-false a b e)))
 
-lt-zero : (a b : ℤ) → ltZ a b ≡ ltZ (pos 0) (b -ℤ a)
+pub below-zero : (a : ℤ) → a ≢ pos 0 → ltZ (pos 0) a ≡ false → a <ℤ pos 0
+below-zero a n e = ltZ-true a (pos 0) (not-lt (pos 0) a (λ w. n (sym w)) ∙ ap not e)
+
+pub lt-zero : (a b : ℤ) → ltZ a b ≡ ltZ (pos 0) (b -ℤ a)
 lt-zero a b = both-ways _ _ (λ e. lt-ltZ (pos 0) (b -ℤ a) (let l = ltZ-true a b e in omega (arith, onℤ, subℤ b a)))
     (λ e. lt-ltZ a b (let l = ltZ-true (pos 0) (b -ℤ a) e in omega (arith, onℤ, subℤ b a)))
 
@@ -103,7 +106,7 @@ lt-not {z} h = le-ltZ (pos 0) z (omega (arith, onℤ))
 positive : (a : ℕ) → ltZ (pos 0) (pos (suc a)) ≡ true
 positive a = lt-ltZ (pos 0) (pos (suc a)) (omega (arith, onℤ))
 
-sign-product : (a b : ℤ) → a ≢ pos 0 → b ≢ pos 0 → (ltZ (pos 0) (a *ℤ b) ≡ agree (ltZ (pos 0) a) (ltZ (pos 0) b)) × (a *ℤ b ≢ pos 0)
+pub sign-product : (a b : ℤ) → a ≢ pos 0 → b ≢ pos 0 → (ltZ (pos 0) (a *ℤ b) ≡ agree (ltZ (pos 0) a) (ltZ (pos 0) b)) × (a *ℤ b ≢ pos 0)
 sign-product (pos zero) b h i = absurd (h refl)
 sign-product (pos (suc a)) (pos zero) h i = absurd (i refl)
 sign-product (pos (suc a)) (pos (suc b)) h i =
@@ -180,9 +183,6 @@ some-above l m n h = go (ltZ (pos 0) l) (ltZ (pos 0) m) (ltZ (pos 0) n) refl ref
 not-one-side : (x y z : ℤ) → x ≢ pos 0 → y ≢ pos 0 → z ≢ pos 0 → x +ℤ (y +ℤ z) ≡ pos 0 → sameSigns (ltZ (pos 0) x) (ltZ (pos 0) y) (ltZ (pos 0) z) ≡ false
 not-one-side x y z h i j s = go (ltZ (pos 0) x) (ltZ (pos 0) y) (ltZ (pos 0) z) refl refl refl
   where
-    below : (a : ℤ) → a ≢ pos 0 → ltZ (pos 0) a ≡ false → a <ℤ pos 0
-    below a n e = ltZ-true a (pos 0) (not-lt (pos 0) a (λ w. n (sym w)) ∙ ap not e)
-
     go : (a b c : Bool) → ltZ (pos 0) x ≡ a → ltZ (pos 0) y ≡ b → ltZ (pos 0) z ≡ c → sameSigns a b c ≡ false
     go true true true e f g = absurd (omega (arith, onℤ, tests, sumℤ y z, sumℤ x (y +ℤ z)))
     go true true false e f g = refl
@@ -190,9 +190,9 @@ not-one-side x y z h i j s = go (ltZ (pos 0) x) (ltZ (pos 0) y) (ltZ (pos 0) z) 
     go false true c e f g = refl
     go false false true e f g = refl
     go false false false e f g =
-        let a = below x h e in
-        let b = below y i f in
-        let c = below z j g in
+        let a = below-zero x h e in
+        let b = below-zero y i f in
+        let c = below-zero z j g in
         absurd (omega (arith, onℤ, sumℤ y z, sumℤ x (y +ℤ z)))
 
 -- what p, q, r and the point are to each other, as numbers alone

@@ -12,3 +12,4 @@ pub mod Nearest
 pub mod Near
 pub mod Disjoint
 pub mod Sides
+pub mod OneNumber

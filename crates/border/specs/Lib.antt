@@ -13,3 +13,4 @@ pub mod Near
 pub mod Disjoint
 pub mod Sides
 pub mod OneNumber
+pub mod Meet

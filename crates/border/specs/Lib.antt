@@ -20,3 +20,5 @@ pub mod Fan
 pub mod Corners
 pub mod Crowd
 pub mod Safe
+pub mod OneNumber
+pub mod Meet

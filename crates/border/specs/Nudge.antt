@@ -1,28 +1,29 @@
 -- Points moved a little: a nudged point is on no line through two places in range and has no place's key, and it is on the same side of whatever the point
 -- itself is strictly beside. So rows that share an interior point make a depth of 2. Assumes nothing.
-use mathlib.Core.Bool.{Bool, true, false}
-use mathlib.Core.List.{List, [], _∷_, List·Memᴰ}
+use mathlib.Core.Bool.{Bool, true}
+use mathlib.Core.List.{List, List·Memᴰ}
 use mathlib.Core.Logic.{_≢_}
 use mathlib.Core.Path.{_≡_, refl, sym, ap, subst, _∙_}
 use Prim.Native.Nat.{ℕ, zero, suc, _≤_, _<_}
 use native.Mathlib.Omega.{arith}
-use lib.Dec.{leb}
+use native.Mathlib.Decide.{decLt}
 use lib.IntN.{ℤ, pos, negsuc, natAbs, _+ℤ_, _-ℤ_, _*ℤ_}
 use lib.ListN.{length, getD}
 use lib.Signed.{_<ℤ_}
-use borrow.Author.Tests.{leb-true, leb-false}
 use Rattle.whole.specs.Diff.{onℤ, sumℤ, subℤ, mulℤ}
 use Rattle.whole.specs.Bound.{absℤ, abs-sub, abs-mul}
 use Rattle.whole.specs.Ring.{K, _:+_, _:-_, _:*_, ring4, ring8, ring9}
-use Rattle.lists.specs.Lists.{count, sucIf}
-use Rattle.lists.specs.ListsLaw.{All-at, All-of, All-getD, any-at}
-use Rattle.lists.specs.MembersLaw.{mem-at, at-mem, any-count}
+use Rattle.lists.specs.Lists.{count}
+use Rattle.lists.specs.ListsLaw.{All-at, All-of, All-getD}
+use Rattle.lists.specs.MembersLaw.{mem-at, at-mem}
+use Rattle.lists.specs.Tally.{bit, count-tally}
 use Rattle.meaning.specs.declared.Place.{Place}
 use Rattle.meaning.specs.declared.Tri.{Tri}
 use Rattle.meaning.specs.Mesh.{Mesh, at, turn, twiceArea, tri, origin}
 use Rattle.meaning.specs.Lawful.{InRange, Lawful, rowOf}
 use Rattle.meaning.specs.Proper.{Shape, Point, Inside, Share, shape, left}
 use Rattle.laws.specs.Area.{Turn, turn-cycle}
+use Rattle.laws.specs.Pairs.{two-places}
 use Rattle.border.specs.Under.{Off, Left, key, keyAt, ahead, inside, yes-inside, times-above}
 use Rattle.border.specs.Count.{depth, OffRows}
 use Rattle.border.specs.Clear.{steep}
@@ -207,11 +208,14 @@ row-upright m law {t} i =
       rpq = subst (λ k. pos 0 <ℤ k) (turn-cycle P Q R ∙ turn-cycle Q R P) h;
     }
 
+pub nudged-weight : (s : Point) → pos 0 <ℤ s .W → pos 0 <ℤ nudged s .W
+nudged-weight s w = times-above (pos 35_184_372_088_832) (s .W) (omega (arith, onℤ)) w
+
 -- a nudged point is off a row, and inside where the point was
 module _ {t : Shape} (u : Upright t) (s : Point) where
   pub nudged-clear : pos 0 <ℤ s .W → Off steep t (nudged s)
   nudged-clear w = record {
-    weight = times-above (pos 35_184_372_088_832) (s .W) (omega (arith, onℤ)) w;
+    weight = nudged-weight s w;
     off-pq = nudged-off (u .p-in) (u .q-in) s (apart-of-turn (t .p) (t .q) (t .r) (u .pqr));
     off-qr = nudged-off (u .q-in) (u .r-in) s (apart-of-turn (t .q) (t .r) (t .p) (u .qrp));
     off-rp = nudged-off (u .r-in) (u .p-in) s (apart-of-turn (t .r) (t .p) (t .q) (u .rpq));
@@ -232,50 +236,33 @@ nudged-rows m law s w = All-of (m .tris) (λ t i. nudged-clear (row-upright m la
 
 -- ---- two rows at one point
 
-module _ {A : Type 0} (f : A → Bool) (d : A) where
+module _ {A : Type 0} (f : A → Bool) (d : A) (l : List A) where
   -- two members by number that pass are two
-  pub count-two : (l : List A) (i j : ℕ) → i < j → j < length l → f (getD l i d) ≡ true → f (getD l j d) ≡ true → 2 ≤ count f l
-  count-two [] i j h k e g = absurd (omega arith)
-  count-two (x ∷ xs) i zero h k e g = absurd (omega arith)
-  count-two (x ∷ xs) zero (suc j) h k e g =
-      let n = any-count f xs (any-at f g (at-mem xs j d (omega arith))) in
-      rw e (omega arith)
-  count-two (x ∷ xs) (suc i) (suc j) h k e g = more (f x) (count-two xs i j (omega arith) (omega arith) e g)
-    where
-      more : (b : Bool) → 2 ≤ count f xs → 2 ≤ sucIf b (count f xs)
-      more true h = omega arith
-      more false h = h
+  pub count-two : (i j : ℕ) → i < j → j < length l → f (getD l i d) ≡ true → f (getD l j d) ≡ true → 2 ≤ count f l
+  count-two i j h k e g = omega (arith, two-places (λ x. bit (f x)) l d i j h k, count-tally f l, ap bit e, ap bit g)
 
   -- two different members that pass are two
-  pub count-different : (l : List A) {x y : A} → List·Memᴰ x l → List·Memᴰ y l → x ≢ y → f x ≡ true → f y ≡ true → 2 ≤ count f l
-  count-different l {x} {y} i j n e g = go (mem-at d i) (mem-at d j)
+  pub count-different : {x y : A} → List·Memᴰ x l → List·Memᴰ y l → x ≢ y → f x ≡ true → f y ≡ true → 2 ≤ count f l
+  count-different {x} {y} i j n e g = go (mem-at d i) (mem-at d j)
     where
       go : (k : ℕ) × (k < length l) × (getD l k d ≡ x) → (k : ℕ) × (k < length l) × (getD l k d ≡ y) → 2 ≤ count f l
-      go (a, la, ea) (b, lb, eb) = order (leb (suc a) b) refl (leb (suc b) a) refl
+      go (a, la, ea) (b, lb, eb) = order (decLt a b) (decLt b a)
         where
-          fa : f (getD l a d) ≡ true
-          fa = ap f ea ∙ e
-
-          fb : f (getD l b d) ≡ true
-          fb = ap f eb ∙ g
-
-          order : (u : Bool) → leb (suc a) b ≡ u → (v : Bool) → leb (suc b) a ≡ v → 2 ≤ count f l
-          order true p v q = count-two l a b (leb-true (suc a) b p) lb fa fb
-          order false p true q = count-two l b a (leb-true (suc b) a q) la fb fa
-          order false p false q =
-              let w : a ≡ b = omega (arith, leb-false (suc a) b p, leb-false (suc b) a q) in
-              absurd (n (sym ea ∙ ap (λ k. getD l k d) w ∙ eb))
+          order : Dec (a < b) → Dec (b < a) → 2 ≤ count f l
+          order (yes p) q = count-two a b p lb (ap f ea ∙ e) (ap f eb ∙ g)
+          order (no p) (yes q) = count-two b a q la (ap f eb ∙ g) (ap f ea ∙ e)
+          order (no p) (no q) = let w : a ≡ b = omega arith in absurd (n (sym ea ∙ ap (λ k. getD l k d) w ∙ eb))
 
 -- no point off the rows is inside two
 abbrev pub Single : Mesh → Type 0
-Single m = (s : Point) → OffRows steep m s → depth m s ≤ 1
+Single m = (s : Point) → pos 0 <ℤ s .W → OffRows steep m s → depth m s ≤ 1
 
 module _ (m : Mesh) (law : Lawful m) (most : Single m) where
   -- two different rows with one nudged point inside both
   pub not-both : (s : Point) → pos 0 <ℤ s .W → {t u : Tri} → List·Memᴰ t (m .tris) → List·Memᴰ u (m .tris) → t ≢ u → Inside (shape m t) (nudged s) → Inside (shape m u) (nudged s) → ⊥
   not-both s w {t} {u} i j n a b =
       let two = count-different (λ v. inside (shape m v) (nudged s)) (tri 0 0 0) (m .tris) i j n (yes-inside (shape m t) (nudged s) a) (yes-inside (shape m u) (nudged s) b) in
-      omega (arith, most (nudged s) (nudged-rows m law s w))
+      omega (arith, most (nudged s) (nudged-weight s w) (nudged-rows m law s w))
 
   -- NOT 12: NO TWO ROWS SHARE AN INTERIOR POINT.
   pub shared-none : (i j : ℕ) → i < j → j < length (m .tris) → ¬ Share (shape m (rowOf (m .tris) i)) (shape m (rowOf (m .tris) j))
@@ -286,4 +273,4 @@ module _ (m : Mesh) (law : Lawful m) (most : Single m) where
       let a = nudged-inside (row-upright m law (at-mem (m .tris) i (tri 0 0 0) (omega arith))) p (s .in-first) in
       let b = nudged-inside (row-upright m law (at-mem (m .tris) j (tri 0 0 0) k)) p (s .in-second) in
       let two = count-two (λ v. inside (shape m v) (nudged p)) (tri 0 0 0) (m .tris) i j h k (yes-inside (shape m t) (nudged p) a) (yes-inside (shape m u) (nudged p) b) in
-      omega (arith, most (nudged p) (nudged-rows m law p (s .weight)))
+      omega (arith, most (nudged p) (nudged-weight p (s .weight)) (nudged-rows m law p (s .weight)))

@@ -37,7 +37,7 @@ Dot ax ay px py qx qy = (px :- ax) :* (qx :- ax) :+ (py :- ay) :* (qy :- ay)
 pub facing-from : (A B : Place) → facing A B A ≡ pos 0
 facing-from A B = ring4 (λ a b c d. (Facing a b c d a b, K (pos 0))) (A .x) (A .y) (B .x) (B .y) tt
 
-facing-to : (A B : Place) → facing A B B ≡ pos 0
+pub facing-to : (A B : Place) → facing A B B ≡ pos 0
 facing-to A B = ring4 (λ a b c d. (Facing a b c d c d, K (pos 0))) (A .x) (A .y) (B .x) (B .y) tt
 
 square-above : (z : ℤ) → pos 0 ≤ℤ (z *ℤ z)

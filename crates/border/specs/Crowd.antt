@@ -40,10 +40,10 @@ Untouched m = (e g : Arrow) → List·Memᴰ e (border (m .tris)) → List·Mem�
 -- ---- border arrows
 
 -- a border arrow leaves node k
-record Leaves (m : Mesh) (k : ℕ) : Type 0 where
-  out : Arrow
-  on-border : List·Memᴰ out (border (m .tris))
-  from-k : out .from ≡ k
+pub record Leaves (m : Mesh) (k : ℕ) : Type 0 where
+  pub out : Arrow
+  pub on-border : List·Memᴰ out (border (m .tris))
+  pub from-k : out .from ≡ k
 
 inner-or-leaves : (m : Mesh) (k : ℕ) → Inner m k ⊎ Leaves m k
 inner-or-leaves m k = go (count (λ e. eqb (e .from) k) (border (m .tris))) refl
@@ -55,7 +55,7 @@ inner-or-leaves m k = go (count (λ e. eqb (e .from) k) (border (m .tris))) refl
         inr (record { out = g; on-border = i; from-k = eqb-true (g .from) k f })
 
 -- the row of a border arrow
-border-row : (m : Mesh) {e : Arrow} → List·Memᴰ e (border (m .tris)) → (t : Tri) × List·Memᴰ t (m .tris) × List·Memᴰ e (arrows t)
+pub border-row : (m : Mesh) {e : Arrow} → List·Memᴰ e (border (m .tris)) → (t : Tri) × List·Memᴰ t (m .tris) × List·Memᴰ e (arrows t)
 border-row m i = in-joined arrows (m .tris) (only-out (λ e. not (any (holdsArrow (reverse e)) (m .tris))) (arrowsOf (m .tris)) i)
 
 -- an arrow of a row is on the border, or another row holds it the other way round
@@ -74,7 +74,7 @@ other-side m {t} {e} i j = go (any (holdsArrow (reverse e)) (m .tris)) refl
     go false h = on-border (only-in (λ e. not (any (holdsArrow (reverse e)) (m .tris))) (joined-in arrows i j) (ap not h))
 
 -- a node on the edge, as `onSide` says
-side-yes : (m : Mesh) (e : Arrow) (k : ℕ) → k ≢ e .from → k ≢ e .to → turn (at m (e .from)) (at m (e .to)) (at m k) ≡ pos 0 →
+pub side-yes : (m : Mesh) (e : Arrow) (k : ℕ) → k ≢ e .from → k ≢ e .to → turn (at m (e .from)) (at m (e .to)) (at m k) ≡ pos 0 →
     facing (at m (e .from)) (at m (e .to)) (at m k) ≤ℤ pos 0 → onSide (at m) e k ≡ true
 side-yes m e k f g t h =
     and-both (and-both (ap₂ (λ a b. not (a || b)) (ne-eqb k (e .from) f) (ne-eqb k (e .to) g)) (and-both (le-leZ _ _ (le-of-eq t)) (le-leZ _ _ (le-of-eq (sym t))))) (le-leZ _ _ h)

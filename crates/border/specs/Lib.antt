@@ -22,3 +22,5 @@ pub mod Crowd
 pub mod Safe
 pub mod OneNumber
 pub mod Meet
+pub mod ClearLaw
+pub mod Strangers

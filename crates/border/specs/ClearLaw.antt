@@ -42,7 +42,7 @@ use Rattle.border.specs.Crowd.{Leaves, border-row, side-yes}
 
 -- ---- the tests
 
-no-of-not : (b : Bool) → not b ≡ true → b ≡ false
+pub no-of-not : (b : Bool) → not b ≡ true → b ≡ false
 no-of-not true e = sym e
 no-of-not false e = refl
 
@@ -97,8 +97,17 @@ module _ (m : Mesh) (law : Lawful m) where
         let u = border-upright in
         apart-of-turn (at m (e .from)) (at m (e .to)) (at m third) (u .pqr) (steep-apart (u .p-in) (u .q-in) (no-difference (key steep (at m (e .from))) (key steep (at m (e .to))) h))
 
+    pub from-range : InRange (at m (e .from))
+    from-range = border-upright .p-in
+
+    pub to-range : InRange (at m (e .to))
+    to-range = border-upright .q-in
+
     pub border-apart : at m (e .from) ≢ at m (e .to)
     border-apart = apart-of-turn (at m (e .from)) (at m (e .to)) (at m third) (border-upright .pqr)
+
+  pub leaves-range : {v : ℕ} → Leaves m v → InRange (at m v)
+  leaves-range l = subst (λ k. InRange (at m k)) (l .from-k) (from-range (l .on-border))
 
   module _ (c : clear (at m) (border (m .tris)) ≡ true) {e : Arrow} (i : List·Memᴰ e (border (m .tris))) where
     -- a border node on a border edge is an end of it

@@ -24,3 +24,4 @@ pub mod OneNumber
 pub mod Meet
 pub mod ClearLaw
 pub mod Strangers
+pub mod ClearBare

@@ -3,33 +3,32 @@ use mathlib.Core.Bool.{Bool, true, false, not, _&&_}
 use mathlib.Core.List.{List·Memᴰ}
 use mathlib.Core.Logic.{_≢_}
 use mathlib.Core.Path.{_≡_, refl, sym, ap, ap₂, subst₂, _∙_}
-use Prim.Native.Nat.{ℕ, _≤_, _<_}
+use Prim.Native.Nat.{ℕ}
 use native.Mathlib.Omega.{arith}
-use lib.IntN.{ℤ, pos, natAbs, negℤ, _+ℤ_, _-ℤ_, _*ℤ_}
+use lib.IntN.{ℤ, pos, negℤ, _+ℤ_, _-ℤ_, _*ℤ_}
 use lib.Signed.{ltZ, _<ℤ_}
-use Rattle.whole.specs.Diff.{onℤ, sumℤ, subℤ, mulℤ}
+use Rattle.whole.specs.Diff.{onℤ, sumℤ, subℤ}
 use Rattle.whole.specs.Bound.{abs-add, abs-sub}
-use Rattle.whole.specs.Ring.{Expr, K, _:+_, _:-_, _:*_, ring3, ring4, ring6}
+use Rattle.whole.specs.Ring.{K, _:+_, _:-_, _:*_, ring4, ring6}
 use Rattle.lists.specs.Lists.{any, All}
-use Rattle.lists.specs.ListsLaw.{clash, any-at, All-at, All-of}
-use Rattle.lists.specs.MembersLaw.{only-out, only-passes}
+use Rattle.lists.specs.ListsLaw.{clash, any-at, All-of}
 use Rattle.lists.specs.PartsLaw.{in-only}
 use Rattle.meaning.specs.declared.Place.{Place}
-use Rattle.meaning.specs.Mesh.{Mesh, Arrow, arrow, sameArrow, holdsArrow, at, turn}
+use Rattle.meaning.specs.Mesh.{Mesh, Arrow, sameArrow, holdsArrow, at, turn}
 use Rattle.meaning.specs.Lawful.{InRange, Lawful}
 use Rattle.meaning.specs.Good.{Middle}
 use Rattle.meaning.specs.Proper.{Point, StrictlyInside, left}
 use Rattle.laws.specs.Area.{turn-cycle, left-half, middle-swap}
 use Rattle.laws.specs.Edges.{eq-arrow}
-use Rattle.border.specs.Sums.{one, added}
+use Rattle.border.specs.Sums.{one}
 use Rattle.border.specs.Under.{Form, Left, key, past, before, ahead, under, left-swapped, not-lt, lt-zero}
 use Rattle.border.specs.Cancel.{reverse, arrowsOf, border}
 use Rattle.border.specs.Count.{underArrow}
 use Rattle.border.specs.Clear.{steep, underMiddle, clear}
 use Rattle.border.specs.Segment.{corner, joint, rise}
-use Rattle.border.specs.Beside.{Clear, Free, ClearArrow, Ends, forth, back, Slant, rising, falling, slant, others, border-split}
-use Rattle.border.specs.Nearest.{upward, lowEnd, highEnd, Slanted, low-high, arrow-ends, middle, Lone, Bare, othersAt}
-use Rattle.border.specs.Meet.{Missed, key-inside, apart-missed}
+use Rattle.border.specs.Beside.{ClearArrow, Ends, forth, back, Slant, rising, falling, slant, others, border-split}
+use Rattle.border.specs.Nearest.{upward, lowEnd, highEnd, low-high, arrow-ends, middle, Lone, Bare, othersAt}
+use Rattle.border.specs.Meet.{key-inside, apart-missed}
 use Rattle.border.specs.Nudge.{no-multiple, no-difference, flat-from}
 use Rattle.border.specs.Corners.{inside-back}
 use Rattle.border.specs.Crowd.{Leaves, border-row}
@@ -47,10 +46,9 @@ middle-of-key : {A B P : Place} → InRange A → InRange B → InRange P → ah
 middle-of-key {A} {B} {P} a b p h = record { x-middle = sym (no-difference _ _ along); y-middle = no-difference _ _ (sym parts ∙ ap (λ d. d *ℤ pos 8_388_608) along) }
   where
     split : (x y u v : ℤ) → (pos 8_388_608 *ℤ x +ℤ pos 1 *ℤ y) -ℤ (pos 8_388_608 *ℤ u +ℤ pos 1 *ℤ v) *ℤ pos 2 ≡ pos 0 → ((u +ℤ u) -ℤ x) *ℤ pos 8_388_608 ≡ y -ℤ (v +ℤ v)
-    split x y u v e = equal _ _ (sym (ring4 (λ x y u v. ((K (pos 8_388_608) :* x :+ K (pos 1) :* y) :- (K (pos 8_388_608) :* u :+ K (pos 1) :* v) :* K (pos 2), (y :- (v :+ v)) :- ((u :+ u) :- x) :* K (pos 8_388_608))) x y u v tt) ∙ e)
-      where
-        equal : (a b : ℤ) → b -ℤ a ≡ pos 0 → a ≡ b
-        equal a b e = no-difference a b e
+    split x y u v e =
+        no-difference _ _
+        (sym (ring4 (λ x y u v. ((K (pos 8_388_608) :* x :+ K (pos 1) :* y) :- (K (pos 8_388_608) :* u :+ K (pos 1) :* v) :* K (pos 2), (y :- (v :+ v)) :- ((u :+ u) :- x) :* K (pos 8_388_608))) x y u v tt) ∙ e)
 
     parts : ((P .x +ℤ P .x) -ℤ (A .x +ℤ B .x)) *ℤ pos 8_388_608 ≡ (A .y +ℤ B .y) -ℤ (P .y +ℤ P .y)
     parts = split (A .x +ℤ B .x) (A .y +ℤ B .y) (P .x) (P .y) h

@@ -1,43 +1,35 @@
 -- What `clear` says of a lawful mesh's border: no node of it is on an edge of it but as an end, no two of its edges cross, none has an end with the key of
 -- another's middle, and the other arrows under an arrow's middle come to what it takes away there itself. Assumes nothing.
-use mathlib.Core.Bool.{Bool, true, false, not, _&&_, _||_}
+use mathlib.Core.Bool.{Bool, true, false, not, _&&_}
 use mathlib.Core.List.{List, List·Memᴰ}
 use mathlib.Core.Logic.{_≢_, _⊎_, inl, inr}
-use mathlib.Core.Path.{_≡_, refl, sym, ap, ap₂, subst, _∙_}
-use Prim.Native.Nat.{ℕ, _≤_, _<_}
+use mathlib.Core.Path.{_≡_, refl, sym, ap, subst, _∙_}
+use Prim.Native.Nat.{ℕ}
 use native.Mathlib.Omega.{arith}
 use native.Mathlib.Decide.{ℕ-discrete}
 use lib.Dec.{eqb}
-use lib.IntN.{ℤ, pos, natAbs, negℤ, _+ℤ_, _-ℤ_, _*ℤ_}
-use lib.Signed.{leZ, ltZ, _≤ℤ_, _<ℤ_}
+use lib.IntN.{ℤ, pos}
+use lib.Signed.{leZ, ltZ, _≤ℤ_}
 use borrow.Author.Tests.{eqb-true, eq-eqb}
-use Rattle.whole.specs.Diff.{onℤ, sumℤ, subℤ, mulℤ, negℤ-ud}
-use Rattle.whole.specs.Bound.{abs-add, abs-sub}
+use Rattle.whole.specs.Diff.{onℤ}
 use Rattle.whole.specs.Order.{le-of-eq, le-antisymm}
-use Rattle.whole.specs.Ring.{K, _:+_, _:-_, _:*_, neg, combine₂, ring4, ring6}
 use Rattle.whole.specs.Tests.{leZ-true}
-use Rattle.lists.specs.Lists.{any, count}
+use Rattle.lists.specs.Lists.{any}
 use Rattle.lists.specs.ListsLaw.{clash, and-left, and-right, or-no, All-at, all-yes, any-none, any-at}
 use Rattle.lists.specs.MembersLaw.{count-some, any-count}
 use Rattle.meaning.specs.declared.Place.{Place}
-use Rattle.meaning.specs.declared.Tri.{Tri}
 use Rattle.meaning.specs.Mesh.{Mesh, Arrow, tri, at, turn}
 use Rattle.meaning.specs.Lawful.{InRange, Lawful}
 use Rattle.meaning.specs.Good.{sameZ}
-use Rattle.meaning.specs.Proper.{Point, StrictlyInside, facing, left, shape}
+use Rattle.meaning.specs.Proper.{StrictlyInside, facing, shape}
 use Rattle.pairs.specs.Pair.{onSide}
-use Rattle.laws.specs.Area.{Turn}
-use Rattle.border.specs.Sums.{one, added}
-use Rattle.border.specs.Under.{key, past, before, under, ahead, left-swapped, not-lt, lt-zero}
+use Rattle.border.specs.Sums.{one}
+use Rattle.border.specs.Under.{key}
 use Rattle.border.specs.Cancel.{border, leave-arrive}
-use Rattle.border.specs.Count.{underArrow}
 use Rattle.border.specs.Clear.{steep, meets, crosses, underMiddle, rightFree, clear}
-use Rattle.border.specs.Segment.{rise}
-use Rattle.border.specs.Beside.{Slant, rising, falling, slant, others, border-split}
-use Rattle.border.specs.Nearest.{upward, Slanted, middle, othersAt}
-use Rattle.border.specs.Meet.{key-inside}
-use Rattle.border.specs.Nudge.{Upright, row-upright, steep-apart, apart-of-turn, no-multiple, no-difference, flat-from, flat-to}
-use Rattle.border.specs.Corners.{turned-arrow, turned-upright, facing-from, facing-to, inside-back}
+use Rattle.border.specs.Nearest.{Slanted}
+use Rattle.border.specs.Nudge.{Upright, row-upright, steep-apart, apart-of-turn, no-difference, flat-from, flat-to}
+use Rattle.border.specs.Corners.{turned-arrow, turned-upright, facing-from, facing-to}
 use Rattle.border.specs.Crowd.{Leaves, border-row, side-yes}
 
 -- ---- the tests
@@ -131,14 +123,16 @@ module _ (m : Mesh) (law : Lawful m) where
 
     -- a border node at the place of an end is that end
     pub at-from : {v : ℕ} → Leaves m v → at m v ≡ at m (e .from) → v ≡ e .from
-    at-from {v} l w = go (end-of l (ap (turn (at m (e .from)) (at m (e .to))) w ∙ flat-from (at m (e .from)) (at m (e .to))) (le-of-eq (ap (facing (at m (e .from)) (at m (e .to))) w ∙ facing-from (at m (e .from)) (at m (e .to)))))
+    at-from {v} l w = go (end-of l (ap (turn (at m (e .from)) (at m (e .to))) w ∙ flat-from (at m (e .from)) (at m (e .to)))
+        (le-of-eq (ap (facing (at m (e .from)) (at m (e .to))) w ∙ facing-from (at m (e .from)) (at m (e .to)))))
       where
         go : (v ≡ e .from) ⊎ (v ≡ e .to) → v ≡ e .from
         go (inl p) = p
         go (inr p) = absurd (border-apart i (sym w ∙ ap (at m) p))
 
     pub at-to : {v : ℕ} → Leaves m v → at m v ≡ at m (e .to) → v ≡ e .to
-    at-to {v} l w = go (end-of l (ap (turn (at m (e .from)) (at m (e .to))) w ∙ flat-to (at m (e .from)) (at m (e .to))) (le-of-eq (ap (facing (at m (e .from)) (at m (e .to))) w ∙ facing-to (at m (e .from)) (at m (e .to)))))
+    at-to {v} l w = go (end-of l (ap (turn (at m (e .from)) (at m (e .to))) w ∙ flat-to (at m (e .from)) (at m (e .to)))
+        (le-of-eq (ap (facing (at m (e .from)) (at m (e .to))) w ∙ facing-to (at m (e .from)) (at m (e .to)))))
       where
         go : (v ≡ e .from) ⊎ (v ≡ e .to) → v ≡ e .to
         go (inl p) = absurd (border-apart i (sym (ap (at m) p) ∙ w))

@@ -69,7 +69,8 @@ ahead-toward A P t =
 
 small-turn : {A B C : Place} → InRange A → InRange B → InRange C → natAbs (turn A B C) ≤ 8_796_093_022_208
 small-turn {A} {B} {C} a b c =
-    abs-sub ((B .x -ℤ A .x) *ℤ (C .y -ℤ A .y)) ((C .x -ℤ A .x) *ℤ (B .y -ℤ A .y)) (abs-mul (B .x -ℤ A .x) (C .y -ℤ A .y) (near-x a b) (near-y a c)) (abs-mul (C .x -ℤ A .x) (B .y -ℤ A .y) (near-x a c) (near-y a b))
+    abs-sub ((B .x -ℤ A .x) *ℤ (C .y -ℤ A .y)) ((C .x -ℤ A .x) *ℤ (B .y -ℤ A .y))
+    (abs-mul (B .x -ℤ A .x) (C .y -ℤ A .y) (near-x a b) (near-y a c)) (abs-mul (C .x -ℤ A .x) (B .y -ℤ A .y) (near-x a c) (near-y a b))
 
 small-key : {A : Place} → InRange A → natAbs (key steep A) ≤ 8_796_094_070_784
 small-key {A} a = abs-add (pos 8_388_608 *ℤ A .x) (pos 1 *ℤ A .y) (abs-mul (pos 8_388_608) (A .x) {m = 8_388_608} (omega arith) (a .x-near)) (abs-mul (pos 1) (A .y) {m = 1} (omega arith) (a .y-near))
@@ -111,7 +112,8 @@ module _ (P : Place) {t : Shape} (u : Upright t) where
 
     close-ahead : key steep A <ℤ key steep P → (key steep A *ℤ close P t .W) <ℤ keyAt steep (close P t)
     close-ahead h = more (keyAt steep (close P t)) (key steep A *ℤ close P t .W)
-        (nudged-ahead A (toward P t) (subst (λ k. pos 0 <ℤ k) (sym (ahead-toward A P t)) (still-above 70_368_744_177_664 (corners-key A t) keys-small (key steep P -ℤ key steep A) (less (key steep P) (key steep A) h))))
+        (nudged-ahead A (toward P t) (subst (λ k. pos 0 <ℤ k) (sym (ahead-toward A P t))
+        (still-above 70_368_744_177_664 (corners-key A t) keys-small (key steep P -ℤ key steep A) (less (key steep P) (key steep A) h))))
       where
         less : (x y : ℤ) → y <ℤ x → pos 0 <ℤ (x -ℤ y)
         less x y h = omega (arith, onℤ, subℤ x y)
@@ -121,7 +123,8 @@ module _ (P : Place) {t : Shape} (u : Upright t) where
 
     close-behind : key steep P <ℤ key steep A → keyAt steep (close P t) <ℤ (key steep A *ℤ close P t .W)
     close-behind h = less (keyAt steep (close P t)) (key steep A *ℤ close P t .W)
-        (nudged-behind A (toward P t) (subst (λ k. k <ℤ pos 0) (sym (ahead-toward A P t)) (still-below 70_368_744_177_664 (corners-key A t) keys-small (key steep P -ℤ key steep A) (more (key steep P) (key steep A) h))))
+        (nudged-behind A (toward P t) (subst (λ k. k <ℤ pos 0) (sym (ahead-toward A P t))
+        (still-below 70_368_744_177_664 (corners-key A t) keys-small (key steep P -ℤ key steep A) (more (key steep P) (key steep A) h))))
       where
         more : (x y : ℤ) → x <ℤ y → (x -ℤ y) <ℤ pos 0
         more x y h = omega (arith, onℤ, subℤ x y)

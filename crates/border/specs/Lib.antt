@@ -12,6 +12,8 @@ pub mod Nearest
 pub mod Near
 pub mod Disjoint
 pub mod Sides
+pub mod OneNumber
+pub mod Meet
 pub mod Clear
 pub mod ClearMeshes
 pub mod Nudge
@@ -19,9 +21,7 @@ pub mod Close
 pub mod Fan
 pub mod Corners
 pub mod Crowd
-pub mod Safe
-pub mod OneNumber
-pub mod Meet
-pub mod ClearLaw
 pub mod Strangers
+pub mod ClearLaw
 pub mod ClearBare
+pub mod Safe

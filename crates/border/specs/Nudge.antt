@@ -98,7 +98,7 @@ steep-apart {A} {B} a b h = same-place ex ey
 
 -- ---- nudging
 
--- 1/2^45 to the right, and 2^22/2^45 up, times the weight
+-- moved by 1 to the right and by 2^22 up, in parts of its weight 2^45 times over
 abbrev pub nudged : Point → Point
 nudged s = record { X = pos 35_184_372_088_832 *ℤ s .X +ℤ pos 1; Y = pos 35_184_372_088_832 *ℤ s .Y +ℤ pos 4_194_304; W = pos 35_184_372_088_832 *ℤ s .W }
 

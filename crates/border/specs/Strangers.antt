@@ -1,16 +1,15 @@
 -- Two segments that have nothing in common but an end, whichever way each of them is read. Assumes nothing.
-use mathlib.Core.Bool.{Bool, true, false, _&&_, _||_}
+use mathlib.Core.Bool.{true, _&&_}
 use mathlib.Core.Logic.{_≢_}
-use mathlib.Core.Path.{_≡_, sym, ap, _∙_}
+use mathlib.Core.Path.{_≡_, _∙_}
 use native.Mathlib.Omega.{arith}
 use lib.IntN.{ℤ, pos, negℤ}
-use lib.Signed.{ltZ, _<ℤ_}
+use lib.Signed.{ltZ}
 use Rattle.whole.specs.Diff.{onℤ, negℤ-ud}
 use Rattle.whole.specs.Tests.{lt-ltZ}
-use Rattle.lists.specs.ListsLaw.{clash, and-both, or-left, or-right}
+use Rattle.lists.specs.ListsLaw.{and-both, or-left, or-right}
 use Rattle.meaning.specs.declared.Place.{Place}
 use Rattle.meaning.specs.Mesh.{turn}
-use Rattle.meaning.specs.Proper.{StrictlyInside}
 use Rattle.laws.specs.Area.{turn-cycle, turn-mirror}
 use Rattle.border.specs.Clear.{opposite, crosses}
 use Rattle.border.specs.Meet.{Opposite, down, upwards, Cross, Missed}

@@ -159,6 +159,53 @@ pub record Missed (A B C D : Place) : Type 0 where
   pub b-out : ¬ StrictlyInside C D B
   pub no-cross : ¬ Cross A B C D
   pub not-same : A ≡ C → B ≢ D
+  pub not-turned : A ≡ D → B ≢ C
+
+inside-back : {A B P : Place} → StrictlyInside A B P → StrictlyInside B A P
+inside-back {A} {B} {P} h = record {
+  on-line = turn-cycle B A P ∙ turn-mirror A B P ∙ ap negℤ (h .on-line);
+  between = subst (λ k. k <ℤ pos 0) (ring6 (λ a b c d x y. ((a :- x) :* (c :- x) :+ (b :- y) :* (d :- y), (c :- x) :* (a :- x) :+ (d :- y) :* (b :- y))) (A .x) (A .y) (B .x) (B .y) (P .x) (P .y) tt) (h .between);
+}
+
+opposite-swap : {x y : ℤ} → Opposite x y → Opposite y x
+opposite-swap (down h i) = upwards i h
+opposite-swap (upwards h i) = down i h
+
+opposite-neg : (x y u v : ℤ) → u ≡ negℤ x → v ≡ negℤ y → Opposite u v → Opposite x y
+opposite-neg x y u v e g (down h i) = upwards (omega (arith, onℤ, negℤ-ud x)) (omega (arith, onℤ, negℤ-ud y))
+opposite-neg x y u v e g (upwards h i) = down (omega (arith, onℤ, negℤ-ud x)) (omega (arith, onℤ, negℤ-ud y))
+
+turn-back : (A B P : Place) → turn B A P ≡ negℤ (turn A B P)
+turn-back A B P = turn-cycle B A P ∙ turn-mirror A B P
+
+-- the same of the segments the other way round
+pub missed-back : {A B C D : Place} → Missed A B C D → Missed A B D C
+missed-back {A} {B} {C} {D} h = record {
+  c-out = h .d-out;
+  d-out = h .c-out;
+  a-out = λ i. h .a-out (inside-back i);
+  b-out = λ i. h .b-out (inside-back i);
+  no-cross = λ c. h .no-cross (record {
+    ends-of-second = opposite-swap (c .ends-of-second);
+    ends-of-first = opposite-neg (turn C D A) (turn C D B) (turn D C A) (turn D C B) (turn-back C D A) (turn-back C D B) (c .ends-of-first);
+  });
+  not-same = h .not-turned;
+  not-turned = h .not-same;
+}
+
+pub missed-over : {A B C D : Place} → Missed A B C D → Missed C D A B
+missed-over h = record {
+  c-out = h .a-out;
+  d-out = h .b-out;
+  a-out = h .c-out;
+  b-out = h .d-out;
+  no-cross = λ c. h .no-cross (record { ends-of-second = c .ends-of-first; ends-of-first = c .ends-of-second });
+  not-same = λ e g. h .not-same (sym e) (sym g);
+  not-turned = λ e g. h .not-turned (sym g) (sym e);
+}
+
+pub missed-first : {A B C D : Place} → Missed A B C D → Missed B A C D
+missed-first h = missed-over (missed-back (missed-over h))
 
 opposite-or-zero : (a b x y : ℤ) → pos 0 <ℤ a → pos 0 <ℤ b → a *ℤ x +ℤ b *ℤ y ≡ pos 0 → Opposite x y ⊎ ((x ≡ pos 0) × (y ≡ pos 0))
 opposite-or-zero a b x y ha hb e = go (ltZ (pos 0) x) (ltZ x (pos 0)) refl refl

@@ -14,3 +14,4 @@ pub mod Disjoint
 pub mod Sides
 pub mod OneNumber
 pub mod Meet
+pub mod Quiet

@@ -15,3 +15,4 @@ pub mod Sides
 pub mod OneNumber
 pub mod Meet
 pub mod Quiet
+pub mod Keys

@@ -40,7 +40,7 @@ square-from (pos zero) = omega (arith, onℤ)
 square-from (pos (suc x)) = let h = square-above (pos (suc x)) (λ g. omega (arith, onℤ)) in omega (arith, onℤ)
 square-from (negsuc x) = let h = square-above (negsuc x) (λ g. omega (arith, onℤ)) in omega (arith, onℤ)
 
-norm-above : (a b x y : ℤ) → a *ℤ x +ℤ b *ℤ y ≢ pos 0 → pos 0 <ℤ (x *ℤ x +ℤ y *ℤ y)
+pub norm-above : (a b x y : ℤ) → a *ℤ x +ℤ b *ℤ y ≢ pos 0 → pos 0 <ℤ (x *ℤ x +ℤ y *ℤ y)
 norm-above a b (pos zero) y n =
     let h = square-above y (λ e. n (ap (λ k. a *ℤ pos 0 +ℤ b *ℤ k) e ∙ ring2 (λ a b. (a :* K (pos 0) :+ b :* K (pos 0), K (pos 0))) a b tt)) in
     omega (arith, onℤ, sumℤ (pos 0 *ℤ pos 0) (y *ℤ y))
@@ -66,7 +66,7 @@ Cofactor a b p q u v =
     (a :* p :+ b :* q) :* (b :* p :- a :* q)
 
 module _ (f : Form) (A B : Place) where
-  rise-is : (P Q : Place) → rise f P Q ≡ f .along *ℤ (Q .x -ℤ P .x) +ℤ f .across *ℤ (Q .y -ℤ P .y)
+  pub rise-is : (P Q : Place) → rise f P Q ≡ f .along *ℤ (Q .x -ℤ P .x) +ℤ f .across *ℤ (Q .y -ℤ P .y)
   rise-is P Q = ring6 (λ a b px py qx qy. ((a :* qx :+ b :* qy) :- (a :* px :+ b :* py), a :* (qx :- px) :+ b :* (qy :- py))) (f .along) (f .across) (P .x) (P .y) (Q .x) (Q .y) tt
 
   rise-split : (P : Place) → rise f A B ≡ rise f A P +ℤ rise f P B

@@ -9,6 +9,7 @@ use lib.IntN.{ℤ, pos, negsuc, negℤ, natAbs, _+ℤ_, _-ℤ_, _*ℤ_}
 use lib.Signed.{_<ℤ_}
 use lib.ListN.{length, getD}
 use Rattle.whole.specs.Diff.{onℤ, sumℤ, subℤ, mulℤ, negℤ-ud}
+use Rattle.whole.specs.Bound.{absℤ, abs-neg, abs-add, abs-sub}
 use Rattle.whole.specs.Ring.{Expr, K, _:+_, _:-_, _:*_, neg, ring2, ring3, ring4, ring6, ring8, combine₁, combine₂}
 use Rattle.lists.specs.Lists.{any, All, nil, cons}
 use Rattle.lists.specs.ListsLaw.{clash, All-imp, All-at, All-of, All-joined}
@@ -135,3 +136,68 @@ module _ (f : Form) (m : Mesh) (sep : Separates f m) (positive : All (λ t. pos 
 
   pub all-lone : All (Lone f m (m .tris)) (border (m .tris))
   all-lone = All-of (border (m .tris)) lone-arrow
+
+-- ---- the keys x · 2^23 + y and y · 2^23 − x
+
+abbrev pub byX : Form
+byX = record { along = pos 8388608; across = pos 1 }
+
+abbrev pub byY : Form
+byY = record { along = negsuc 0; across = pos 8388608 }
+
+small : (d e : ℤ) → natAbs e ≤ 4194304 → pos 8388608 *ℤ d +ℤ e ≡ pos 0 → (d ≡ pos 0) × (e ≡ pos 0)
+small d e h g =
+    let z : d ≡ pos 0 = omega (arith, onℤ, mulℤ (pos 8388608) d, sumℤ (pos 8388608 *ℤ d) e, absℤ e) in
+    (z, omega (arith, onℤ, mulℤ (pos 8388608) d, sumℤ (pos 8388608 *ℤ d) e))
+
+module _ (m : Mesh) (law : Lawful m) where
+  place-near : (k : ℕ) → InRange (at m k)
+  place-near k = go (m .nodes) k (law .range)
+    where
+      go : (l : List Node) (k : ℕ) → All NodeInRange l → InRange (getD l k origin .place)
+      go [] k nil = record { x-near = omega arith; y-near = omega arith }
+      go (a ∷ l) zero (cons h hs) = h .place-in
+      go (a ∷ l) (suc k) (cons h hs) = go l k hs
+
+  -- 2v − (a + b), of numbers in the range
+  apart-near : (v a b : ℤ) → natAbs v ≤ 1048576 → natAbs a ≤ 1048576 → natAbs b ≤ 1048576 → natAbs ((v +ℤ v) -ℤ (a +ℤ b)) ≤ 4194304
+  apart-near v a b h i j = omega (arith, abs-sub (v +ℤ v) (a +ℤ b) (abs-add v v h h) (abs-add a b i j))
+
+  equal : (p q : ℤ) → p -ℤ q ≡ pos 0 → p ≡ q
+  equal p q e = omega (arith, onℤ, subℤ p q)
+
+  zero-difference : (p q : ℤ) → p ≡ q → p -ℤ q ≡ pos 0
+  zero-difference p q e = omega (arith, onℤ, subℤ p q)
+
+  pub byX-separates : Separates byX m
+  byX-separates = record { across-not = λ e. omega (arith, onℤ); doubles = λ v a b e. go (at m v) (at m a) (at m b) (place-near v) (place-near a) (place-near b) e }
+    where
+      go : (P A B : Place) → InRange P → InRange A → InRange B → key byX P +ℤ key byX P ≡ key byX A +ℤ key byX B → (P .x +ℤ P .x ≡ A .x +ℤ B .x) × (P .y +ℤ P .y ≡ A .y +ℤ B .y)
+      go P A B h i j e =
+          let (x, y) = small ((P .x +ℤ P .x) -ℤ (A .x +ℤ B .x)) ((P .y +ℤ P .y) -ℤ (A .y +ℤ B .y)) (apart-near (P .y) (A .y) (B .y) (h .y-near) (i .y-near) (j .y-near))
+          (ring6 (λ p q a b c d. (
+            K (pos 8388608) :* ((p :+ p) :- (a :+ c)) :+ ((q :+ q) :- (b :+ d)),
+            ((K (pos 8388608) :* p :+ K (pos 1) :* q) :+ (K (pos 8388608) :* p :+ K (pos 1) :* q)) :- ((K (pos 8388608) :* a :+ K (pos 1) :* b) :+ (K (pos 8388608) :* c :+ K (pos 1) :* d)),
+          ))
+          (P .x) (P .y) (A .x) (A .y) (B .x) (B .y) tt ∙ zero-difference (key byX P +ℤ key byX P) (key byX A +ℤ key byX B) e) in
+          (equal (P .x +ℤ P .x) (A .x +ℤ B .x) x, equal (P .y +ℤ P .y) (A .y +ℤ B .y) y)
+
+  pub byY-separates : Separates byY m
+  byY-separates = record { across-not = λ e. omega (arith, onℤ); doubles = λ v a b e. go (at m v) (at m a) (at m b) (place-near v) (place-near a) (place-near b) e }
+    where
+      neg-near : (z : ℤ) → natAbs z ≤ 4194304 → natAbs (negℤ z) ≤ 4194304
+      neg-near z h = rw (abs-neg z) h
+
+      neg-zero : (z : ℤ) → negℤ z ≡ pos 0 → z ≡ pos 0
+      neg-zero z e = omega (arith, onℤ, negℤ-ud z)
+
+      go : (P A B : Place) → InRange P → InRange A → InRange B → key byY P +ℤ key byY P ≡ key byY A +ℤ key byY B → (P .x +ℤ P .x ≡ A .x +ℤ B .x) × (P .y +ℤ P .y ≡ A .y +ℤ B .y)
+      go P A B h i j e =
+          let (y, x) = small ((P .y +ℤ P .y) -ℤ (A .y +ℤ B .y)) (negℤ ((P .x +ℤ P .x) -ℤ (A .x +ℤ B .x)))
+          (neg-near ((P .x +ℤ P .x) -ℤ (A .x +ℤ B .x)) (apart-near (P .x) (A .x) (B .x) (h .x-near) (i .x-near) (j .x-near)))
+          (ring6 (λ p q a b c d. (
+            K (pos 8388608) :* ((q :+ q) :- (b :+ d)) :+ neg ((p :+ p) :- (a :+ c)),
+            ((K (negsuc 0) :* p :+ K (pos 8388608) :* q) :+ (K (negsuc 0) :* p :+ K (pos 8388608) :* q)) :- ((K (negsuc 0) :* a :+ K (pos 8388608) :* b) :+ (K (negsuc 0) :* c :+ K (pos 8388608) :* d)),
+          ))
+          (P .x) (P .y) (A .x) (A .y) (B .x) (B .y) tt ∙ zero-difference (key byY P +ℤ key byY P) (key byY A +ℤ key byY B) e) in
+          (equal (P .x +ℤ P .x) (A .x +ℤ B .x) (neg-zero ((P .x +ℤ P .x) -ℤ (A .x +ℤ B .x)) x), equal (P .y +ℤ P .y) (A .y +ℤ B .y) y)

@@ -1,42 +1,41 @@
--- What `clear` says of a lawful mesh's border: no node of it is on an edge of it but as an end, no two of its edges cross, none has an end with the key of
--- another's middle, and the other arrows under an arrow's middle come to what it takes away there itself. Assumes nothing.
+-- What `clear` says of a lawful mesh's border: no arrow of it meets another, and no row lies just right of one. Assumes nothing.
 use mathlib.Core.Bool.{Bool, true, false, not, _&&_}
 use mathlib.Core.List.{List, List·Memᴰ}
 use mathlib.Core.Logic.{_≢_, _⊎_, inl, inr}
-use mathlib.Core.Path.{_≡_, refl, sym, ap, subst, _∙_}
+use mathlib.Core.Path.{_≡_, refl, sym, ap, ap₂, _∙_}
 use Prim.Native.Nat.{ℕ}
 use native.Mathlib.Omega.{arith}
 use native.Mathlib.Decide.{ℕ-discrete}
-use lib.Dec.{eqb}
-use lib.IntN.{ℤ, pos}
-use lib.Signed.{leZ, ltZ, _≤ℤ_}
-use borrow.Author.Tests.{eqb-true, eq-eqb}
-use Rattle.whole.specs.Diff.{onℤ}
+use lib.IntN.{ℤ, pos, negℤ, _+ℤ_, _-ℤ_}
+use lib.Signed.{leZ, ltZ, _≤ℤ_, _<ℤ_}
+use Rattle.whole.specs.Diff.{onℤ, sumℤ, subℤ}
 use Rattle.whole.specs.Order.{le-of-eq, le-antisymm}
-use Rattle.whole.specs.Tests.{leZ-true}
-use Rattle.lists.specs.Lists.{any}
-use Rattle.lists.specs.ListsLaw.{clash, and-left, and-right, or-no, All-at, all-yes, any-none, any-at}
-use Rattle.lists.specs.MembersLaw.{count-some, any-count}
+use Rattle.whole.specs.Ring.{K, _:+_, ring4}
+use Rattle.whole.specs.Tests.{leZ-true, lt-ltZ}
+use Rattle.lists.specs.Lists.{any, All}
+use Rattle.lists.specs.ListsLaw.{clash, and-both, and-left, and-right, or-left, or-right, or-no, All-at, All-of, All-imp, all-yes, any-none}
 use Rattle.meaning.specs.declared.Place.{Place}
-use Rattle.meaning.specs.Mesh.{Mesh, Arrow, tri, at, turn}
-use Rattle.meaning.specs.Lawful.{InRange, Lawful}
+use Rattle.meaning.specs.Mesh.{Mesh, Arrow, at, turn, twiceArea}
+use Rattle.meaning.specs.Lawful.{Lawful}
 use Rattle.meaning.specs.Good.{sameZ}
-use Rattle.meaning.specs.Proper.{StrictlyInside, facing, shape}
+use Rattle.meaning.specs.Proper.{StrictlyInside, area, facing, left, shape}
 use Rattle.pairs.specs.Pair.{onSide}
 use Rattle.border.specs.Sums.{one}
-use Rattle.border.specs.Under.{key}
-use Rattle.border.specs.Cancel.{border, leave-arrive}
-use Rattle.border.specs.Clear.{steep, meets, crosses, underMiddle, rightFree, clear}
-use Rattle.border.specs.Nearest.{Slanted}
-use Rattle.border.specs.Nudge.{Upright, row-upright, steep-apart, apart-of-turn, no-difference, flat-from, flat-to}
+use Rattle.border.specs.Under.{Form, Left, key, past, before, under, left-swapped, not-lt, lt-zero}
+use Rattle.border.specs.Cancel.{border}
+use Rattle.border.specs.Count.{underArrow}
+use Rattle.border.specs.Segment.{corner, joint}
+use Rattle.border.specs.Beside.{border-split}
+use Rattle.border.specs.Nearest.{upward, Slanted, middle, Bare, othersAt}
+use Rattle.border.specs.Meet.{Opposite, down, upwards, Cross}
+use Rattle.border.specs.Quiet.{NoTouch, Quiet}
+use Rattle.border.specs.Keys.{byX-separates, border-slanted, all-lone}
+use Rattle.border.specs.Clear.{steep, opposite, crosses, meets, underMiddle, rightFree, clear}
+use Rattle.border.specs.Nudge.{row-upright, apart-of-turn, flat-from, flat-to}
 use Rattle.border.specs.Corners.{turned-arrow, turned-upright, facing-from, facing-to}
-use Rattle.border.specs.Crowd.{Leaves, border-row, side-yes}
+use Rattle.border.specs.Crowd.{border-row, side-yes}
 
 -- ---- the tests
-
-pub no-of-not : (b : Bool) → not b ≡ true → b ≡ false
-no-of-not true e = sym e
-no-of-not false e = refl
 
 module _ (P : ℕ → Place) (es : List Arrow) (c : clear P es ≡ true) {e : Arrow} (i : List·Memᴰ e es) where
   both-tests : not (any (meets P e) es) && rightFree P es e ≡ true
@@ -48,92 +47,132 @@ module _ (P : ℕ → Place) (es : List Arrow) (c : clear P es ≡ true) {e : Ar
   neither {g} j =
       or-no (onSide P e (g .from)) (crosses (P (e .from)) (P (e .to)) (P (g .from)) (P (g .to)))
       (All-at (any-none (meets P e) es (no-of-not (any (meets P e) es) (and-left (not (any (meets P e) es)) (rightFree P es e) both-tests))) j)
+    where
+      no-of-not : (b : Bool) → not b ≡ true → b ≡ false
+      no-of-not true t = sym t
+      no-of-not false t = refl
 
   -- no arrow of a clear border begins on another but in an end of it
   pub clear-untouched : {g : Arrow} → List·Memᴰ g es → onSide P e (g .from) ≡ false
   clear-untouched j = neither j .0
 
   -- and none crosses another
-  pub clear-uncrossed : {g : Arrow} → List·Memᴰ g es → crosses (P (e .from)) (P (e .to)) (P (g .from)) (P (g .to)) ≡ false
-  clear-uncrossed j = neither j .1
+  clear-uncrossed : {g : Arrow} → List·Memᴰ g es → ¬ Cross (P (e .from)) (P (e .to)) (P (g .from)) (P (g .to))
+  clear-uncrossed j h = clash (sym (and-both (opposite-yes (h .ends-of-second)) (opposite-yes (h .ends-of-first))) ∙ neither j .1)
+    where
+      opposite-yes : {x y : ℤ} → Opposite x y → opposite x y ≡ true
+      opposite-yes {x} {y} (down a b) = or-right (ltZ x (pos 0) && ltZ (pos 0) y) (and-both (lt-ltZ (pos 0) x a) (lt-ltZ y (pos 0) b))
+      opposite-yes {x} {y} (upwards a b) = or-left (ltZ (pos 0) x && ltZ y (pos 0)) (and-both (lt-ltZ x (pos 0) a) (lt-ltZ (pos 0) y b))
 
-  pub clear-right : underMiddle P es e ≡ one (ltZ (key steep (P (e .to))) (key steep (P (e .from))))
+  clear-right : underMiddle P es e ≡ one (ltZ (key steep (P (e .to))) (key steep (P (e .from))))
   clear-right = equal (underMiddle P es e) (one (ltZ (key steep (P (e .to))) (key steep (P (e .from))))) (and-right (not (any (meets P e) es)) (rightFree P es e) both-tests)
     where
       equal : (a b : ℤ) → sameZ a b ≡ true → a ≡ b
       equal a b t = le-antisymm (leZ-true a b (and-left (leZ a b) (leZ b a) t)) (leZ-true b a (and-right (leZ a b) (leZ b a) t))
 
--- ---- the border of a lawful mesh
+-- an arrow does not run under its own middle
+own-middle : (f : Form) (A B : Place) → under f A B (joint (corner A) (corner B)) ≡ pos 0
+unfolding under
+own-middle f A B =
+    let M = joint (corner A) (corner B) in
+    let there : left A B M ≡ pos 0 = ring4 (λ a b c d. (Left a b c d (a :+ c) (b :+ d) (K (pos 1) :+ K (pos 1)), K (pos 0))) (A .x) (A .y) (B .x) (B .y) tt in
+    let again : left B A M ≡ pos 0 = left-swapped A B M ∙ ap negℤ there in
+    (λ i. one (past f A M && before f B M && ltZ (pos 0) (there i)) -ℤ one (past f B M && before f A M && ltZ (pos 0) (again i))) ∙
+    ap₂ _-ℤ_ (never (past f A M) (before f B M)) (never (past f B M) (before f A M))
+  where
+    never : (a b : Bool) → one (a && b && false) ≡ pos 0
+    never true true = refl
+    never true false = refl
+    never false b = refl
 
-module _ (m : Mesh) (law : Lawful m) where
-  -- the ends of a border arrow start border arrows
-  pub from-leaves : {e : Arrow} → List·Memᴰ e (border (m .tris)) → Leaves m (e .from)
-  from-leaves {e} i = record { out = e; on-border = i; from-k = refl }
+module _ (m : Mesh) (law : Lawful m) (c : clear (at m) (border (m .tris)) ≡ true) where
+  -- ---- nodes and edges of the border
 
-  pub to-leaves : {e : Arrow} → List·Memᴰ e (border (m .tris)) → Leaves m (e .to)
-  to-leaves {e} i =
-      let arrives = any-count (λ (d : Arrow). eqb (d .to) (e .to)) (border (m .tris)) (any-at (λ (d : Arrow). eqb (d .to) (e .to)) (eq-eqb (e .to) (e .to) refl) i) in
-      let (g, j, f) = count-some (λ (d : Arrow). eqb (d .from) (e .to)) (border (m .tris)) (omega (arith, leave-arrive (e .to) (m .tris) (law .noTwice))) in
-      record { out = g; on-border = j; from-k = eqb-true (g .from) (e .to) f }
+  module _ {e g : Arrow} (i : List·Memᴰ e (border (m .tris))) (j : List·Memᴰ g (border (m .tris))) where
+    abbrev A : Place
+    A = at m (e .from)
 
-  module _ {e : Arrow} (i : List·Memᴰ e (border (m .tris))) where
-    -- its row, its own way round
-    abbrev third : ℕ
-    third = turned-arrow (border-row m i .2) .0
+    abbrev B : Place
+    B = at m (e .to)
 
-    border-upright : Upright (shape m (tri (e .from) (e .to) third))
-    border-upright = let (t, j, k) = border-row m i in turned-upright m (turned-arrow k .1) (row-upright m law j)
+    ends-apart : A ≢ B
+    ends-apart =
+        let (t, k, l) = border-row m i in
+        let (z, T) = turned-arrow l in
+        apart-of-turn A B (at m z) (turned-upright m T (row-upright m law k) .pqr)
 
-    pub border-slanted : Slanted steep m e
-    border-slanted h =
-        let u = border-upright in
-        apart-of-turn (at m (e .from)) (at m (e .to)) (at m third) (u .pqr) (steep-apart (u .p-in) (u .q-in) (no-difference (key steep (at m (e .from))) (key steep (at m (e .to))) h))
-
-    pub from-range : InRange (at m (e .from))
-    from-range = border-upright .p-in
-
-    pub to-range : InRange (at m (e .to))
-    to-range = border-upright .q-in
-
-    pub border-apart : at m (e .from) ≢ at m (e .to)
-    border-apart = apart-of-turn (at m (e .from)) (at m (e .to)) (at m third) (border-upright .pqr)
-
-  pub leaves-range : {v : ℕ} → Leaves m v → InRange (at m v)
-  leaves-range l = subst (λ k. InRange (at m k)) (l .from-k) (from-range (l .on-border))
-
-  module _ (c : clear (at m) (border (m .tris)) ≡ true) {e : Arrow} (i : List·Memᴰ e (border (m .tris))) where
-    -- a border node on a border edge is an end of it
-    end-of : {v : ℕ} → Leaves m v → turn (at m (e .from)) (at m (e .to)) (at m v) ≡ pos 0 → facing (at m (e .from)) (at m (e .to)) (at m v) ≤ℤ pos 0 → (v ≡ e .from) ⊎ (v ≡ e .to)
-    end-of {v} l t h = go (ℕ-discrete v (e .from)) (ℕ-discrete v (e .to))
+    -- the start of g on e is an end of e
+    end-of : turn A B (at m (g .from)) ≡ pos 0 → facing A B (at m (g .from)) ≤ℤ pos 0 → (g .from ≡ e .from) ⊎ (g .from ≡ e .to)
+    end-of t h = go (ℕ-discrete (g .from) (e .from)) (ℕ-discrete (g .from) (e .to))
       where
-        go : Dec (v ≡ e .from) → Dec (v ≡ e .to) → (v ≡ e .from) ⊎ (v ≡ e .to)
+        go : Dec (g .from ≡ e .from) → Dec (g .from ≡ e .to) → (g .from ≡ e .from) ⊎ (g .from ≡ e .to)
         go (yes p) q = inl p
         go (no p) (yes q) = inr q
-        go (no p) (no q) = clash (sym (side-yes m e v p q t h) ∙ ap (onSide (at m) e) (sym (l .from-k)) ∙ clear-untouched (at m) (border (m .tris)) c i (l .on-border))
+        go (no p) (no q) = clash (sym (side-yes m e (g .from) p q t h) ∙ clear-untouched (at m) (border (m .tris)) c i j)
 
-    pub not-inside-edge : {v : ℕ} → Leaves m v → ¬ StrictlyInside (at m (e .from)) (at m (e .to)) (at m v)
-    not-inside-edge {v} l s = go (end-of l (s .on-line) (let b = s .between in omega (arith, onℤ)))
+    -- at the place of an end it is that end
+    at-place : (P : Place) → at m (g .from) ≡ P → turn A B P ≡ pos 0 → facing A B P ≡ pos 0 → (g .from ≡ e .from) ⊎ (g .from ≡ e .to)
+    at-place P w t h = end-of (ap (turn A B) w ∙ t) (le-of-eq (ap (facing A B) w ∙ h))
+
+    start-off : NoTouch m e (g .from)
+    start-off = record {
+      not-inside = λ s. within s (end-of (s .on-line) (let b = s .between in omega (arith, onℤ)));
+      at-start = λ w. first w (at-place A w (flat-from A B) (facing-from A B));
+      at-end = λ w. second w (at-place B w (flat-to A B) (facing-to A B));
+    }
       where
-        at-end : (P : Place) → at m v ≡ P → facing (at m (e .from)) (at m (e .to)) P ≡ pos 0 → ⊥
-        at-end P w z = let k = ap (facing (at m (e .from)) (at m (e .to))) w in omega (arith, onℤ, s .between)
+        outside : (P : Place) → at m (g .from) ≡ P → facing A B P ≡ pos 0 → StrictlyInside A B (at m (g .from)) → ⊥
+        outside P w h s = let k = ap (facing A B) w in omega (arith, onℤ, s .between)
 
-        go : (v ≡ e .from) ⊎ (v ≡ e .to) → ⊥
-        go (inl p) = at-end (at m (e .from)) (ap (at m) p) (facing-from (at m (e .from)) (at m (e .to)))
-        go (inr p) = at-end (at m (e .to)) (ap (at m) p) (facing-to (at m (e .from)) (at m (e .to)))
+        within : StrictlyInside A B (at m (g .from)) → (g .from ≡ e .from) ⊎ (g .from ≡ e .to) → ⊥
+        within s (inl p) = outside A (ap (at m) p) (facing-from A B) s
+        within s (inr p) = outside B (ap (at m) p) (facing-to A B) s
 
-    -- a border node at the place of an end is that end
-    pub at-from : {v : ℕ} → Leaves m v → at m v ≡ at m (e .from) → v ≡ e .from
-    at-from {v} l w = go (end-of l (ap (turn (at m (e .from)) (at m (e .to))) w ∙ flat-from (at m (e .from)) (at m (e .to)))
-        (le-of-eq (ap (facing (at m (e .from)) (at m (e .to))) w ∙ facing-from (at m (e .from)) (at m (e .to)))))
-      where
-        go : (v ≡ e .from) ⊎ (v ≡ e .to) → v ≡ e .from
-        go (inl p) = p
-        go (inr p) = absurd (border-apart i (sym w ∙ ap (at m) p))
+        first : at m (g .from) ≡ A → (g .from ≡ e .from) ⊎ (g .from ≡ e .to) → g .from ≡ e .from
+        first w (inl p) = p
+        first w (inr p) = absurd (ends-apart (sym w ∙ ap (at m) p))
 
-    pub at-to : {v : ℕ} → Leaves m v → at m v ≡ at m (e .to) → v ≡ e .to
-    at-to {v} l w = go (end-of l (ap (turn (at m (e .from)) (at m (e .to))) w ∙ flat-to (at m (e .from)) (at m (e .to)))
-        (le-of-eq (ap (facing (at m (e .from)) (at m (e .to))) w ∙ facing-to (at m (e .from)) (at m (e .to)))))
-      where
-        go : (v ≡ e .from) ⊎ (v ≡ e .to) → v ≡ e .to
-        go (inl p) = absurd (border-apart i (sym (ap (at m) p) ∙ w))
-        go (inr p) = p
+        second : at m (g .from) ≡ B → (g .from ≡ e .from) ⊎ (g .from ≡ e .to) → g .from ≡ e .to
+        second w (inl p) = absurd (ends-apart (sym (ap (at m) p) ∙ w))
+        second w (inr p) = p
+
+  -- NO ARROW MEETS ANOTHER.
+  pub clear-quiet : Quiet m
+  clear-quiet = record {
+    no-touch = λ e g i j n. start-off i j;
+    no-cross = λ e g i j n. clear-uncrossed (at m) (border (m .tris)) c i j;
+  }
+
+  -- ---- the right of an arrow
+
+  positive : All (λ t. pos 0 <ℤ area (shape m t)) (m .tris)
+  unfolding twiceArea
+  positive = All-imp (λ t h. h) (law .positive)
+
+  slanted : All (Slanted steep m) (border (m .tris))
+  slanted = border-slanted steep m (byX-separates m law) positive (law .noTwice) clear-quiet
+
+  falls : {e : Arrow} → List·Memᴰ e (border (m .tris)) → ltZ (key steep (at m (e .to))) (key steep (at m (e .from))) ≡ not (upward steep m e)
+  falls {e} i =
+      let a = key steep (at m (e .from)) in
+      let b = key steep (at m (e .to)) in
+      not-lt a b (λ z. All-at slanted i (level a b z)) ∙ ap not (lt-zero a b)
+    where
+      level : (a b : ℤ) → a ≡ b → b -ℤ a ≡ pos 0
+      level a b z = omega (arith, onℤ, subℤ b a)
+
+  nothing-right : {e : Arrow} → List·Memᴰ e (border (m .tris)) → othersAt steep m (m .tris) e ≡ one (not (upward steep m e))
+  unfolding underMiddle
+  nothing-right {e} i =
+      rest (underArrow steep m (middle m e) e) (othersAt steep m (m .tris) e) (own-middle steep (at m (e .from)) (at m (e .to))) ∙
+      sym (border-split (m .tris) (law .noTwice) e i (underArrow steep m (middle m e))) ∙
+      clear-right (at m) (border (m .tris)) c i ∙ ap one (falls i)
+    where
+      rest : (a b : ℤ) → a ≡ pos 0 → b ≡ a +ℤ b
+      rest a b z = omega (arith, onℤ, sumℤ a b)
+
+  -- AND NO ROW LIES JUST RIGHT OF ONE.
+  pub clear-bare : All (Bare steep m (m .tris)) (border (m .tris))
+  clear-bare =
+      let lone = all-lone steep m (byX-separates m law) positive (law .noTwice) clear-quiet in
+      All-of (border (m .tris)) (λ e i. record { lone = All-at lone i; nothing = nothing-right i })

@@ -40,10 +40,10 @@ Untouched m = (e g : Arrow) → List·Memᴰ e (border (m .tris)) → List·Mem�
 -- ---- border arrows
 
 -- a border arrow leaves node k
-pub record Leaves (m : Mesh) (k : ℕ) : Type 0 where
-  pub out : Arrow
-  pub on-border : List·Memᴰ out (border (m .tris))
-  pub from-k : out .from ≡ k
+record Leaves (m : Mesh) (k : ℕ) : Type 0 where
+  out : Arrow
+  on-border : List·Memᴰ out (border (m .tris))
+  from-k : out .from ≡ k
 
 inner-or-leaves : (m : Mesh) (k : ℕ) → Inner m k ⊎ Leaves m k
 inner-or-leaves m k = go (count (λ e. eqb (e .from) k) (border (m .tris))) refl

@@ -14,6 +14,8 @@ pub mod Disjoint
 pub mod Sides
 pub mod OneNumber
 pub mod Meet
+pub mod Quiet
+pub mod Keys
 pub mod Clear
 pub mod ClearMeshes
 pub mod Nudge
@@ -21,7 +23,5 @@ pub mod Close
 pub mod Fan
 pub mod Corners
 pub mod Crowd
-pub mod Strangers
 pub mod ClearLaw
-pub mod ClearBare
 pub mod Safe

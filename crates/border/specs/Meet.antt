@@ -40,7 +40,7 @@ square-from (pos zero) = omega (arith, onℤ)
 square-from (pos (suc x)) = let h = square-above (pos (suc x)) (λ g. omega (arith, onℤ)) in omega (arith, onℤ)
 square-from (negsuc x) = let h = square-above (negsuc x) (λ g. omega (arith, onℤ)) in omega (arith, onℤ)
 
-norm-above : (a b x y : ℤ) → a *ℤ x +ℤ b *ℤ y ≢ pos 0 → pos 0 <ℤ (x *ℤ x +ℤ y *ℤ y)
+pub norm-above : (a b x y : ℤ) → a *ℤ x +ℤ b *ℤ y ≢ pos 0 → pos 0 <ℤ (x *ℤ x +ℤ y *ℤ y)
 norm-above a b (pos zero) y n =
     let h = square-above y (λ e. n (ap (λ k. a *ℤ pos 0 +ℤ b *ℤ k) e ∙ ring2 (λ a b. (a :* K (pos 0) :+ b :* K (pos 0), K (pos 0))) a b tt)) in
     omega (arith, onℤ, sumℤ (pos 0 *ℤ pos 0) (y *ℤ y))
@@ -66,7 +66,7 @@ Cofactor a b p q u v =
     (a :* p :+ b :* q) :* (b :* p :- a :* q)
 
 module _ (f : Form) (A B : Place) where
-  rise-is : (P Q : Place) → rise f P Q ≡ f .along *ℤ (Q .x -ℤ P .x) +ℤ f .across *ℤ (Q .y -ℤ P .y)
+  pub rise-is : (P Q : Place) → rise f P Q ≡ f .along *ℤ (Q .x -ℤ P .x) +ℤ f .across *ℤ (Q .y -ℤ P .y)
   rise-is P Q = ring6 (λ a b px py qx qy. ((a :* qx :+ b :* qy) :- (a :* px :+ b :* py), a :* (qx :- px) :+ b :* (qy :- py))) (f .along) (f .across) (P .x) (P .y) (Q .x) (Q .y) tt
 
   rise-split : (P : Place) → rise f A B ≡ rise f A P +ℤ rise f P B
@@ -159,6 +159,53 @@ pub record Missed (A B C D : Place) : Type 0 where
   pub b-out : ¬ StrictlyInside C D B
   pub no-cross : ¬ Cross A B C D
   pub not-same : A ≡ C → B ≢ D
+  pub not-turned : A ≡ D → B ≢ C
+
+inside-back : {A B P : Place} → StrictlyInside A B P → StrictlyInside B A P
+inside-back {A} {B} {P} h = record {
+  on-line = turn-cycle B A P ∙ turn-mirror A B P ∙ ap negℤ (h .on-line);
+  between = subst (λ k. k <ℤ pos 0) (ring6 (λ a b c d x y. ((a :- x) :* (c :- x) :+ (b :- y) :* (d :- y), (c :- x) :* (a :- x) :+ (d :- y) :* (b :- y))) (A .x) (A .y) (B .x) (B .y) (P .x) (P .y) tt) (h .between);
+}
+
+opposite-swap : {x y : ℤ} → Opposite x y → Opposite y x
+opposite-swap (down h i) = upwards i h
+opposite-swap (upwards h i) = down i h
+
+opposite-neg : (x y u v : ℤ) → u ≡ negℤ x → v ≡ negℤ y → Opposite u v → Opposite x y
+opposite-neg x y u v e g (down h i) = upwards (omega (arith, onℤ, negℤ-ud x)) (omega (arith, onℤ, negℤ-ud y))
+opposite-neg x y u v e g (upwards h i) = down (omega (arith, onℤ, negℤ-ud x)) (omega (arith, onℤ, negℤ-ud y))
+
+turn-back : (A B P : Place) → turn B A P ≡ negℤ (turn A B P)
+turn-back A B P = turn-cycle B A P ∙ turn-mirror A B P
+
+-- the same of the segments the other way round
+pub missed-back : {A B C D : Place} → Missed A B C D → Missed A B D C
+missed-back {A} {B} {C} {D} h = record {
+  c-out = h .d-out;
+  d-out = h .c-out;
+  a-out = λ i. h .a-out (inside-back i);
+  b-out = λ i. h .b-out (inside-back i);
+  no-cross = λ c. h .no-cross (record {
+    ends-of-second = opposite-swap (c .ends-of-second);
+    ends-of-first = opposite-neg (turn C D A) (turn C D B) (turn D C A) (turn D C B) (turn-back C D A) (turn-back C D B) (c .ends-of-first);
+  });
+  not-same = h .not-turned;
+  not-turned = h .not-same;
+}
+
+pub missed-over : {A B C D : Place} → Missed A B C D → Missed C D A B
+missed-over h = record {
+  c-out = h .a-out;
+  d-out = h .b-out;
+  a-out = h .c-out;
+  b-out = h .d-out;
+  no-cross = λ c. h .no-cross (record { ends-of-second = c .ends-of-first; ends-of-first = c .ends-of-second });
+  not-same = λ e g. h .not-same (sym e) (sym g);
+  not-turned = λ e g. h .not-turned (sym g) (sym e);
+}
+
+pub missed-first : {A B C D : Place} → Missed A B C D → Missed B A C D
+missed-first h = missed-over (missed-back (missed-over h))
 
 opposite-or-zero : (a b x y : ℤ) → pos 0 <ℤ a → pos 0 <ℤ b → a *ℤ x +ℤ b *ℤ y ≡ pos 0 → Opposite x y ⊎ ((x ≡ pos 0) × (y ≡ pos 0))
 opposite-or-zero a b x y ha hb e = go (ltZ (pos 0) x) (ltZ x (pos 0)) refl refl

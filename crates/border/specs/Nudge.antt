@@ -59,12 +59,12 @@ same-place : {A B : Place} → A .x ≡ B .x → A .y ≡ B .y → A ≡ B
 same-place e f = λ i. record { x = e i; y = f i }
 
 -- a great number times d is no small number, but where both are 0
-pub no-multiple : (n : ℕ) (d e : ℤ) → natAbs e < n → d *ℤ pos n ≡ e → d ≡ pos 0
+no-multiple : (n : ℕ) (d e : ℤ) → natAbs e < n → d *ℤ pos n ≡ e → d ≡ pos 0
 no-multiple n (pos zero) e l h = refl
 no-multiple n (pos (suc k)) e l h = absurd (omega (arith, onℤ, absℤ e))
 no-multiple n (negsuc k) e l h = absurd (omega (arith, onℤ, absℤ e, mulℤ (negsuc k) (pos n)))
 
-pub no-difference : (a b : ℤ) → b -ℤ a ≡ pos 0 → a ≡ b
+no-difference : (a b : ℤ) → b -ℤ a ≡ pos 0 → a ≡ b
 no-difference a b h = omega (arith, onℤ, subℤ b a)
 
 -- different places in range have different keys

@@ -10,8 +10,7 @@ use Rattle.border.specs.Clear.{steep, clear}
 use Rattle.border.specs.Nearest.{at-most-one}
 use Rattle.border.specs.Nudge.{Single, shared-none}
 use Rattle.border.specs.Crowd.{Untouched, place-alone, edge-alone}
-use Rattle.border.specs.ClearLaw.{clear-untouched}
-use Rattle.border.specs.ClearBare.{clear-bare}
+use Rattle.border.specs.ClearLaw.{clear-untouched, clear-bare}
 
 -- no point off the rows is inside two, and no border arrow begins on a border edge but in an end of it
 pub untouched-proper : (m : Mesh) → Lawful m → Single m → Untouched m → Proper m

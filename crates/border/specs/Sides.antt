@@ -25,7 +25,7 @@ use Rattle.border.specs.Segment.{Strictly, Within, Apart, rise, above}
 use Rattle.border.specs.Along.{behind}
 use Rattle.border.specs.Beside.{Clear, others, Free, ClearArrow, border-split}
 use Rattle.border.specs.Nearest.{upward, lowEnd, highEnd, signed, beneath, Slanted, middle, middle-on, Lone, othersAt, low-high, clear-ends, free-ends, under-beneath, free-border}
-use Rattle.border.specs.Near.{tilt-back, Eventually, from-now, both-from, imply-from, all-from, line, line-above, near, tilt, growth, left-near, ahead-near, left-off, ahead-off, weight-stays, Direction, direction-back, directions, point-near}
+use Rattle.border.specs.Near.{tilt-back, Eventually, from-now, both-from, imply-from, all-from, line, line-above, line-not, near, tilt, growth, left-near, ahead-near, weight-stays, Direction, direction-back, directions, point-near}
 
 -- ---- signs that stay
 
@@ -75,10 +75,13 @@ module _ (f : Form) (s : Point) (u v : ℤ) where
       go false y e g =
           imply-from (λ n l. ap (λ b. b && (not (behind f D (near s u v n)) && above C D (near s u v n))) (l ∙ e) ∙ sym (ap (λ b. b && (not (behind f D s) && above C D s)) e)) (behind-stays C nc)
 
+  ahead-keeps : (A : Place) → ahead f A s ≢ pos 0 → Eventually (λ n. ahead f A (near s u v n) ≢ pos 0)
+  ahead-keeps A h = imply-from (λ n l e. l (sym (ahead-near f A s u v n) ∙ e)) (line-not (ahead f A s) (growth f u v) (λ e. absurd (h e)))
+
   -- what an arrow counts stays, if it does not pass through the point
-  module _ (m : Mesh) (w : pos 0 <ℤ s .W) (grows : growth f u v ≢ pos 0) (d : Arrow) (slanted : Slanted f m d) (free : Free f m s d) where
-    free-near : Eventually (λ n. Free f m (near s u v n) d)
-    free-near = imply-from (λ n (a, b). record { from-free = a; to-free = b }) (both-from (ahead-off s u v f (at m (d .from)) grows) (ahead-off s u v f (at m (d .to)) grows))
+  module _ (m : Mesh) (w : pos 0 <ℤ s .W) (d : Arrow) (slanted : Slanted f m d) (free : Free f m s d) where
+    pub free-near : Eventually (λ n. Free f m (near s u v n) d)
+    free-near = imply-from (λ n (a, b). record { from-free = a; to-free = b }) (both-from (ahead-keeps (at m (d .from)) (free .from-free)) (ahead-keeps (at m (d .to)) (free .to-free)))
 
     beneath-stays : (Within f (lowEnd f m d) (highEnd f m d) s → left (lowEnd f m d) (highEnd f m d) s ≢ pos 0) → Eventually (λ n. beneath f m (near s u v n) d ≡ beneath f m s d)
     beneath-stays off = between-stays (lowEnd f m d) (highEnd f m d) (free-ends f m d s free .0) (free-ends f m d s free .1) off
@@ -90,7 +93,7 @@ module _ (f : Form) (s : Point) (u v : ℤ) where
 
 -- ---- on either side of a border arrow
 
-module _ (f : Form) (m : Mesh) (ts : List Tri) (slanted : All (Slanted f m) (border ts)) (e : Arrow) (lone : Lone f m ts e) (u v : ℤ) (grows : growth f u v ≢ pos 0) where
+module _ (f : Form) (m : Mesh) (ts : List Tri) (slanted : All (Slanted f m) (border ts)) (e : Arrow) (lone : Lone f m ts e) (u v : ℤ) where
   on : Strictly f (lowEnd f m e) (highEnd f m e) (middle m e)
   on = middle-on f m e (lone .slanted)
 
@@ -98,7 +101,7 @@ module _ (f : Form) (m : Mesh) (ts : List Tri) (slanted : All (Slanted f m) (bor
   others-near : Eventually (λ n. added (underArrow f m (near (middle m e) u v n)) (others e (border ts)) ≡ othersAt f m ts e)
   others-near =
       imply-from (λ n h. added-eq (underArrow f m (near (middle m e) u v n)) (underArrow f m (middle m e)) h)
-      (all-from (All-imp (λ d (k, (g, c)). under-stays f (middle m e) u v m (on .weight) grows d k g
+      (all-from (All-imp (λ d (k, (g, c)). under-stays f (middle m e) u v m (on .weight) d k g
       (clear-ends f m d (lowEnd f m e) (highEnd f m e) c .apart (middle m e) on))
       (All-both (only-keeps (λ d. not (sameArrow e d)) slanted) (All-both (lone .middle-free) (lone .clear)))))
 
@@ -120,7 +123,7 @@ module _ (f : Form) (m : Mesh) (ts : List Tri) (slanted : All (Slanted f m) (bor
   own-near =
       imply-from (λ n (w, (g, (a, b))). under-beneath f m e (near (middle m e) u v n) (lone .slanted) w g ∙
       ap (signed (upward f m e)) (λ i. one (low-past n a i && (not (high-not n b i) && side n i))))
-      (both-from (weight-stays (middle m e) u v (on .weight)) (both-from (free-near f (middle m e) u v m (on .weight) grows e (lone .slanted) ends-free)
+      (both-from (weight-stays (middle m e) u v (on .weight)) (both-from (free-near f (middle m e) u v m (on .weight) e (lone .slanted) ends-free)
       (both-from (behind-stays f (middle m e) u v (lowEnd f m e) (free-ends f m e (middle m e) ends-free .0))
       (behind-stays f (middle m e) u v (highEnd f m e) (free-ends f m e (middle m e) ends-free .1)))))
     where
@@ -226,7 +229,7 @@ module _ (f : Form) (across : f .across ≢ pos 0) (m : Mesh) (positive : All (�
   depth-toward k u v d own =
       let (p, w, off, (a, b)) = point-near f m (middle m e) u v (middle-on f m e (lone .slanted) .weight) d
       (λ p. (underArrow f m p e ≡ signed (upward f m e) (one (ltZ (pos 0) (tilt (lowEnd f m e) (highEnd f m e) u v)))) × (added (underArrow f m p) (others e (border (m .tris))) ≡ othersAt f m (m .tris) e))
-      (both-from (own-near f m (m .tris) slanted e lone u v (d .grows)) (others-near f m (m .tris) slanted e lone u v (d .grows))) in
+      (both-from (own-near f m (m .tris) slanted e lone u v) (others-near f m (m .tris) slanted e lone u v)) in
       record { point = p; weight = w; off = off; is = depth-border f m p positive no-twice off ∙ border-split (m .tris) no-twice e here (underArrow f m p) ∙ ap₂ _+ℤ_ (a ∙ own) b }
 
   in-arrows : List·Memᴰ e (arrowsOf (m .tris))

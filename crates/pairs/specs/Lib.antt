@@ -1,1 +1,9 @@
 pub mod Pair
+pub mod OnLine
+pub mod Clear
+pub mod Turned
+pub mod Seen
+pub mod SeenLaw
+pub mod CleanLaw
+pub mod Sound
+pub mod RowsLaw

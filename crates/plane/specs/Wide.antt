@@ -1,15 +1,15 @@
--- 32-bit numbers in 64 bits: they, their sums and their differences fit; equal bits are equal numbers. Assumes nothing.
+-- 32-bit numbers in 64 bits: they, their sums and their differences fit, and sums of two products of small ones; equal bits are equal numbers. Assumes nothing.
 use mathlib.Core.Path.{_≡_, refl, sym, ap, _∙_}
 use mathlib.Core.Bool.{Bool, true, false, _&&_}
-use Prim.Native.Nat.{ℕ, _≤_}
+use Prim.Native.Nat.{ℕ, _+_, _*_, _^_, _≤_}
 use native.Mathlib.Omega.{arith}
 use borrow.Author.Tests.{eqb-true, eqb-false}
-use lib.Dec.{eqb}
-use lib.IntN.{ℤ, natAbs, _+ℤ_, _-ℤ_}
+use lib.Dec.{T, eqb, ltb}
+use lib.IntN.{ℤ, natAbs, _+ℤ_, _-ℤ_, _*ℤ_}
 use lib.Signed.{leZ, natAbs-le}
 use mir.Syntax.{w32, w64}
-use mir.Val.{SFits, ofZ}
-use Rattle.whole.specs.Bound.{abs-add, abs-sub, fits-abs}
+use mir.Val.{SFits, hbits, ofZ}
+use Rattle.whole.specs.Bound.{abs-add, abs-sub, abs-mul, fits-abs}
 use Rattle.whole.specs.Diff.{onℤ}
 use Rattle.whole.specs.Tests.{tests, ofZ-inj}
 
@@ -24,6 +24,9 @@ wide-sum a b f g = fits-abs w64 (abs-add a b (wide-abs a f) (wide-abs b g)) tt
 
 pub wide-less : (a b : ℤ) → SFits w32 a → SFits w32 b → SFits w64 (a -ℤ b)
 wide-less a b f g = fits-abs w64 (abs-sub a b (wide-abs a f) (wide-abs b g)) tt
+
+pub fits-dot : (x y z u : ℤ) (m n k l : ℕ) → natAbs x ≤ m → natAbs y ≤ n → natAbs z ≤ k → natAbs u ≤ l → T (ltb (m * n + k * l) (2 ^ hbits w64)) → SFits w64 (x *ℤ y +ℤ z *ℤ u)
+fits-dot x y z u m n k l h i j g t = fits-abs w64 (abs-add (x *ℤ y) (z *ℤ u) (abs-mul x y h i) (abs-mul z u j g)) t
 
 same-yes : (a b : ℤ) → a ≡ b → leZ a b && leZ b a ≡ true
 same-yes a b e =

@@ -4,6 +4,7 @@ ghost use lib.IntN.{_+ℤ_, _-ℤ_, _*ℤ_};
 ghost use Rattle.meaning.specs.Mesh.{turn};
 ghost use Rattle.meaning.specs.Lawful.{InRange, far, outside, tooLong, beyond, nodeOutside};
 ghost use Rattle.meaning.specs.Good.{sameZ, isMiddle};
+ghost use Rattle.meaning.specs.Proper.{facing};
 ghost use Rattle.plane.specs.Plane.{Short, Wide, Spans, flatTri};
 use meaning::Correction;
 use meaning::Node;
@@ -43,6 +44,21 @@ pub fn twice_area(a: Place, b: Place, c: Place) -> i64
     ensures { λ r. ⌜ r ≡ turn a b c ⌝ }
 {
     cross(from_to(a, b), from_to(a, c))
+}
+
+fn dot(u: Span, v: Span) -> i64
+    requires { ⌜ Short u × Short v ⌝ }
+    ensures { λ r. ⌜ r ≡ u .x *ℤ v .x +ℤ u .y *ℤ v .y ⌝ }
+{
+    u.x * v.x + u.y * v.y
+}
+
+// W7: for c on the line of a and b it is below 0 between them, 0 at either, and above 0 elsewhere.
+pub fn facing(a: Place, b: Place, c: Place) -> i64
+    requires { ⌜ InRange a × InRange b × InRange c ⌝ }
+    ensures { λ r. ⌜ r ≡ facing a b c ⌝ }
+{
+    dot(from_to(c, a), from_to(c, b))
 }
 
 // 6: the twice-area is not above 0.

@@ -1,0 +1,4 @@
+pub mod Seen
+pub mod FarLaw
+pub mod SeenLaw
+pub mod LookLaw

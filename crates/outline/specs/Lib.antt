@@ -2,3 +2,4 @@ pub mod Seen
 pub mod FarLaw
 pub mod SeenLaw
 pub mod LookLaw
+pub mod TurnsLaw

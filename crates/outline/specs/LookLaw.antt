@@ -29,7 +29,7 @@ use Rattle.border.specs.Clear.{steep, middle, crosses, meets, underMiddle, righ
 use Rattle.outline.specs.declared.End.{End}
 use Rattle.outline.specs.declared.Edge.{Edge}
 use Rattle.outline.specs.FarLaw.{Below, not-on, not-crossed, against, below-against}
-use Rattle.outline.specs.Seen.{endBy, edgeBy, arrowIn, edgeIn, Near, Close, allBefore, far, isOn, meet, risesUnder, look, falling, fine, isFree, allFree}
+use Rattle.outline.specs.Seen.{endBy, edgeBy, arrowIn, edgeIn, Near, Close, allBefore, far, isOn, meet, risesUnder, look, falling, lookAt, isThree, fine, notFree, allFree}
 
 -- ---- keys that do not overlap
 
@@ -250,11 +250,11 @@ module _ (P : ℕ → Place) where
 
   module _ (s : List ℕ) (e : Arrow) where
     abbrev at : ℕ → ℕ
-    at j = look (edgeBy P e) (edgeIn P s j)
+    at = lookAt P s (edgeBy P e)
 
     -- what is added up is how many are under the middle, and one more for each arrow
-    summed : (b : ℕ) → ((j : ℕ) → j < b → eqb (at j) 3 ≡ false) → pos (sumTo at b) ≡ added (adds e) (items (arrowIn s) 0 b) +ℤ pos b
-    unfolding edgeIn
+    summed : (b : ℕ) → ((j : ℕ) → j < b → isThree at j ≡ false) → pos (sumTo at b) ≡ added (adds e) (items (arrowIn s) 0 b) +ℤ pos b
+    unfolding edgeIn lookAt isThree
     summed zero h = rw (sum-none at, items-none (arrowIn s) 0 0 (omega arith))
     summed (suc b) h =
         let n : suc b ≡ b + 1 = omega arith in
@@ -267,9 +267,9 @@ module _ (P : ℕ → Place) where
         grow k a b x y h i = omega (arith, onℤ, sumℤ x (pos b), sumℤ y (pos 1), sumℤ y (pos 0), sumℤ x (y +ℤ pos 0), sumℤ (x +ℤ (y +ℤ pos 0)) (pos (b + 1)))
 
     fine-free : (b : ℕ) → fine at b (falling (edgeBy P e)) ≡ true → not (any (meets P e) (items (arrowIn s) 0 b)) && rightFree P (items (arrowIn s) 0 b) e ≡ true
-    unfolding fine edgeIn falling edgeBy underMiddle
+    unfolding fine edgeIn falling edgeBy underMiddle lookAt isThree
     fine-free b h =
-        let f : ℕ → Bool = λ j. eqb (at j) 3 in
+        let f = isThree at in
         let k = falling (edgeBy P e) in
         let none = lowest-nothing f b in
         let n : lowest f 0 b ≡ _ = not-found (lowest f 0 b) (not-true _ (and-left (not (isFound (lowest f 0 b))) (eqb (sumTo at b) (b + k)) h)) in
@@ -290,8 +290,8 @@ module _ (P : ℕ → Place) where
 
   -- ALL ARROWS ARE FREE: THE BORDER IS CLEAR
   pub free-clear : (s : List ℕ) (b : ℕ) → allFree P s b ≡ true → clear P (items (arrowIn s) 0 b) ≡ true
-  unfolding allFree isFree clear edgeIn
+  unfolding allFree notFree clear edgeIn
   free-clear s b h =
-      let f : ℕ → Bool = λ i. not (isFree P s b i) in
+      let f = notFree P s b in
       let n = not-found (lowest f 0 b) (not-true (isFound (lowest f 0 b)) h) in
-      yes-all (items-all (arrowIn s) b (λ i l. fine-free s (arrowIn s i) b (not-false (isFree P s b i) (lowest-nothing f b i n l))))
+      yes-all (items-all (arrowIn s) b (λ i l. fine-free s (arrowIn s i) b (not-false _ (lowest-nothing f b i n l))))

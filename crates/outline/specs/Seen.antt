@@ -92,13 +92,20 @@ falling e = cases (ltZ (e .to .key) (e .from .key)) 1 0
 
 -- ---- all edges
 
+-- what arrow j is to e
+unfoldable pub lookAt : (ℕ → Place) → List ℕ → Edge → ℕ → ℕ
+lookAt P s e j = look e (edgeIn P s j)
+
+unfoldable pub isThree : (ℕ → ℕ) → ℕ → Bool
+isThree f j = eqb (f j) 3
+
 -- no f j is 3, and they come to b + k
 unfoldable pub fine : (ℕ → ℕ) → ℕ → ℕ → Bool
-fine f b k = not (isFound (lowest (λ j. eqb (f j) 3) 0 b)) && eqb (sumTo f b) (b + k)
+fine f b k = not (isFound (lowest (isThree f) 0 b)) && eqb (sumTo f b) (b + k)
 
--- none of the first b arrows in scratch meets arrow i, and those under its middle are as many as a clear border has
-unfoldable pub isFree : (ℕ → Place) → List ℕ → ℕ → ℕ → Bool
-isFree P s b i = fine (λ j. look (edgeIn P s i) (edgeIn P s j)) b (falling (edgeIn P s i))
+-- one of the first b arrows in scratch meets arrow i, or those under its middle are not as many as a clear border has
+unfoldable pub notFree : (ℕ → Place) → List ℕ → ℕ → ℕ → Bool
+notFree P s b i = not (fine (lookAt P s (edgeIn P s i)) b (falling (edgeIn P s i)))
 
 unfoldable pub allFree : (ℕ → Place) → List ℕ → ℕ → Bool
-allFree P s b = not (isFound (lowest (λ i. not (isFree P s b i)) 0 b))
+allFree P s b = not (isFound (lowest (notFree P s b) 0 b))

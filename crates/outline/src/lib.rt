@@ -13,7 +13,7 @@ ghost use Rattle.meaning.specs.Proper.{facing};
 ghost use Rattle.laws.specs.Meshes.{Stands};
 ghost use Rattle.border.specs.Clear.{steep, opposite};
 ghost use Rattle.border.specs.Under.{key};
-ghost use Rattle.outline.specs.Seen.{endBy, edgeIn, arrowIn, Near, Close, EndsStand, Listing, allBefore, far, isOn, meet, risesUnder, look, falling, fine, isFree, allFree};
+ghost use Rattle.outline.specs.Seen.{endBy, edgeIn, arrowIn, Near, Close, EndsStand, Listing, allBefore, far, isOn, meet, risesUnder, look, falling, lookAt, fine, notFree, allFree};
 use meaning::Place;
 
 // ---- an arrow with its places
@@ -189,4 +189,70 @@ fn look(e: Edge, g: Edge) -> usize
         return 0;
     }
     1
+}
+
+// ---- all arrows
+
+// 1 if e falls.
+fn falls(e: Edge) -> usize
+    ensures is { λ r. ⌜ r ≡ falling e ⌝ }
+    ensures small { λ r. ⌜ r ≤ 1 ⌝ }
+{
+    if lower(e.to, e.from) {
+        return 1;
+    }
+    0
+}
+
+// What arrow j is to e.
+fn look_at(nodes: &[i32], scratch: &[u32], e: Edge, j: usize) -> usize
+    requires { ⌜ Close e ⌝ }
+    requires { ⌜ 2 * j + 2 ≤ length (now scratch) ⌝ }
+    requires { ⌜ EndsStand (now nodes) (arrowIn (now scratch) j) ⌝ }
+    ensures is { λ r. ⌜ r ≡ lookAt (placeAt (now (nodes .entry))) (now (scratch .entry)) e j ⌝ }
+    ensures small { λ r. ⌜ r ≤ 3 ⌝ }
+{
+    look(e, edge_at(nodes, scratch, j))
+}
+
+// None of the first b arrows meets e, and those under its middle are as many as a clear border has.
+fn is_fine(nodes: &[i32], scratch: &[u32], b: usize, e: Edge) -> bool
+    requires { ⌜ Listing (now nodes) (now scratch) b ⌝ }
+    requires { ⌜ Close e ⌝ }
+    ensures { λ r. ⌜ r ≡ fine (lookAt (placeAt (now (nodes .entry))) (now (scratch .entry)) e) b (falling e) ⌝ }
+{
+    let mut sum = 0;
+    let mut j = 0;
+    while j < b {
+        let k = look_at(nodes, scratch, e, j);
+        if k == 3 {
+            return false;
+        }
+        sum += k;
+        j += 1;
+    }
+    sum == b + falls(e)
+}
+
+// That is not so for arrow i.
+fn not_free(nodes: &[i32], scratch: &[u32], b: usize, i: usize) -> bool
+    requires { ⌜ Listing (now nodes) (now scratch) b ⌝ }
+    requires { ⌜ i < b ⌝ }
+    ensures { λ r. ⌜ r ≡ notFree (placeAt (now (nodes .entry))) (now (scratch .entry)) b i ⌝ }
+{
+    !is_fine(nodes, scratch, b, edge_at(nodes, scratch, i))
+}
+
+fn all_free(nodes: &[i32], scratch: &[u32], b: usize) -> bool
+    requires { ⌜ Listing (now nodes) (now scratch) b ⌝ }
+    ensures { λ r. ⌜ r ≡ allFree (placeAt (now (nodes .entry))) (now (scratch .entry)) b ⌝ }
+{
+    let mut i = 0;
+    while i < b {
+        if not_free(nodes, scratch, b, i) {
+            return false;
+        }
+        i += 1;
+    }
+    true
 }

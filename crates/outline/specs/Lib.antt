@@ -3,3 +3,5 @@ pub mod FarLaw
 pub mod SeenLaw
 pub mod LookLaw
 pub mod TurnsLaw
+pub mod Listed
+pub mod ListedLaw

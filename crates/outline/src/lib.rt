@@ -1,20 +1,27 @@
 // W7: the border of a mesh, and whether it is clear: no border arrow meets another but in a node of both, and no row lies just right of the
 // middle of one. The first b border arrows stand in scratch: arrow j as two numbers, from at 2 j and to at 2 j + 1.
+ghost use mathlib.Core.Bool.{true};
 ghost use mathlib.Core.Path.{_≡_};
-ghost use Prim.Native.Nat.{ℕ, _+_, _*_, _≤_, _<_};
+ghost use Prim.Native.Nat.{ℕ, _+_, _*_, _/_, _≤_, _<_};
 ghost use lib.IntN.{pos, _+ℤ_, _*ℤ_};
 ghost use lib.ListN.{length, getD};
 ghost use lib.Signed.{ltZ, leZ};
 ghost use Rattle.meaning.specs.Good.{sameZ};
 ghost use Rattle.meaning.specs.Lawful.{InRange};
 ghost use Rattle.meaning.specs.Mesh.{turn};
-ghost use Rattle.meaning.specs.Tables.{placeAt};
+ghost use Rattle.meaning.specs.Tables.{placeAt, rowAt};
 ghost use Rattle.meaning.specs.Proper.{facing};
-ghost use Rattle.laws.specs.Meshes.{Stands};
-ghost use Rattle.border.specs.Clear.{steep, opposite};
+ghost use Rattle.lists.specs.Search.{items};
+ghost use Rattle.laws.specs.Meshes.{Stands, Standing};
+ghost use Rattle.neighbours.specs.Ready.{Ready};
+ghost use Rattle.border.specs.Cancel.{border};
+ghost use Rattle.border.specs.Clear.{steep, opposite, clear};
 ghost use Rattle.border.specs.Under.{key};
 ghost use Rattle.outline.specs.Seen.{endBy, edgeIn, arrowIn, Near, Close, EndsStand, Listing, allBefore, far, isOn, meet, risesUnder, look, falling, lookAt, fine, notFree, allFree};
+use lists::Found;
 use meaning::Place;
+
+mod listing; // listing.rt: the border arrows, put into scratch
 
 // ---- an arrow with its places
 
@@ -255,4 +262,22 @@ fn all_free(nodes: &[i32], scratch: &[u32], b: usize) -> bool
         i += 1;
     }
     true
+}
+
+// ---- the border
+
+// Whether the border of the first t rows is clear. It says no as well where it has too many arrows for the notes of scratch, which are all
+// that is written: the index of the rows stands there, and stays.
+pub fn is_clear(nodes: &[i32], rows: &[u32], scratch: &mut [u32], t: usize) -> bool
+    requires { ⌜ Ready (now scratch) (length (now nodes) / 4) (now rows) t ⌝ }
+    requires { ⌜ ((i : ℕ) → i < t → Standing (now nodes) (rowAt (now rows) i)) ⌝ }
+    ensures ready { λ _. ⌜ Ready (now (scratch .exit)) (length (now (nodes .entry)) / 4) (now (rows .entry)) t ⌝ }
+    ensures clear { λ r. ⌜ (r ≡ true → clear (placeAt (now (nodes .entry))) (border (items (rowAt (now (rows .entry))) 0 t)) ≡ true) ⌝ }
+{
+    let nc = nodes.len() / 4;
+    let f = listing::list_border(rows, scratch, nc, t);
+    if let Found::At(b) = f {
+        return all_free(nodes, scratch, b);
+    }
+    false
 }

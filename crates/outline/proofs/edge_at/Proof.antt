@@ -16,5 +16,5 @@ pub edge-at-spec : {M : Type 1} → statement M
 edge-at-spec =
     tie.close
     (tie.spec
-    (λ c. search needs) (λ c κs. search needs) end-of-requires (λ c. search needs) (λ c. search needs)
-    (λ c κs. search needs) end-of-requires-2 returns)
+    (λ c. search needs) (λ c κs. search needs) end-of-requires (λ c. search needs) (λ c. search needs) (λ c
+    κs. search needs) end-of-requires-2 returns)

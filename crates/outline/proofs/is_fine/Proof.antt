@@ -34,5 +34,5 @@ pub is-fine-spec : {M : Type 1} → statement M
 is-fine-spec =
     tie.close
     (tie.spec
-    Inv-loop μ-loop loop-holds look-at-requires returns (λ c. search needs) (λ c. search needs)
-    (λ c. search needs) loop-again (λ c κs. search needs) (λ c. search needs) returns-2)
+    Inv-loop μ-loop loop-holds look-at-requires returns (λ c. search needs) (λ c. search needs) (λ c. search
+    needs) loop-again (λ c κs. search needs) (λ c. search needs) returns-2)

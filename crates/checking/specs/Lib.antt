@@ -1,4 +1,4 @@
 pub mod Clash
 pub mod ClashLaw
-pub mod Check
 pub mod Outlined
+pub mod Check

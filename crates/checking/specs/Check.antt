@@ -20,7 +20,7 @@ use Rattle.meaning.specs.Proper.{uncrowded, disjoint}
 use Rattle.meaning.specs.Calls.{culpritOf, unless, baseNo, checkNo, sizesFit, untouched, checkOut}
 use Rattle.laws.specs.Lawful.{lawful-refusal}
 use Rattle.laws.specs.Meshes.{Standing, meshAt, row-stands}
-use Rattle.neighbours.specs.Ready.{Ready}
+use Rattle.neighbours.specs.Ready.{Ready, ready-sized}
 use Rattle.border.specs.Cancel.{border}
 use Rattle.border.specs.Clear.{clear}
 use Rattle.checking.specs.Clash.{clashAt}
@@ -90,11 +90,11 @@ module _ (nodes : List ℤ) (rows s : List ℕ) (n t : ℕ) (A : Admitted nodes 
   unfolding meshAt
   border-says = outlined nodes rows n t law-at
 
-  -- what comparing the rows needs, where scratch had the length of s and is cleared
-  pub severity-needs : (s′ s″ : List ℕ) → length s′ ≡ length s → s″ ≡ replicate (length s′) 0 →
+  -- what comparing the rows needs, where the index stood in scratch and that is cleared
+  pub severity-needs : (s′ s″ : List ℕ) → Ready s′ (length nodes / 4) rows t → s″ ≡ replicate (length s′) 0 →
       Lawful (meshAt nodes rows n t) × ((4 * n ≤ length nodes) × ((3 * t ≤ length rows) × ((t ≤ 262_144) × ((n + 3 * t ≤ length s″) × (s″ ≡ replicate (length s″) 0)))))
-  severity-needs s′ s″ k e =
-      let z = A .sizes in
+  severity-needs s′ s″ r e =
+      let z = ready-sized s′ rows (length nodes / 4) t r in
       let l : length s″ ≡ length s′ = ap length e ∙ length-replicate (length s′) 0 in
       (law-at, (A .nodes-fit, (A .rows-fit, (omega (arith, A .rows-fit, z .few-rows), (omega (arith, A .nodes-fit, A .rows-fit, z .scratch), e ∙ ap (λ k. replicate k 0) (sym l))))))
 

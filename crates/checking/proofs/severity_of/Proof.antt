@@ -10,7 +10,7 @@ returns : tie.Need-returns
 returns c = search (needs, border-says)
 
 severity-requires : tie.Need-severity-requires
-severity-requires c κs = search (needs, severity-needs)
+severity-requires c κs = severity-needs _ _ _ _ _ (c .before .before .before .before .before .before .before .before .before .before .before .before .pre) _ _ (c .before .before .before .before .before .before .before .before .is-clear .ensures .0) (c .before .before .before .clear .ensures)
 
 returns-2 : tie.Need-returns-2
 returns-2 c = search (needs, severity-same)

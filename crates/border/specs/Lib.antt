@@ -25,3 +25,5 @@ pub mod Corners
 pub mod Crowd
 pub mod ClearLaw
 pub mod Safe
+pub mod Crossing
+pub mod Exact

@@ -26,4 +26,5 @@ pub mod Crowd
 pub mod ClearLaw
 pub mod Safe
 pub mod Crossing
+pub mod Unmet
 pub mod Exact

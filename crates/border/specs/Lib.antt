@@ -18,6 +18,7 @@ pub mod Quiet
 pub mod Keys
 pub mod Clear
 pub mod ClearMeshes
+pub mod TestsNeeded
 pub mod Nudge
 pub mod Close
 pub mod Fan

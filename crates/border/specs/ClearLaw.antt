@@ -71,7 +71,7 @@ module _ (P : ℕ → Place) (es : List Arrow) (c : clear P es ≡ true) {e : Ar
       equal a b t = le-antisymm (leZ-true a b (and-left (leZ a b) (leZ b a) t)) (leZ-true b a (and-right (leZ a b) (leZ b a) t))
 
 -- an arrow does not run under its own middle
-own-middle : (f : Form) (A B : Place) → under f A B (joint (corner A) (corner B)) ≡ pos 0
+pub own-middle : (f : Form) (A B : Place) → under f A B (joint (corner A) (corner B)) ≡ pos 0
 unfolding under
 own-middle f A B =
     let M = joint (corner A) (corner B) in
@@ -84,6 +84,16 @@ own-middle f A B =
     never true true = refl
     never true false = refl
     never false b = refl
+
+-- an arrow that does not rise falls
+pub falls : (f : Form) (m : Mesh) (e : Arrow) → Slanted f m e → ltZ (key f (at m (e .to))) (key f (at m (e .from))) ≡ not (upward f m e)
+falls f m e n =
+    let a = key f (at m (e .from)) in
+    let b = key f (at m (e .to)) in
+    not-lt a b (λ z. n (level a b z)) ∙ ap not (lt-zero a b)
+  where
+    level : (a b : ℤ) → a ≡ b → b -ℤ a ≡ pos 0
+    level a b z = omega (arith, onℤ, subℤ b a)
 
 module _ (m : Mesh) (law : Lawful m) (c : clear (at m) (border (m .tris)) ≡ true) where
   -- ---- nodes and edges of the border
@@ -152,21 +162,12 @@ module _ (m : Mesh) (law : Lawful m) (c : clear (at m) (border (m .tris)) ≡ tr
   slanted : All (Slanted steep m) (border (m .tris))
   slanted = border-slanted steep m (byX-separates m law) positive (law .noTwice) clear-quiet
 
-  falls : {e : Arrow} → List·Memᴰ e (border (m .tris)) → ltZ (key steep (at m (e .to))) (key steep (at m (e .from))) ≡ not (upward steep m e)
-  falls {e} i =
-      let a = key steep (at m (e .from)) in
-      let b = key steep (at m (e .to)) in
-      not-lt a b (λ z. All-at slanted i (level a b z)) ∙ ap not (lt-zero a b)
-    where
-      level : (a b : ℤ) → a ≡ b → b -ℤ a ≡ pos 0
-      level a b z = omega (arith, onℤ, subℤ b a)
-
   nothing-right : {e : Arrow} → List·Memᴰ e (border (m .tris)) → othersAt steep m (m .tris) e ≡ one (not (upward steep m e))
   unfolding underMiddle
   nothing-right {e} i =
       rest (underArrow steep m (middle m e) e) (othersAt steep m (m .tris) e) (own-middle steep (at m (e .from)) (at m (e .to))) ∙
       sym (border-split (m .tris) (law .noTwice) e i (underArrow steep m (middle m e))) ∙
-      clear-right (at m) (border (m .tris)) c i ∙ ap one (falls i)
+      clear-right (at m) (border (m .tris)) c i ∙ ap one (falls steep m e (All-at slanted i))
     where
       rest : (a b : ℤ) → a ≡ pos 0 → b ≡ a +ℤ b
       rest a b z = omega (arith, onℤ, sumℤ a b)

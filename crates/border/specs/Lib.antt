@@ -18,6 +18,7 @@ pub mod Quiet
 pub mod Keys
 pub mod Clear
 pub mod ClearMeshes
+pub mod TestsNeeded
 pub mod Nudge
 pub mod Close
 pub mod Fan
@@ -25,3 +26,6 @@ pub mod Corners
 pub mod Crowd
 pub mod ClearLaw
 pub mod Safe
+pub mod Crossing
+pub mod Unmet
+pub mod Exact

@@ -1,21 +1,21 @@
 -- Edges whose keys do not overlap: neither meets the other, and neither runs under the other's middle. A form gives the keys. Assumes nothing.
-use mathlib.Core.Bool.{Bool, true, false, not, _&&_, _||_}
+use mathlib.Core.Bool.{Bool, true, false, _&&_, _||_}
 use mathlib.Core.Logic.{_⊎_, inl, inr}
-use mathlib.Core.Path.{_≡_, refl, sym, ap, ap₂, _∙_}
-use Prim.Native.Nat.{ℕ, zero, suc}
+use mathlib.Core.Path.{_≡_, refl, sym, ap, _∙_}
+use Prim.Native.Nat.{zero, suc}
 use native.Mathlib.Omega.{arith}
 use lib.IntN.{ℤ, pos, negsuc, negℤ, _+ℤ_, _-ℤ_, _*ℤ_}
 use lib.Signed.{ltZ, _≤ℤ_, _<ℤ_}
 use Rattle.whole.specs.Diff.{onℤ, sumℤ, subℤ, mulℤ, negℤ-ud}
-use Rattle.whole.specs.Ring.{Expr, K, _:+_, _:-_, _:*_, neg, ring2, ring4, ring8, ring9, ring10}
-use Rattle.whole.specs.Tests.{ltZ-true, tests}
+use Rattle.whole.specs.Ring.{Expr, K, _:+_, _:-_, _:*_, neg, ring2, ring4, ring8, ring10}
+use Rattle.whole.specs.Tests.{ltZ-true}
 use Rattle.lists.specs.ListsLaw.{clash, and-left, and-right}
 use Rattle.meaning.specs.declared.Place.{Place}
 use Rattle.meaning.specs.Mesh.{turn}
 use Rattle.meaning.specs.Proper.{facing}
 use Rattle.laws.specs.Area.{Turn}
 use Rattle.border.specs.Under.{Form, key, times-above}
-use Rattle.border.specs.Clear.{steep, opposite, crosses}
+use Rattle.border.specs.Clear.{opposite, crosses}
 
 -- ---- signs
 

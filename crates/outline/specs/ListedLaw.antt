@@ -2,17 +2,17 @@
 use mathlib.Core.Bool.{Bool, true, false, not}
 use mathlib.Core.List.{List, [], _∷_, _++_, append-assoc, append-nil}
 use mathlib.Core.Path.{_≡_, refl, sym, ap, subst, _∙_}
-use Prim.Native.Nat.{ℕ, zero, suc, _+_, _*_, _/_, _≤_, _<_}
+use Prim.Native.Nat.{ℕ, _+_, _*_, _≤_, _<_}
 use native.Mathlib.Omega.{arith}
 use lib.IntN.{ℤ}
-use lib.ListN.{length, getD, set, length-set}
+use lib.ListN.{length, set, length-set}
 use lib.Seq.{getD-set-same, getD-set-other}
 use Rattle.lists.specs.declared.Found.{Found}
 use Rattle.lists.specs.declared.Found.the-variants.{At, Nothing}
-use Rattle.lists.specs.Lists.{isFound, any, only, consIf, joined, All, nil, cons}
+use Rattle.lists.specs.Lists.{isFound, only, joined, All, nil, cons}
 use Rattle.lists.specs.ListsLaw.{clash, All-at, All-joined}
 use Rattle.lists.specs.MembersLaw.{only-keeps}
-use Rattle.lists.specs.PartsLaw.{consIf-append, only-append}
+use Rattle.lists.specs.PartsLaw.{only-append}
 use Rattle.lists.specs.Search.{lowest, items}
 use Rattle.lists.specs.SearchLaw.{lowest-any, at-some}
 use Rattle.lists.specs.ItemsLaw.{items-snoc, items-none, items-agree, joined-append}
@@ -22,7 +22,7 @@ use Rattle.meaning.specs.Mesh.{Arrow, arrow, arrows, holdsArrow}
 use Rattle.meaning.specs.Tables.{rowAt, placeAt}
 use Rattle.laws.specs.Meshes.{Standing}
 use Rattle.tables.specs.Arrow.{arrowAt}
-use Rattle.neighbours.specs.Sized.{Sized, indexAt}
+use Rattle.neighbours.specs.Sized.{indexAt}
 use Rattle.neighbours.specs.Ready.{Ready, ready-sized, ready-put}
 use Rattle.border.specs.Cancel.{reverse, border}
 use Rattle.border.specs.Clear.{clear}

@@ -1,17 +1,17 @@
 -- Arrows as the code sees them have the answers of Clear.antt: one beside another, and all beside all. Assumes nothing.
 use mathlib.Core.Bool.{Bool, true, false, not, _&&_, _||_}
-use mathlib.Core.List.{List, [], _∷_, _++_}
+use mathlib.Core.List.{List, [], _∷_}
 use mathlib.Core.Path.{_≡_, refl, sym, ap, ap₂, _∙_}
-use Prim.Native.Nat.{ℕ, zero, suc, _+_, _≤_, _<_}
+use Prim.Native.Nat.{ℕ, zero, suc, _+_, _<_}
 use native.Mathlib.Omega.{arith}
 use borrow.Author.Tests.{eqb-true, not-true, not-false}
 use lib.Dec.{eqb}
 use lib.IntN.{ℤ, pos, _+ℤ_, _-ℤ_, _*ℤ_}
-use lib.Signed.{leZ, ltZ, _≤ℤ_, _<ℤ_}
-use Rattle.whole.specs.Diff.{onℤ, sumℤ, subℤ}
-use Rattle.whole.specs.Ring.{K, _:+_, _:-_, _:*_, ring1, ring4, ring6, ring8}
-use Rattle.whole.specs.Tests.{tests, ltZ-true, leZ-true, le-leZ, le-ltZ}
-use Rattle.lists.specs.Lists.{cases, isFound, any, all}
+use lib.Signed.{leZ, ltZ, _<ℤ_}
+use Rattle.whole.specs.Diff.{onℤ, sumℤ}
+use Rattle.whole.specs.Ring.{K, _:+_, _:*_, ring1, ring4, ring8}
+use Rattle.whole.specs.Tests.{tests, ltZ-true, leZ-true, le-leZ}
+use Rattle.lists.specs.Lists.{cases, isFound, any}
 use Rattle.lists.specs.ListsLaw.{clash, and-both, and-left, and-right, yes-all}
 use Rattle.lists.specs.PartsLaw.{not-so}
 use Rattle.lists.specs.Search.{lowest, items}
@@ -24,7 +24,7 @@ use Rattle.meaning.specs.Good.{sameZ}
 use Rattle.meaning.specs.Proper.{facing, left}
 use Rattle.laws.specs.Area.{Turn}
 use Rattle.border.specs.Sums.{one, added, added-append}
-use Rattle.border.specs.Under.{Form, key, keyAt, past, before, rises, under, Left}
+use Rattle.border.specs.Under.{Form, key, keyAt, rises, under, Left}
 use Rattle.border.specs.Clear.{steep, middle, crosses, meets, underMiddle, rightFree, clear}
 use Rattle.outline.specs.declared.End.{End}
 use Rattle.outline.specs.declared.Edge.{Edge}

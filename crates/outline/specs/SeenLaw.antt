@@ -1,9 +1,7 @@
 -- Keys and turns fit, and arrows as the code sees them have the answers of Clear.antt. Assumes nothing.
-use mathlib.Core.Bool.{Bool, true, false, not, _&&_, _||_}
 use mathlib.Core.List.{List}
 use mathlib.Core.Path.{_≡_, refl, sym, ap, subst, _∙_}
-use Prim.Native.Nat.{ℕ, _+_, _*_, _≤_, _<_}
-use native.Mathlib.Omega.{arith}
+use Prim.Native.Nat.{ℕ, _+_, _*_, _≤_}
 use native.Mathlib.Nat.{le-refl}
 use lib.IntN.{ℤ, pos, natAbs, _+ℤ_, _-ℤ_, _*ℤ_}
 use lib.Signed.{ltZ}
@@ -23,7 +21,7 @@ use Rattle.outline.specs.declared.Edge.{Edge}
 use lib.ListN.{getD}
 use Rattle.laws.specs.Meshes.{Stands}
 use Rattle.meaning.specs.Tables.{placeAt}
-use Rattle.outline.specs.Seen.{endBy, edgeBy, arrowIn, edgeIn, Near, Close, EndsStand, Listing}
+use Rattle.outline.specs.Seen.{endBy, edgeBy, arrowIn, edgeIn, Near, Close, EndsStand}
 
 -- ---- what fits
 

@@ -1,5 +1,5 @@
 -- The turns of the loops over all arrows, in the form of their needs. Assumes nothing.
-use mathlib.Core.Bool.{Bool, true, false, not, _&&_}
+use mathlib.Core.Bool.{Bool, true, false, not}
 use mathlib.Core.List.{List}
 use mathlib.Core.Path.{_≡_, refl, sym, ap, _∙_}
 use Prim.Native.Nat.{ℕ, _+_, _*_, _≤_, _<_}
@@ -9,7 +9,6 @@ use lib.Dec.{eqb}
 use lib.IntN.{ℤ}
 use lib.Signed.{ltZ}
 use lib.ListN.{length}
-use Rattle.lists.specs.declared.Found.the-variants.{At, Nothing}
 use Rattle.lists.specs.Lists.{cases, isFound}
 use Rattle.lists.specs.Search.{lowest}
 use Rattle.lists.specs.SearchLaw.{lowest-here, lowest-on, lowest-none}

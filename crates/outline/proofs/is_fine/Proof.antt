@@ -10,7 +10,9 @@ use Rattle.outline.proofs.is_fine.Statement.{statement}
 use Rattle.outline.proofs.is_fine.Tie as tie
 
 abbrev Inv-loop : tie.InvT-loop
-Inv-loop nodes scratch b e sum₀ j₀ sum j = (j ≤ b) × (sum ≤ 3 * j) × (sum ≡ sumTo (lookAt (placeAt nodes) scratch e) j) × (lowest (isThree (lookAt (placeAt nodes) scratch e)) j b ≡ lowest (isThree (lookAt (placeAt nodes) scratch e)) 0 b)
+Inv-loop nodes scratch b e sum₀ j₀ sum j =
+    let f = lookAt (placeAt nodes) scratch e in
+    (j ≤ b) × (sum ≤ 3 * j) × (sum ≡ sumTo f j) × (lowest (isThree f) j b ≡ lowest (isThree f) 0 b)
 
 abbrev μ-loop : tie.MeasureT-loop
 μ-loop nodes scratch b e sum₀ j₀ sum j = b - j

@@ -1,7 +1,6 @@
 use Rattle.outline.specs.SeenLaw.{key-times, key-fits}
 use Rattle.plane.specs.Wide.{fits-wide}
 use mir.Facts.{toZ-ofZ}
-use borrow.Author.Needs.{needs}
 use Rattle.outline.proofs.key_at.Statement.{statement}
 use Rattle.outline.proofs.key_at.Tie as tie
 
@@ -15,11 +14,21 @@ cast-result-2 : tie.Need-cast-result-2
 cast-result-2 c = simp (toZ-ofZ, c .fits .y) (fits-wide (c .args .y) (c .fits .y))
 
 add-result : tie.Need-add-result
-add-result c = simp (toZ-ofZ, c .fits .x, c .fits .y, fits-wide (c .args .x) (c .fits .x), fits-wide (c .args .y) (c .fits .y), key-times (c .args .x) (c .fits .x)) (key-fits (c .args .x) (c .args .y) (c .fits .x) (c .fits .y))
+add-result c =
+    simp (toZ-ofZ, c .fits .x, c .fits .y, fits-wide (c .args .x) (c .fits .x), fits-wide (c .args .y) (c .fits .y), key-times (c .args .x) (c .fits .x))
+    (key-fits (c .args .x) (c .args .y) (c .fits .x) (c .fits .y))
 
 returns : tie.Need-returns
-returns c = simp (toZ-ofZ, c .fits .x, c .fits .y, fits-wide (c .args .x) (c .fits .x), fits-wide (c .args .y) (c .fits .y), key-times (c .args .x) (c .fits .x), key-fits (c .args .x) (c .args .y) (c .fits .x) (c .fits .y))
+returns c =
+    simp (
+      toZ-ofZ,
+      c .fits .x,
+      c .fits .y,
+      fits-wide (c .args .x) (c .fits .x),
+      fits-wide (c .args .y) (c .fits .y),
+      key-times (c .args .x) (c .fits .x),
+      key-fits (c .args .x) (c .args .y) (c .fits .x) (c .fits .y),
+    )
 
 pub key-at-spec : {M : Type 1} → statement M
-key-at-spec = tie.close (tie.spec
-    cast-result mul-result cast-result-2 add-result returns)
+key-at-spec = tie.close (tie.spec cast-result mul-result cast-result-2 add-result returns)

@@ -1,6 +1,5 @@
 use Rattle.outline.specs.SeenLaw.{sum-above}
 use mathlib.Core.Path.{_∙_}
-use mathlib.Core.Path.{refl}
 use Rattle.outline.specs.SeenLaw.{turns-fit}
 use borrow.Author.Needs.{sfits-of}
 use mir.Facts.{toZ-ofZ}

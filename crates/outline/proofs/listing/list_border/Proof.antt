@@ -1,5 +1,4 @@
 use Rattle.outline.specs.ListedLaw.{holding-start, holding-on, holding-end, holding-out}
-use Rattle.neighbours.specs.Ready.{ready-rows, ready-sized}
 use lib.ListN.{length}
 use Rattle.outline.specs.Listed.{Holding}
 use mathlib.Core.Path.{_≡_}

@@ -44,7 +44,7 @@ no-area P Q R e g =
     (P .x) (P .y) (Q .x) (Q .y) (R .x) (R .y) tt)
 
 module _ (f : Form) (m : Mesh) (sep : Separates f m) where
-  side-slanted : (a b c : ℕ) → pos 0 <ℤ turn (at m a) (at m b) (at m c) → rise f (at m a) (at m b) ≢ pos 0
+  pub side-slanted : (a b c : ℕ) → pos 0 <ℤ turn (at m a) (at m b) (at m c) → rise f (at m a) (at m b) ≢ pos 0
   side-slanted a b c h e =
       let (x, y) = sep .doubles a a b (level (key f (at m a)) (key f (at m b)) e) in
       never (turn (at m a) (at m b) (at m c)) h (no-area (at m a) (at m b) (at m c) x y)

@@ -16,3 +16,4 @@ pub mod OneNumber
 pub mod Meet
 pub mod Quiet
 pub mod Keys
+pub mod Round

@@ -40,7 +40,7 @@ pub record Quiet (m : Mesh) : Type 0 where
       ¬ Cross (at m (e .from)) (at m (e .to)) (at m (d .from)) (at m (d .to))
 
 -- a member that passes, if the count is not 0
-count-some : {A : Type 0} (p : A → Bool) (l : List A) → 1 ≤ count p l → (x : A) × List·Memᴰ x l × (p x ≡ true)
+pub count-some : {A : Type 0} (p : A → Bool) (l : List A) → 1 ≤ count p l → (x : A) × List·Memᴰ x l × (p x ≡ true)
 count-some p [] h = absurd (omega arith)
 count-some p (x ∷ xs) h = go (p x) refl h (count-some p xs)
   where
@@ -48,7 +48,7 @@ count-some p (x ∷ xs) h = go (p x) refl h (count-some p xs)
     go true e h below = (x, List·Memᴰ·head refl, e)
     go false e h below = let (y, i, q) = below h in (y, List·Memᴰ·tail i, q)
 
-some-count : {A : Type 0} (p : A → Bool) {x : A} {l : List A} → List·Memᴰ x l → p x ≡ true → 1 ≤ count p l
+pub some-count : {A : Type 0} (p : A → Bool) {x : A} {l : List A} → List·Memᴰ x l → p x ≡ true → 1 ≤ count p l
 some-count p (List·Memᴰ·head {x = y} {xs = ys} e) h = rw (ap p (sym e) ∙ h) (omega arith)
 some-count p (List·Memᴰ·tail {x = y} {xs = ys} i) h = more (p y) (some-count p i h)
   where

@@ -17,3 +17,4 @@ pub mod Meet
 pub mod Quiet
 pub mod Keys
 pub mod Round
+pub mod Covered

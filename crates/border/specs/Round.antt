@@ -62,7 +62,7 @@ module _ (f : Form) (m : Mesh) (sep : Separates f m) (positive : All (λ t. pos 
   star-once : Once (arrowsOf (star z (m .tris)))
   star-once e = let a = star-count (holdsNode z) (sameArrow e) (m .tris) in let b = no-twice e in omega arith
 
-  star-positive : All (λ t. pos 0 <ℤ area (shape m t)) (star z (m .tris))
+  pub star-positive : All (λ t. pos 0 <ℤ area (shape m t)) (star z (m .tris))
   star-positive = only-keeps (holdsNode z) positive
 
   -- no border arrow ends there either

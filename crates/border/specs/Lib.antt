@@ -18,3 +18,4 @@ pub mod Quiet
 pub mod Keys
 pub mod Round
 pub mod Covered
+pub mod Strict

@@ -35,7 +35,7 @@ square-above (pos (suc x)) n = times-above (pos (suc x)) (pos (suc x)) (omega (a
 square-above (negsuc x) n =
     subst (λ k. pos 0 <ℤ k) (ring2 (λ x y. (neg x :* neg x, x :* x)) (negsuc x) (pos 0) tt) (times-above (negℤ (negsuc x)) (negℤ (negsuc x)) (omega (arith, onℤ)) (omega (arith, onℤ)))
 
-square-from : (x : ℤ) → pos 0 ≤ℤ (x *ℤ x)
+pub square-from : (x : ℤ) → pos 0 ≤ℤ (x *ℤ x)
 square-from (pos zero) = omega (arith, onℤ)
 square-from (pos (suc x)) = let h = square-above (pos (suc x)) (λ g. omega (arith, onℤ)) in omega (arith, onℤ)
 square-from (negsuc x) = let h = square-above (negsuc x) (λ g. omega (arith, onℤ)) in omega (arith, onℤ)

@@ -51,6 +51,9 @@ pub depth-border : (f : Form) (m : Mesh) (s : Point) → All (λ t. pos 0 <ℤ a
 depth-border f m s h o off = depth-all f m s h off ∙ border-sum (λ a b. under f (at m a) (at m b) s) (λ a b. under-swapped f (at m a) (at m b) s) (m .tris) o
 
 -- a lawful mesh is such
-pub depth-lawful : (f : Form) (m : Mesh) (s : Point) → Lawful m → OffRows f m s → pos (depth m s) ≡ added (underArrow f m s) (border (m .tris))
+pub rows-positive : (m : Mesh) → Lawful m → All (λ t. pos 0 <ℤ area (shape m t)) (m .tris)
 unfolding twiceArea
-depth-lawful f m s law off = depth-border f m s (All-imp (λ t h. h) (law .positive)) (law .noTwice) off
+rows-positive m law = All-imp (λ t h. h) (law .positive)
+
+pub depth-lawful : (f : Form) (m : Mesh) (s : Point) → Lawful m → OffRows f m s → pos (depth m s) ≡ added (underArrow f m s) (border (m .tris))
+depth-lawful f m s law off = depth-border f m s (rows-positive m law) (law .noTwice) off

@@ -67,7 +67,7 @@ module _ (t : Shape) (A : Place) (positive : pos 0 <ℤ area t) (reaches : Reach
       (side (t .r) (t .p) (ring8 (λ a b c d e g x y. ((a :- e) :* ((b :+ d :+ g) :- K (pos 3) :* y) :- ((a :+ c :+ e) :- K (pos 3) :* x) :* (b :- g), Turn a b c d e g :- K (pos 3) :* Left e g a b x y (K (pos 1)))) (t .p .x) (t .p .y) (t .q .x) (t .q .y) (t .r .x) (t .r .y) (A .x) (A .y) tt) (reaches .rp))))
 
 -- those that pass a test and those that do not
-count-split : {X : Type 0} (q h : X → Bool) (l : List X) → count q l ≡ count q (only h l) + count q (only (λ x. not (h x)) l)
+pub count-split : {X : Type 0} (q h : X → Bool) (l : List X) → count q l ≡ count q (only h l) + count q (only (λ x. not (h x)) l)
 count-split q h [] = omega arith
 count-split q h (x ∷ xs) = go (h x) (q x) refl (count-split q h xs)
   where

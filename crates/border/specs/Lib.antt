@@ -19,3 +19,4 @@ pub mod Keys
 pub mod Round
 pub mod Covered
 pub mod Strict
+pub mod Uncrowded

@@ -161,7 +161,7 @@ pub record Missed (A B C D : Place) : Type 0 where
   pub not-same : A ≡ C → B ≢ D
   pub not-turned : A ≡ D → B ≢ C
 
-inside-back : {A B P : Place} → StrictlyInside A B P → StrictlyInside B A P
+pub inside-back : {A B P : Place} → StrictlyInside A B P → StrictlyInside B A P
 inside-back {A} {B} {P} h = record {
   on-line = turn-cycle B A P ∙ turn-mirror A B P ∙ ap negℤ (h .on-line);
   between = subst (λ k. k <ℤ pos 0) (ring6 (λ a b c d x y. ((a :- x) :* (c :- x) :+ (b :- y) :* (d :- y), (c :- x) :* (a :- x) :+ (d :- y) :* (b :- y))) (A .x) (A .y) (B .x) (B .y) (P .x) (P .y) tt) (h .between);

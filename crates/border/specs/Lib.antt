@@ -20,3 +20,4 @@ pub mod Round
 pub mod Covered
 pub mod Strict
 pub mod Uncrowded
+pub mod Decided

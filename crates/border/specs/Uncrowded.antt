@@ -23,7 +23,7 @@ use Rattle.meaning.specs.Lawful.{Lawful}
 use Rattle.meaning.specs.Proper.{Point, Shape, Inside, StrictlyInside, facing, area, shape, left}
 use Rattle.laws.specs.Area.{turn-cycle}
 use Rattle.laws.specs.Edges.{sameArrow-eq}
-use Rattle.border.specs.Under.{Form, key, inside, yes-inside, left-swapped, below-zero}
+use Rattle.border.specs.Under.{Form, Off, key, inside, yes-inside, left-swapped, below-zero}
 use Rattle.border.specs.Cancel.{Once, reverse, arrowsOf, border}
 use Rattle.border.specs.Count.{depth, OffRows, rows-positive}
 use Rattle.border.specs.Segment.{corner, rise, left-corner, left-start, left-end}
@@ -139,3 +139,107 @@ module _ (f : Form) (m : Mesh) (sep : Separates f m) (law : Lawful m) (quiet : Q
       go (on-border d i u) (within inner) = twin-row k j h lj (λ w. n (sym w)) (sym e) inner
       go (on-border d i u) (on-border c x v) =
           n (sym u ∙ any-start f m (law .noTwice) (border-slanted f m sep positive (law .noTwice) quiet) quiet c d x i .at-start (ap (at m) u ∙ e ∙ sym (ap (at m) v)) ∙ v)
+
+  -- ---- a node strictly inside an edge
+
+  not-held : (k : ℕ) (t : Tri) (e : Arrow) → SideOf m t e → StrictlyInside (at m (e .from)) (at m (e .to)) (at m k) → holdsNode k t ≡ false
+  not-held k t e s h = go (holdsNode k t) refl
+    where
+      never : pos 0 <ℤ pos 0 → ⊥
+      never h = omega (arith, onℤ)
+
+      clash-zero : (z : ℤ) → pos 0 <ℤ z → z ≡ pos 0 → ⊥
+      clash-zero z h e = omega (arith, onℤ)
+
+      at-start : (A B : Place) → facing A B A ≡ pos 0
+      at-start A B = ring4 (λ a b c d. ((a :- a) :* (c :- a) :+ (b :- b) :* (d :- b), K (pos 0))) (A .x) (A .y) (B .x) (B .y) tt
+
+      at-end : (A B : Place) → facing A B B ≡ pos 0
+      at-end A B = ring4 (λ a b c d. ((a :- c) :* (c :- c) :+ (b :- d) :* (d :- d), K (pos 0))) (A .x) (A .y) (B .x) (B .y) tt
+
+      below-never : (z : ℤ) → z <ℤ pos 0 → z ≡ pos 0 → ⊥
+      below-never z h e = omega (arith, onℤ)
+
+      no-corner : OneOf k (e .from) (e .to) (s .apex) → ⊥
+      no-corner (the-first w) = below-never (facing (at m (e .from)) (at m (e .to)) (at m k)) (h .between) (ap (λ x. facing (at m (e .from)) (at m (e .to)) (at m x)) w ∙ at-start (at m (e .from)) (at m (e .to)))
+      no-corner (the-second w) = below-never (facing (at m (e .from)) (at m (e .to)) (at m k)) (h .between) (ap (λ x. facing (at m (e .from)) (at m (e .to)) (at m x)) w ∙ at-end (at m (e .from)) (at m (e .to)))
+      no-corner (the-third w) = clash-zero (turn (at m (e .from)) (at m (e .to)) (at m (s .apex))) (s .positive) (ap (λ x. turn (at m (e .from)) (at m (e .to)) (at m x)) (sym w) ∙ h .on-line)
+
+      go : (b : Bool) → holdsNode k t ≡ b → b ≡ false
+      go true w = absurd (no-corner (s .corners k w))
+      go false w = refl
+
+  -- a point inside a row of k and inside one that does not hold k
+  two-rows : (k : ℕ) (p : Point) → pos 0 <ℤ p .W → (t u : Tri) → List·Memᴰ t (m .tris) → List·Memᴰ u (m .tris) → holdsNode k t ≡ true → holdsNode k u ≡ false → Inside (shape m t) p → Inside (shape m u) p → ⊥
+  two-rows k p w t u i j h n a b =
+      let x = some-count (λ (v : Tri). inside (shape m v) p) (only-in (holdsNode k) i h) (yes-inside (shape m t) p a) in
+      let y = some-count (λ (v : Tri). inside (shape m v) p) (only-in (λ v. not (holdsNode k v)) j (ap not n)) (yes-inside (shape m u) p b) in
+      let z = count-split (λ (v : Tri). inside (shape m v) p) (holdsNode k) (m .tris) in
+      let most = depth-one m disjoint p w in
+      omega arith
+
+  module _ (k : ℕ) (t u : Tri) (it : List·Memᴰ t (m .tris)) (iu : List·Memᴰ u (m .tris)) (e : Arrow) (s : SideOf m t e) (s′ : SideOf m u (reverse e))
+      (h : StrictlyInside (at m (e .from)) (at m (e .to)) (at m k)) (lk : k < length (m .nodes)) where
+    abbrev A : Place
+    A = at m (e .from)
+
+    abbrev B : Place
+    B = at m (e .to)
+
+    -- inside a row of k, and left of the four other sides of the two rows at the edge
+    abbrev Amid : Tri → Point → Type 0
+    Amid r p = Inside (shape m r) p × ((pos 0 <ℤ left B (at m (s .apex)) p) × ((pos 0 <ℤ left (at m (s .apex)) A p) × ((pos 0 <ℤ left A (at m (s′ .apex)) p) × (pos 0 <ℤ left (at m (s′ .apex)) B p))))
+
+    -- an edge with a row on either side has no node strictly inside it
+    both-sides : ⊥
+    both-sides =
+        let (r, ir, hr) = count-some (holdsNode k) (m .tris) (law .used k lk) in
+        let (a, b) = other-sides A B (at m k) h (at m (s .apex)) (s .positive) in
+        let (c, d) = other-sides B A (at m k) (inside-back h) (at m (s′ .apex)) (s′ .positive) in
+        let tx = towardX (shape m r) (at m k) in
+        let ty = towardY (shape m r) (at m k) in
+        let way = both-from (weight-stays (corner (at m k)) tx ty (omega (arith, onℤ))) (both-from (inward (shape m r) (at m k) (All-at positive ir) (own-reached m k r (All-at positive ir) hr))
+        (both-from (left-stays (corner (at m k)) tx ty B (at m (s .apex)) (corner-above B (at m (s .apex)) (at m k) a)) (both-from (left-stays (corner (at m k)) tx ty (at m (s .apex)) A (corner-above (at m (s .apex)) A (at m k) b))
+        (both-from (left-stays (corner (at m k)) tx ty A (at m (s′ .apex)) (corner-above A (at m (s′ .apex)) (at m k) c)) (left-stays (corner (at m k)) tx ty (at m (s′ .apex)) B (corner-above (at m (s′ .apex)) B (at m k) d)))))) in
+        let o = near (corner (at m k)) tx ty (way .start) in
+        let (w, (i0, (i1, (i2, (i3, i4))))) = way .holds (way .start) (omega arith) in
+        let (p, wp, off, amid) = generic-near f (sep .across-not) m positive o w (Amid r)
+        (λ x y. both-from (inside-near (shape m r) o x y i0) (both-from (left-stays o x y B (at m (s .apex)) i1) (both-from (left-stays o x y (at m (s .apex)) A i2)
+        (both-from (left-stays o x y A (at m (s′ .apex)) i3) (left-stays o x y (at m (s′ .apex)) B i4))))) in
+        finish r ir hr p wp amid off
+      where
+        neg-above : (z : ℤ) → z <ℤ pos 0 → pos 0 <ℤ negℤ z
+        neg-above z h = omega (arith, onℤ, negℤ-ud z)
+
+        finish : (r : Tri) → List·Memᴰ r (m .tris) → holdsNode k r ≡ true → (p : Point) → pos 0 <ℤ p .W → Amid r p → OffRows f m p → ⊥
+        finish r ir hr p wp (i0, (i1, (i2, (i3, i4)))) off = go (ltZ (pos 0) (left A B p)) refl
+          where
+            n : left A B p ≢ pos 0
+            n = s .off-by f p (All-at {P = λ t. Off f (shape m t) p} off it)
+
+            go : (x : Bool) → ltZ (pos 0) (left A B p) ≡ x → ⊥
+            go true x = two-rows k p wp r t ir it hr (not-held k t e s h) i0 (s .inside-by p (ltZ-true (pos 0) (left A B p) x) i1 i2)
+            go false x =
+                two-rows k p wp r u ir iu hr (not-held k u (reverse e) s′ (inside-back h)) i0
+                (s′ .inside-by p (subst (λ z. pos 0 <ℤ z) (sym (left-swapped A B p)) (neg-above (left A B p) (below-zero (left A B p) n x))) i3 i4)
+
+  pub none-inside : (k : ℕ) → k < length (m .nodes) → All (λ t. All (λ e. ¬ StrictlyInside (at m (e .from)) (at m (e .to)) (at m k)) (arrows t)) (m .tris)
+  none-inside k lk = All-of (m .tris) (λ t i. All-of (arrows t) (λ e j h. edge t i e j h (All-at (sides-of m t (All-at positive i)) j)))
+    where
+      edge : (t : Tri) → List·Memᴰ t (m .tris) → (e : Arrow) → List·Memᴰ e (arrows t) → StrictlyInside (at m (e .from)) (at m (e .to)) (at m k) → SideOf m t e → ⊥
+      edge t i e j h s = go (standing k) (any (holdsArrow (reverse e)) (m .tris)) refl
+        where
+          go : Standing k → (b : Bool) → any (holdsArrow (reverse e)) (m .tris) ≡ b → ⊥
+          go (within inner) b w =
+              let (x, y) = other-sides (at m (e .from)) (at m (e .to)) (at m k) h (at m (s .apex)) (s .positive) in
+              inner-reached k lk inner t i (not-held k t e s h)
+              (s .reaches-by (at m k) (from-zero (left-corner (at m (e .from)) (at m (e .to)) (at m k) ∙ h .on-line)) (from-above (corner-above (at m (e .to)) (at m (s .apex)) (at m k) x))
+              (from-above (corner-above (at m (s .apex)) (at m (e .from)) (at m k) y)))
+          go (on-border d id v) true w =
+              let (u, iu, hu) = any-row (holdsArrow (reverse e)) (m .tris) w in
+              let (x, ix, hx) = any-row (sameArrow (reverse e)) (arrows u) hu in
+              both-sides k t u i iu e s (subst (SideOf m u) (sym (sameArrow-eq (reverse e) x hx)) (All-at (sides-of m u (All-at positive iu)) ix)) h lk
+          go (on-border d id v) false w =
+              any-start f m (law .noTwice) (border-slanted f m sep positive (law .noTwice) quiet) quiet e d
+              (only-in (λ d. not (any (holdsArrow (reverse d)) (m .tris))) (joined-in arrows i j) (ap not w)) id .not-inside
+              (subst (λ x. StrictlyInside (at m (e .from)) (at m (e .to)) (at m x)) (sym v) h)

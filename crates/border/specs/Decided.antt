@@ -1,0 +1,35 @@
+-- The theorem: a lawful mesh draws neither 11 nor 12 exactly if no pair of border arrows touches or crosses and the one number is 0. Assumes nothing.
+use mathlib.Core.Bool.{Bool, true, false, not}
+use mathlib.Core.List.{List, [], _∷_, List·Memᴰ}
+use mathlib.Core.Logic.{_≢_, _↔_}
+use mathlib.Core.Path.{_≡_, refl, sym, ap, subst, _∙_}
+use lib.IntN.{ℤ, pos}
+use lib.Signed.{_<ℤ_}
+use Rattle.lists.specs.Lists.{All}
+use Rattle.meaning.specs.Mesh.{Mesh}
+use Rattle.meaning.specs.Lawful.{Lawful}
+use Rattle.meaning.specs.Proper.{Proper, area, shape}
+use Rattle.border.specs.Under.{Form}
+use Rattle.border.specs.Count.{rows-positive}
+use Rattle.border.specs.OneNumber.{wholeExcess, all-bare, NoneShared}
+use Rattle.border.specs.Disjoint.{none-shared}
+use Rattle.border.specs.Quiet.{Quiet}
+use Rattle.border.specs.Keys.{Separates, all-lone}
+use Rattle.border.specs.Uncrowded.{places-differ, none-inside}
+
+-- what the loop over pairs of border arrows finds nothing of
+pub record NothingFound (f : Form) (m : Mesh) : Type 0 where
+  pub quiet : Quiet m
+  pub none-beside : wholeExcess f m ≡ pos 0
+
+module _ (f : Form) (m : Mesh) (sep : Separates f m) (law : Lawful m) where
+  disjoint-then : NothingFound f m → NoneShared m
+  disjoint-then n =
+      none-shared f (sep .across-not) m (rows-positive m law) (law .noTwice)
+      (all-bare f (sep .across-not) m (rows-positive m law) (law .noTwice) (all-lone f m sep (rows-positive m law) (law .noTwice) (n .quiet)) (n .none-beside))
+
+  pub proper-then : NothingFound f m → Proper m
+  proper-then n = record {
+      places-differ = places-differ f m sep law (n .quiet) (disjoint-then n);
+      none-inside = none-inside f m sep law (n .quiet) (disjoint-then n);
+      none-shared = disjoint-then n }

@@ -30,6 +30,7 @@ module _ (f : Form) (m : Mesh) (sep : Separates f m) (law : Lawful m) where
 
   pub proper-then : NothingFound f m → Proper m
   proper-then n = record {
-      places-differ = places-differ f m sep law (n .quiet) (disjoint-then n);
-      none-inside = none-inside f m sep law (n .quiet) (disjoint-then n);
-      none-shared = disjoint-then n }
+    places-differ = places-differ f m sep law (n .quiet) (disjoint-then n);
+    none-inside = none-inside f m sep law (n .quiet) (disjoint-then n);
+    none-shared = disjoint-then n;
+  }

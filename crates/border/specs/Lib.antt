@@ -21,3 +21,4 @@ pub mod Covered
 pub mod Strict
 pub mod Uncrowded
 pub mod Decided
+pub mod Crossing

@@ -175,7 +175,7 @@ opposite-neg : (x y u v : ℤ) → u ≡ negℤ x → v ≡ negℤ y → Opposit
 opposite-neg x y u v e g (down h i) = upwards (omega (arith, onℤ, negℤ-ud x)) (omega (arith, onℤ, negℤ-ud y))
 opposite-neg x y u v e g (upwards h i) = down (omega (arith, onℤ, negℤ-ud x)) (omega (arith, onℤ, negℤ-ud y))
 
-turn-back : (A B P : Place) → turn B A P ≡ negℤ (turn A B P)
+pub turn-back : (A B P : Place) → turn B A P ≡ negℤ (turn A B P)
 turn-back A B P = turn-cycle B A P ∙ turn-mirror A B P
 
 -- the same of the segments the other way round

@@ -76,7 +76,7 @@ module _ (f : Form) (A B : Place) (low-high : pos 0 <ℤ rise f A B) (s t : Poin
 abbrev pub others : Arrow → List Arrow → List Arrow
 others e es = only (λ d. not (sameArrow e d)) es
 
-sameArrow-refl : (e : Arrow) → sameArrow e e ≡ true
+pub sameArrow-refl : (e : Arrow) → sameArrow e e ≡ true
 sameArrow-refl e = and-both (eq-eqb (e .from) (e .from) refl) (eq-eqb (e .to) (e .to) refl)
 
 only-count : {X : Type 0} (p q : X → Bool) (l : List X) → count q (only p l) ≤ count q l

@@ -67,10 +67,10 @@ first-only a b x y h i e = subst (λ k. pos 0 <ℤ (a *ℤ x +ℤ b *ℤ k)) (sy
 second-only : (a b x y : ℤ) → pos 0 <ℤ b → pos 0 <ℤ y → x ≡ pos 0 → pos 0 <ℤ (a *ℤ x +ℤ b *ℤ y)
 second-only a b x y h i e = subst (λ k. pos 0 <ℤ (a *ℤ k +ℤ b *ℤ y)) (sym e) (subst (λ k. pos 0 <ℤ k) (ring2 (λ p a. (p, a :* K (pos 0) :+ p)) (b *ℤ y) a tt) (times-above b y h i))
 
-turn-start : (P Q : Place) → turn P Q P ≡ pos 0
+pub turn-start : (P Q : Place) → turn P Q P ≡ pos 0
 turn-start P Q = sym (left-corner P Q P) ∙ left-start P Q
 
-turn-end : (P Q : Place) → turn P Q Q ≡ pos 0
+pub turn-end : (P Q : Place) → turn P Q Q ≡ pos 0
 turn-end P Q = sym (left-corner P Q Q) ∙ left-end P Q
 
 -- a point strictly between the ends of a side is strictly left of the other two
@@ -148,7 +148,7 @@ module _ (m : Mesh) (t u : Tri) (e d : Arrow) (s : SideOf m t e) (s′ : SideOf 
         let p = near cut x y (way .start) in
         record { point = p; weight = w; in-first = s .inside-by p a b c; in-second = s′ .inside-by p g h i }
 
-turned-share : {s t : Shape} → Share s t → Share t s
+pub turned-share : {s t : Shape} → Share s t → Share t s
 turned-share h = record { point = h .point; weight = h .weight; in-first = h .in-second; in-second = h .in-first }
 
 -- rows with sides that cross share an interior point

@@ -11,11 +11,12 @@ use Rattle.meaning.specs.Lawful.{Lawful}
 use Rattle.meaning.specs.Proper.{Proper, area, shape}
 use Rattle.border.specs.Under.{Form}
 use Rattle.border.specs.Count.{rows-positive}
-use Rattle.border.specs.OneNumber.{wholeExcess, all-bare, NoneShared}
+use Rattle.border.specs.OneNumber.{wholeExcess, all-bare, NoneShared, whole-none}
 use Rattle.border.specs.Disjoint.{none-shared}
 use Rattle.border.specs.Quiet.{Quiet}
-use Rattle.border.specs.Keys.{Separates, all-lone}
+use Rattle.border.specs.Keys.{Separates, all-lone, byX, byY, byX-separates, byY-separates}
 use Rattle.border.specs.Uncrowded.{places-differ, none-inside}
+use Rattle.border.specs.Converse.{quiet-then}
 
 -- what the loop over pairs of border arrows finds nothing of
 pub record NothingFound (f : Form) (m : Mesh) : Type 0 where
@@ -34,3 +35,18 @@ module _ (f : Form) (m : Mesh) (sep : Separates f m) (law : Lawful m) where
     none-inside = none-inside f m sep law (n .quiet) (disjoint-then n);
     none-shared = disjoint-then n;
   }
+
+  pub found-then : Proper m → NothingFound f m
+  found-then p =
+      let q = quiet-then m law p in
+      record { quiet = q; none-beside = whole-none f (sep .across-not) m (rows-positive m law) (law .noTwice) (all-lone f m sep (rows-positive m law) (law .noTwice) q) (p .none-shared) }
+
+  pub decided : NothingFound f m ↔ Proper m
+  decided = (proper-then, found-then)
+
+-- with either key, nothing more is asked of the mesh than that it is lawful
+pub decided-by-x : (m : Mesh) → Lawful m → NothingFound byX m ↔ Proper m
+decided-by-x m law = decided byX m (byX-separates m law) law
+
+pub decided-by-y : (m : Mesh) → Lawful m → NothingFound byY m ↔ Proper m
+decided-by-y m law = decided byY m (byY-separates m law) law

@@ -49,7 +49,7 @@ star-count p q (t ∷ ts) = go (p t) (star-count p q ts) (count-append q (arrows
     go false h e g = omega arith
 
 -- a row that holds an arrow holds its ends
-ends-held : (d : Arrow) (t : Tri) → holdsArrow d t ≡ true → (holdsNode (d .from) t ≡ true) × (holdsNode (d .to) t ≡ true)
+pub ends-held : (d : Arrow) (t : Tri) → holdsArrow d t ≡ true → (holdsNode (d .from) t ≡ true) × (holdsNode (d .to) t ≡ true)
 ends-held d t h =
     let (e, i, s) = any-row (sameArrow d) (arrows t) h in
     subst (λ (x : Arrow). (holdsNode (x .from) t ≡ true) × (holdsNode (x .to) t ≡ true)) (sym (sameArrow-eq d e s)) (All-at ends i)

@@ -37,3 +37,4 @@ pub mod Uncrowded
 pub mod Crossing
 pub mod Converse
 pub mod Decided
+pub mod PairTests

@@ -73,7 +73,7 @@ module _ (f : Form) (A B : Place) where
   rise-split P = ring3 (λ a b p. (b :- a, (p :- a) :+ (b :- p))) (key f A) (key f B) (key f P) tt
 
   -- of a place of the line: rise² · facing = −(rise from A)(rise to B) |AB|²
-  facing-key : (P : Place) → turn A B P ≡ pos 0 →
+  pub facing-key : (P : Place) → turn A B P ≡ pos 0 →
       (rise f A B *ℤ rise f A B) *ℤ facing A B P ≡ negℤ ((rise f A P *ℤ rise f P B) *ℤ ((B .x -ℤ A .x) *ℤ (B .x -ℤ A .x) +ℤ (B .y -ℤ A .y) *ℤ (B .y -ℤ A .y)))
   facing-key P e =
       combine₁ (cofactor (f .along) (f .across) (B .x -ℤ A .x) (B .y -ℤ A .y) (P .x -ℤ A .x) (P .y -ℤ A .y)) e

@@ -157,7 +157,7 @@ around-holds u v w l m n =
     (every-at (λ v. every (λ w. every (λ l. every (λ m. every (λ n. around u v w l m n)))))
     (every-at (λ u. every (λ v. every (λ w. every (λ l. every (λ m. every (λ n. around u v w l m n)))))) refl u) v) w) l) m) n
 
-sameZ-eq : (a b : ℤ) → sameZ a b ≡ true → a ≡ b
+pub sameZ-eq : (a b : ℤ) → sameZ a b ≡ true → a ≡ b
 sameZ-eq a b t = le-antisymm (leZ-true a b (and-left (leZ a b) (leZ b a) t)) (leZ-true b a (and-right (leZ a b) (leZ b a) t))
 
 six-signs : (u v w l m n : Bool) → l || (m || n) ≡ true → sameSigns (agree m u) (agree n v) (agree l w) ≡ false →

@@ -14,15 +14,16 @@ use Rattle.whole.specs.Diff.{onℤ, subℤ, negℤ-ud}
 use Rattle.whole.specs.Ring.{K, _:+_, _:-_, _:*_, ring4}
 use Rattle.whole.specs.Tests.{ltZ-true, ltZ-false, lt-ltZ, le-leZ}
 use Rattle.whole.specs.Order.{le-of-eq}
-use Rattle.lists.specs.Lists.{all, All}
+use Rattle.lists.specs.Lists.{any, all, All}
 use Rattle.lists.specs.ListsLaw.{clash, and-both, and-left, and-right, or-left, or-right, or-no, all-yes, yes-all, All-at, All-of}
+use Rattle.lists.specs.MembersLaw.{only-keeps}
 use Rattle.meaning.specs.declared.Place.{Place}
-use Rattle.meaning.specs.Mesh.{Mesh, Arrow, sameArrow, at, turn}
+use Rattle.meaning.specs.Mesh.{Mesh, Arrow, sameArrow, holdsArrow, at, turn}
 use Rattle.meaning.specs.Good.{sameZ}
 use Rattle.meaning.specs.Lawful.{Lawful}
 use Rattle.meaning.specs.Proper.{StrictlyInside, facing, Proper}
 use Rattle.border.specs.Under.{Form, key, sameZ-eq}
-use Rattle.border.specs.Cancel.{border}
+use Rattle.border.specs.Cancel.{reverse, border}
 use Rattle.border.specs.Count.{rows-positive}
 use Rattle.border.specs.Segment.{rise}
 use Rattle.border.specs.Nearest.{Slanted}
@@ -208,3 +209,49 @@ module _ (f : Form) (m : Mesh) (e : Arrow) (slanted : Slanted f m e) (k : ℕ) w
               b || (sameZ (facing A B (at m k)) (pos 0) && (not (eqb k (e .from)) && not (eqb k (e .to)))) ≡ true → ⊥
           pick true u line q = h .not-inside (record { on-line = line; between = ltZ-true (facing A B (at m k)) (pos 0) u })
           pick false u line q = other line q
+
+-- ---- the whole
+
+module _ (f : Form) (m : Mesh) (sep : Separates f m) (law : Lawful m) where
+  slanted : All (Slanted f m) (border (m .tris))
+  slanted = only-keeps (λ d. not (any (holdsArrow (reverse d)) (m .tris))) (all-slanted f m sep (rows-positive m law))
+
+  fine-found : borderFine f m ≡ true → NothingFound f m
+  unfolding borderFine
+  fine-found h = record {
+    quiet = record { no-touch = λ e d i j n. no-touches f m e (All-at slanted i) (d .from) (touch-part e d i j n); no-cross = λ e d i j n c. cross-part e d i j n c };
+    none-beside = sameZ-eq (wholeExcess f m) (pos 0) (and-right (all (λ e. all (pairFine m e) (border (m .tris))) (border (m .tris))) (sameZ (wholeExcess f m) (pos 0)) h);
+  }
+    where
+      part : (e d : Arrow) → List·Memᴰ e (border (m .tris)) → List·Memᴰ d (border (m .tris)) → sameArrow e d ≡ false →
+          not (touches m e (d .from)) && not (crosses (at m (e .from)) (at m (e .to)) (at m (d .from)) (at m (d .to))) ≡ true
+      part e d i j n =
+          let q = All-at (all-yes (λ e. all (pairFine m e) (border (m .tris))) (border (m .tris)) (and-left (all (λ e. all (pairFine m e) (border (m .tris))) (border (m .tris))) (sameZ (wholeExcess f m) (pos 0)) h)) i in
+          sym (ap (λ b. b || (not (touches m e (d .from)) && not (crosses (at m (e .from)) (at m (e .to)) (at m (d .from)) (at m (d .to))))) n) ∙
+          All-at (all-yes (pairFine m e) (border (m .tris)) q) j
+
+      touch-part : (e d : Arrow) → List·Memᴰ e (border (m .tris)) → List·Memᴰ d (border (m .tris)) → sameArrow e d ≡ false → touches m e (d .from) ≡ false
+      touch-part e d i j n = not-true (touches m e (d .from)) (and-left (not (touches m e (d .from))) (not (crosses (at m (e .from)) (at m (e .to)) (at m (d .from)) (at m (d .to)))) (part e d i j n))
+
+      cross-part : (e d : Arrow) → List·Memᴰ e (border (m .tris)) → List·Memᴰ d (border (m .tris)) → sameArrow e d ≡ false → ¬ Cross (at m (e .from)) (at m (e .to)) (at m (d .from)) (at m (d .to))
+      cross-part e d i j n c =
+          clash (sym (yes-crosses (at m (e .from)) (at m (e .to)) (at m (d .from)) (at m (d .to)) c) ∙
+          not-true (crosses (at m (e .from)) (at m (e .to)) (at m (d .from)) (at m (d .to)))
+          (and-right (not (touches m e (d .from))) (not (crosses (at m (e .from)) (at m (e .to)) (at m (d .from)) (at m (d .to)))) (part e d i j n)))
+
+  found-fine : NothingFound f m → borderFine f m ≡ true
+  unfolding borderFine
+  found-fine n =
+      and-both (yes-all (All-of (border (m .tris)) (λ e i. yes-all (All-of (border (m .tris)) (λ d j. fine e d i j (sameArrow e d) refl))))) (eq-sameZ (wholeExcess f m) (pos 0) (n .none-beside))
+    where
+      fine : (e d : Arrow) → List·Memᴰ e (border (m .tris)) → List·Memᴰ d (border (m .tris)) → (b : Bool) → sameArrow e d ≡ b →
+          b || (not (touches m e (d .from)) && not (crosses (at m (e .from)) (at m (e .to)) (at m (d .from)) (at m (d .to)))) ≡ true
+      fine e d i j true w = refl
+      fine e d i j false w =
+          and-both (ap not (touches-no f m e (All-at slanted i) (d .from) (n .quiet .no-touch e d i j w)))
+          (ap not (no-true (crosses (at m (e .from)) (at m (e .to)) (at m (d .from)) (at m (d .to)))
+          (λ c. n .quiet .no-cross e d i j w (crosses-yes (at m (e .from)) (at m (e .to)) (at m (d .from)) (at m (d .to)) c))))
+
+  -- the test passes exactly if the mesh draws neither 11 nor 12
+  pub fine-proper : (borderFine f m ≡ true) ↔ Proper m
+  fine-proper = ((λ h. decided f m sep law .0 (fine-found h)), (λ p. found-fine (decided f m sep law .1 p)))

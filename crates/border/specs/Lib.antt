@@ -38,3 +38,4 @@ pub mod Crossing
 pub mod Converse
 pub mod Decided
 pub mod PairTests
+pub mod Examples

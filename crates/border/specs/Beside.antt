@@ -95,12 +95,15 @@ only-count p q (x ∷ xs) = go (p x) (q x) (only-count p q xs)
         more true = omega arith
         more false = h
 
+pub border-once : (ts : List Tri) → Once (arrowsOf ts) → Once (border ts)
+border-once ts o e = let a = only-count (λ d. not (any (holdsArrow (reverse d)) ts)) (sameArrow e) (arrowsOf ts) in let b = o e in omega arith
+
 -- an arrow of the border is there once
 module _ (ts : List Tri) (no-twice : Once (arrowsOf ts)) (e : Arrow) (here : List·Memᴰ e (border ts)) (φ : Arrow → ℤ) where
   own-sum : added φ (only (sameArrow e) (border ts)) ≡ φ e
   own-sum =
       added-only φ (sameArrow e) (border ts) ∙ (λ i. added (λ d. same d i) (border ts)) ∙
-      added-any (sameArrow e) (φ e) (border ts) once-there ∙ ap (λ b. when b (φ e)) (any-at (sameArrow e) (sameArrow-refl e) here)
+      added-any (sameArrow e) (φ e) (border ts) (border-once ts no-twice e) ∙ ap (λ b. when b (φ e)) (any-at (sameArrow e) (sameArrow-refl e) here)
     where
       same : (d : Arrow) → when (sameArrow e d) (φ d) ≡ when (sameArrow e d) (φ e)
       same d = go (sameArrow e d) refl
@@ -108,9 +111,6 @@ module _ (ts : List Tri) (no-twice : Once (arrowsOf ts)) (e : Arrow) (here : Lis
           go : (b : Bool) → sameArrow e d ≡ b → when b (φ d) ≡ when b (φ e)
           go true h = sym (ap φ (sameArrow-eq e d h))
           go false h = refl
-
-      once-there : count (sameArrow e) (border ts) ≤ 1
-      once-there = let a = only-count (λ d. not (any (holdsArrow (reverse d)) ts)) (sameArrow e) (arrowsOf ts) in let b = no-twice e in omega arith
 
   -- it and the others
   pub border-split : added φ (border ts) ≡ φ e +ℤ added φ (others e (border ts))

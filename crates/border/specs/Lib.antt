@@ -39,3 +39,4 @@ pub mod Converse
 pub mod Decided
 pub mod PairTests
 pub mod Examples
+pub mod PairSum

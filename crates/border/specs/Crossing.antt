@@ -28,7 +28,7 @@ module _ (A B C D : Place) where
   abbrev by-second : Point
   by-second = mix (turn A B D) (corner C) (negℤ (turn A B C)) (corner D)
 
-  same-point : by-first ≡ by-second
+  pub same-point : by-first ≡ by-second
   same-point = λ i. record { X = x i; Y = y i; W = w i }
     where
       x : by-first .X ≡ by-second .X
@@ -93,7 +93,7 @@ from-zero : {z : ℤ} → z ≡ pos 0 → pos 0 ≤ℤ z
 from-zero e = omega (arith, onℤ)
 
 -- the widths of both means are the same, so of two ways to lie on both sides one is left
-width : (A B C D : Place) → pos 0 <ℤ turn C D A → turn C D B <ℤ pos 0 → turn A B D <ℤ pos 0 → pos 0 <ℤ turn A B C → ⊥
+pub width : (A B C D : Place) → pos 0 <ℤ turn C D A → turn C D B <ℤ pos 0 → turn A B D <ℤ pos 0 → pos 0 <ℤ turn A B C → ⊥
 width A B C D a b d c = never (turn C D A) (turn C D B) (turn A B C) (turn A B D) (ap (λ (p : Point). p .W) (same-point A B C D)) a b c d
   where
     never : (p q x y : ℤ) → negℤ q *ℤ pos 1 +ℤ p *ℤ pos 1 ≡ y *ℤ pos 1 +ℤ negℤ x *ℤ pos 1 → pos 0 <ℤ p → q <ℤ pos 0 → pos 0 <ℤ x → y <ℤ pos 0 → ⊥

@@ -151,7 +151,7 @@ small d e h g =
     (z, omega (arith, onℤ, mulℤ (pos 8388608) d, sumℤ (pos 8388608 *ℤ d) e))
 
 module _ (m : Mesh) (law : Lawful m) where
-  place-near : (k : ℕ) → InRange (at m k)
+  pub place-near : (k : ℕ) → InRange (at m k)
   place-near k = go (m .nodes) k (law .range)
     where
       go : (l : List Node) (k : ℕ) → All NodeInRange l → InRange (getD l k origin .place)

@@ -40,3 +40,4 @@ pub mod Decided
 pub mod PairTests
 pub mod Examples
 pub mod PairSum
+pub mod Apart

@@ -29,7 +29,7 @@ cancel a (negsuc x) n e = absurd (sign-product a (negsuc x) n (λ g. omega (arit
 above-not : {z : ℤ} → pos 0 <ℤ z → z ≢ pos 0
 above-not h e = omega (arith, onℤ)
 
-square-above : (x : ℤ) → x ≢ pos 0 → pos 0 <ℤ (x *ℤ x)
+pub square-above : (x : ℤ) → x ≢ pos 0 → pos 0 <ℤ (x *ℤ x)
 square-above (pos zero) n = absurd (n refl)
 square-above (pos (suc x)) n = times-above (pos (suc x)) (pos (suc x)) (omega (arith, onℤ)) (omega (arith, onℤ))
 square-above (negsuc x) n =

@@ -66,7 +66,7 @@ not-true : (b : Bool) → not b ≡ true → b ≡ false
 not-true true h = clash (sym h)
 not-true false h = refl
 
-no-true : (b : Bool) → (b ≡ true → ⊥) → b ≡ false
+pub no-true : (b : Bool) → (b ≡ true → ⊥) → b ≡ false
 no-true true h = absurd (h refl)
 no-true false h = refl
 

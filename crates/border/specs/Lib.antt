@@ -41,3 +41,4 @@ pub mod PairTests
 pub mod Examples
 pub mod PairSum
 pub mod Apart
+pub mod InColumns

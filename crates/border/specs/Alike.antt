@@ -1,18 +1,16 @@
 -- Two points of a segment that have one key are one point: every arrow counts the same under both. Assumes nothing.
-use mathlib.Core.Bool.{Bool, _&&_}
-use mathlib.Core.Path.{_≡_, refl, sym, ap, ap₂, subst, _∙_}
-use native.Mathlib.Omega.{arith}
+use mathlib.Core.Bool.{_&&_}
+use mathlib.Core.Path.{_≡_, sym, ap, subst, _∙_}
 use lib.IntN.{ℤ, pos, negℤ, _+ℤ_, _-ℤ_, _*ℤ_}
 use lib.Signed.{ltZ, _<ℤ_}
-use Rattle.whole.specs.Diff.{onℤ, subℤ, negℤ-ud}
-use Rattle.whole.specs.Ring.{Expr, K, _:+_, _:-_, _:*_, neg, ring2, ring4, ring6, ring8, combine₁, combine₂}
+use Rattle.whole.specs.Ring.{K, _:+_, _:-_, _:*_, neg, ring2, ring4, ring6, ring8, combine₁, combine₂}
 use Rattle.whole.specs.Tests.{ltZ-true, lt-ltZ}
 use Rattle.lists.specs.ListsLaw.{both-ways}
 use Rattle.meaning.specs.declared.Place.{Place}
 use Rattle.meaning.specs.Proper.{Point, left}
 use Rattle.border.specs.Sums.{one}
-use Rattle.border.specs.Under.{Form, key, keyAt, past, before, under, ahead, times-above, lt-zero, left-swapped}
-use Rattle.border.specs.Segment.{Strictly, above, corner, spot, rise, left-mix, left-spot}
+use Rattle.border.specs.Under.{Form, key, keyAt, past, before, under, ahead, times-above, lt-zero}
+use Rattle.border.specs.Segment.{Strictly, above, corner, rise, left-mix, left-spot}
 use Rattle.border.specs.Along.{unscale-above}
 
 abbrev pub SameKey : Form → Point → Point → Type 0

@@ -3,18 +3,18 @@ use mathlib.Core.Bool.{Bool, true, false, not, _&&_}
 use mathlib.Core.Logic.{_≢_}
 use mathlib.Core.Path.{_≡_, refl, sym, ap, ap₂, subst, _∙_}
 use native.Mathlib.Omega.{arith}
-use lib.IntN.{ℤ, pos, negsuc, negℤ, _+ℤ_, _-ℤ_, _*ℤ_}
+use lib.IntN.{ℤ, pos, negℤ, _+ℤ_, _-ℤ_, _*ℤ_}
 use lib.Signed.{ltZ, _≤ℤ_, _<ℤ_}
 use Rattle.whole.specs.Diff.{onℤ, sumℤ, subℤ, negℤ-ud}
-use Rattle.whole.specs.Ring.{Expr, K, _:+_, _:-_, _:*_, neg, ring2, ring3, ring4, ring6}
+use Rattle.whole.specs.Ring.{K, _:+_, _:-_, _:*_, neg, ring2, ring3, ring4, ring6}
 use Rattle.whole.specs.Tests.{ltZ-true, ltZ-false, lt-ltZ, le-ltZ}
 use Rattle.whole.specs.Order.{unscale-lt}
 use Rattle.lists.specs.ListsLaw.{clash, both-ways}
 use Rattle.meaning.specs.declared.Place.{Place}
 use Rattle.meaning.specs.Proper.{Point, left}
 use Rattle.border.specs.Sums.{one}
-use Rattle.border.specs.Under.{Form, key, keyAt, past, before, under, ahead, times-above, below-zero, not-lt, lt-zero}
-use Rattle.border.specs.Segment.{Strictly, Within, Spans, Apart, above, corner, spot, rise, one-side, left-start, left-end, left-spot, ahead-corner, strictly-spans, spot-strictly, spot-within, times-below}
+use Rattle.border.specs.Under.{Form, key, keyAt, before, under, ahead, times-above, not-lt, lt-zero}
+use Rattle.border.specs.Segment.{Strictly, Within, Spans, Apart, above, corner, spot, rise, one-side, left-start, left-end, left-spot, ahead-corner, spot-strictly, spot-within}
 
 -- the key of v is below that of s
 abbrev pub behind : Form → Place → Point → Bool

@@ -5,20 +5,20 @@ use mathlib.Core.Path.{_≡_, refl, sym, ap, ap₂, subst, _∙_}
 use Prim.Native.Nat.{ℕ, _≤_}
 use native.Mathlib.Omega.{arith}
 use lib.IntN.{ℤ, pos, negsuc, negℤ, natAbs, _+ℤ_, _-ℤ_, _*ℤ_}
-use lib.Signed.{ltZ, _≤ℤ_, _<ℤ_}
+use lib.Signed.{ltZ, _<ℤ_}
 use Rattle.whole.specs.Diff.{onℤ, sumℤ, subℤ, mulℤ, negℤ-ud}
 use Rattle.whole.specs.Bound.{absℤ}
-use Rattle.whole.specs.Ring.{Expr, K, _:+_, _:-_, _:*_, neg, ring2, ring3, ring4, ring8}
+use Rattle.whole.specs.Ring.{K, _:+_, _:-_, _:*_, neg, ring2, ring3, ring4, ring8}
 use Rattle.whole.specs.Tests.{le-ltZ}
 use Rattle.lists.specs.ListsLaw.{and-both, or-right}
 use Rattle.meaning.specs.declared.Place.{Place}
 use Rattle.meaning.specs.Mesh.{Mesh, Arrow, sameArrow, at, turn}
 use Rattle.meaning.specs.Lawful.{InRange, Lawful}
-use Rattle.meaning.specs.Proper.{Point, StrictlyInside, facing, left}
+use Rattle.meaning.specs.Proper.{StrictlyInside, facing, left}
 use Rattle.border.specs.Sums.{one}
-use Rattle.border.specs.Under.{Form, key, keyAt, past, before, rises, under, ahead, times-above}
+use Rattle.border.specs.Under.{Form, key, keyAt, past, before, under, ahead, times-above}
 use Rattle.border.specs.Count.{underArrow}
-use Rattle.border.specs.Segment.{mix, corner, joint, rise, ahead-mix, ahead-corner}
+use Rattle.border.specs.Segment.{corner, joint, rise, ahead-mix, ahead-corner}
 use Rattle.border.specs.Along.{unscale-above}
 use Rattle.border.specs.Nearest.{Slanted, middle}
 use Rattle.border.specs.Meet.{turn-back, square-above, Opposite, down, upwards, Cross, facing-key, norm-above, rise-is}

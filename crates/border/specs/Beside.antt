@@ -1,24 +1,23 @@
 -- Beside a border arrow: what the other border arrows count is the same at all points of it that have no node's key. Assumes nothing.
 use mathlib.Core.Bool.{Bool, true, false, not, _&&_}
 use mathlib.Core.List.{List, [], _∷_, List·Memᴰ}
-use mathlib.Core.Logic.{_≢_, _⊎_, inl, inr}
+use mathlib.Core.Logic.{_≢_}
 use mathlib.Core.Path.{_≡_, refl, sym, ap, ap₂, subst, _∙_}
 use Prim.Native.Nat.{ℕ, _≤_}
 use native.Mathlib.Omega.{arith}
-use lib.IntN.{ℤ, pos, negsuc, negℤ, _+ℤ_, _-ℤ_, _*ℤ_}
-use lib.Signed.{ltZ, _≤ℤ_, _<ℤ_}
+use lib.IntN.{ℤ, pos, negℤ, _+ℤ_, _-ℤ_, _*ℤ_}
+use lib.Signed.{ltZ, _<ℤ_}
 use borrow.Author.Tests.{eq-eqb}
 use Rattle.whole.specs.Diff.{onℤ, sumℤ, subℤ, negℤ-ud}
 use Rattle.whole.specs.Tests.{ltZ-true, ltZ-false, lt-ltZ, le-ltZ}
 use Rattle.whole.specs.Order.{le-antisymm}
-use Rattle.whole.specs.Ring.{Expr, K, _:+_, _:-_, _:*_, neg, ring2, ring3, ring4, ring6}
 use Rattle.lists.specs.Lists.{any, only, count, consIf, sucIf, All}
 use Rattle.lists.specs.ListsLaw.{and-both, any-at, All-imp}
 use Rattle.lists.specs.MembersLaw.{only-passes}
 use Rattle.meaning.specs.declared.Place.{Place}
 use Rattle.meaning.specs.declared.Tri.{Tri}
-use Rattle.meaning.specs.Mesh.{Mesh, Arrow, arrow, sameArrow, holdsArrow, at}
-use Rattle.meaning.specs.Proper.{Point, left}
+use Rattle.meaning.specs.Mesh.{Mesh, Arrow, sameArrow, holdsArrow, at}
+use Rattle.meaning.specs.Proper.{Point}
 use Rattle.laws.specs.Edges.{sameArrow-eq}
 use Rattle.border.specs.Sums.{when, one, added, added-eq, added-zero, added-sum, added-neg, added-only, added-any, added-parts}
 use Rattle.border.specs.Under.{Form, key, keyAt, under, ahead, under-swapped, below-zero}

@@ -1,25 +1,24 @@
 -- The other way: of the border of a proper mesh nothing is found. Assumes nothing.
-use mathlib.Core.Bool.{Bool, true, false, not}
-use mathlib.Core.List.{List, [], _∷_, List·Memᴰ}
+use mathlib.Core.Bool.{not}
+use mathlib.Core.List.{List·Memᴰ}
 use mathlib.Core.Logic.{_≢_}
-use mathlib.Core.Path.{_≡_, refl, sym, ap, ap₂, subst, _∙_}
-use Prim.Native.Nat.{ℕ, zero, suc, _≤_, _<_}
+use mathlib.Core.Path.{_≡_, sym, ap, subst, _∙_}
+use Prim.Native.Nat.{ℕ, _<_}
 use native.Mathlib.Omega.{arith}
 use native.Mathlib.Decide.{decLt}
 use lib.IntN.{ℤ, pos}
-use lib.Signed.{_<ℤ_}
 use lib.ListN.{length}
 use Rattle.whole.specs.Diff.{onℤ}
 use Rattle.lists.specs.Lists.{any, All, nil, cons}
-use Rattle.lists.specs.ListsLaw.{any-at, All-imp, All-at, All-of, All-joined}
+use Rattle.lists.specs.ListsLaw.{any-at, All-at, All-of, All-joined}
 use Rattle.lists.specs.MembersLaw.{mem-at, only-keeps}
 use Rattle.meaning.specs.declared.Place.{Place}
 use Rattle.meaning.specs.declared.Tri.{Tri}
-use Rattle.meaning.specs.Mesh.{Mesh, Arrow, tri, arrows, sameArrow, holdsArrow, holdsNode, at, turn}
+use Rattle.meaning.specs.Mesh.{Mesh, Arrow, tri, arrows, sameArrow, holdsArrow, at, turn}
 use Rattle.meaning.specs.Lawful.{Named, Lawful, rowOf}
 use Rattle.meaning.specs.Proper.{Proper, Share, shape}
 use Rattle.laws.specs.Area.{turn-cycle}
-use Rattle.border.specs.Cancel.{reverse, arrowsOf, border}
+use Rattle.border.specs.Cancel.{reverse, border}
 use Rattle.border.specs.Count.{rows-positive}
 use Rattle.border.specs.Beside.{sameArrow-refl}
 use Rattle.border.specs.Meet.{Opposite, down, upwards, Cross}

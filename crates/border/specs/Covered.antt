@@ -2,32 +2,31 @@
 use mathlib.Core.Bool.{Bool, true, false, not}
 use mathlib.Core.List.{List, [], _∷_, List·Memᴰ}
 use mathlib.Core.Logic.{_≢_}
-use mathlib.Core.Path.{_≡_, refl, sym, ap, ap₂, subst, _∙_}
-use Prim.Native.Nat.{ℕ, zero, suc, _+_, _*_, _≤_, _<_}
+use mathlib.Core.Path.{_≡_, refl, sym, ap, subst, _∙_}
+use Prim.Native.Nat.{ℕ, _+_, _*_, _≤_}
 use native.Mathlib.Omega.{arith}
 use native.Mathlib.Nat.{mul-le-mul}
-use lib.IntN.{ℤ, pos, negsuc, negℤ, _+ℤ_, _-ℤ_, _*ℤ_}
+use lib.IntN.{ℤ, pos, negsuc, _+ℤ_, _-ℤ_, _*ℤ_}
 use lib.Signed.{_≤ℤ_, _<ℤ_}
-use Rattle.whole.specs.Diff.{onℤ, sumℤ, subℤ, mulℤ}
-use Rattle.whole.specs.Ring.{Expr, K, _:+_, _:-_, _:*_, ring8}
+use Rattle.whole.specs.Diff.{onℤ, sumℤ, subℤ}
+use Rattle.whole.specs.Ring.{K, _:+_, _:-_, _:*_, ring8}
 use Rattle.lists.specs.Lists.{only, consIf, count, sucIf, All}
 use Rattle.lists.specs.ListsLaw.{All-at}
 use Rattle.lists.specs.MembersLaw.{only-in}
 use Rattle.meaning.specs.declared.Place.{Place}
 use Rattle.meaning.specs.declared.Tri.{Tri}
-use Rattle.meaning.specs.Mesh.{Mesh, Arrow, holdsNode, at, turn}
+use Rattle.meaning.specs.Mesh.{Mesh, Arrow, holdsNode, at}
 use Rattle.meaning.specs.Proper.{Point, Shape, Inside, area, shape, left}
 use Rattle.laws.specs.Area.{Turn}
-use Rattle.border.specs.Sums.{added}
 use Rattle.border.specs.Under.{Form, Left, inside, yes-inside}
 use Rattle.border.specs.Cancel.{Once, arrowsOf, border}
-use Rattle.border.specs.Count.{underArrow, depth, OffRows}
+use Rattle.border.specs.Count.{depth, OffRows}
 use Rattle.border.specs.Segment.{corner}
 use Rattle.border.specs.Near.{Eventually, both-from, imply-from, near, tilt, line, left-near, weight-stays, inside-near, generic-near}
 use Rattle.border.specs.OneNumber.{NoneShared, depth-one}
 use Rattle.border.specs.Quiet.{count-some, some-count}
 use Rattle.border.specs.Keys.{Separates}
-use Rattle.border.specs.Round.{star, starMesh, star-positive, Around, around-own, around-near, around-depth}
+use Rattle.border.specs.Round.{starMesh, star-positive, Around, around-own, around-near, around-depth}
 
 -- the place is inside the triangle or on a side of it
 pub record Reaches (t : Shape) (A : Place) : Type 0 where

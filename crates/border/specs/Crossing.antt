@@ -1,22 +1,18 @@
 -- Two border arrows that cross: their rows share an interior point. Assumes nothing.
-use mathlib.Core.Bool.{Bool, true, false, not}
-use mathlib.Core.List.{List, [], _∷_, List·Memᴰ}
-use mathlib.Core.Logic.{_≢_}
-use mathlib.Core.Path.{_≡_, refl, sym, ap, ap₂, subst, _∙_}
-use Prim.Native.Nat.{ℕ, zero, suc}
+use mathlib.Core.Path.{_≡_, sym, ap, ap₂, subst, _∙_}
 use native.Mathlib.Omega.{arith}
-use lib.IntN.{ℤ, pos, negsuc, negℤ, _+ℤ_, _-ℤ_, _*ℤ_}
+use lib.IntN.{ℤ, pos, negℤ, _+ℤ_, _-ℤ_, _*ℤ_}
 use lib.Signed.{_≤ℤ_, _<ℤ_}
-use Rattle.whole.specs.Diff.{onℤ, sumℤ, subℤ, negℤ-ud}
-use Rattle.whole.specs.Ring.{Expr, K, _:+_, _:-_, _:*_, neg, ring2, ring8}
+use Rattle.whole.specs.Diff.{onℤ, subℤ, negℤ-ud}
+use Rattle.whole.specs.Ring.{K, _:+_, _:-_, _:*_, neg, ring2, ring8}
 use Rattle.meaning.specs.declared.Place.{Place}
 use Rattle.meaning.specs.declared.Tri.{Tri}
 use Rattle.meaning.specs.Mesh.{Mesh, Arrow, at, turn}
-use Rattle.meaning.specs.Proper.{Point, Shape, Inside, Share, shape, left}
+use Rattle.meaning.specs.Proper.{Point, Shape, Share, shape, left}
 use Rattle.laws.specs.Area.{Turn, turn-cycle}
 use Rattle.border.specs.Under.{times-above}
 use Rattle.border.specs.Segment.{mix, corner, left-corner, left-start, left-end, left-mix}
-use Rattle.border.specs.Near.{Eventually, both-from, near, tilt, left-stays, left-turns, weight-stays}
+use Rattle.border.specs.Near.{both-from, near, tilt, left-stays, left-turns, weight-stays}
 use Rattle.border.specs.Meet.{turn-back, Opposite, down, upwards, Cross}
 use Rattle.border.specs.Strict.{SideOf}
 

@@ -1,14 +1,10 @@
 -- The theorem: a lawful mesh draws neither 11 nor 12 exactly if no pair of border arrows touches or crosses and the one number is 0. Assumes nothing.
-use mathlib.Core.Bool.{Bool, true, false, not}
-use mathlib.Core.List.{List, [], _∷_, List·Memᴰ}
-use mathlib.Core.Logic.{_≢_, _↔_}
-use mathlib.Core.Path.{_≡_, refl, sym, ap, subst, _∙_}
-use lib.IntN.{ℤ, pos}
-use lib.Signed.{_<ℤ_}
-use Rattle.lists.specs.Lists.{All}
+use mathlib.Core.Logic.{_↔_}
+use mathlib.Core.Path.{_≡_}
+use lib.IntN.{pos}
 use Rattle.meaning.specs.Mesh.{Mesh}
 use Rattle.meaning.specs.Lawful.{Lawful}
-use Rattle.meaning.specs.Proper.{Proper, area, shape}
+use Rattle.meaning.specs.Proper.{Proper}
 use Rattle.border.specs.Under.{Form}
 use Rattle.border.specs.Count.{rows-positive}
 use Rattle.border.specs.OneNumber.{wholeExcess, all-bare, NoneShared, whole-none}

@@ -1,6 +1,6 @@
 -- A sum over pairs, taken column by column: of two members in one column the earlier with the later; of two in different columns the one in the lower
 -- with the one in the higher, and only as far as the former reaches, if farther pairs add 0. For any columns. Assumes nothing.
-use mathlib.Core.Bool.{Bool, true, false, not, _&&_}
+use mathlib.Core.Bool.{Bool, true, false, _&&_}
 use mathlib.Core.List.{List, [], _∷_}
 use mathlib.Core.Path.{_≡_, refl, sym, ap, ap₂, _∙_}
 use Prim.Native.Nat.{ℕ, _≤_, _<_}
@@ -9,8 +9,7 @@ use lib.Dec.{eqb, ltb, leb}
 use lib.IntN.{ℤ, pos, _+ℤ_}
 use borrow.Author.Tests.{eqb-true, eqb-false, ltb-true, ltb-false, leb-false}
 use Rattle.whole.specs.Diff.{onℤ, sumℤ}
-use Rattle.lists.specs.Lists.{All, nil, cons}
-use Rattle.border.specs.Sums.{when, added, added-eq, added-sum, exchange}
+use Rattle.border.specs.Sums.{when, added, added-sum, exchange}
 use Rattle.border.specs.PairSum.{pairSum}
 
 module _ {A : Type 0} where

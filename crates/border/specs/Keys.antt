@@ -2,15 +2,15 @@
 use mathlib.Core.Bool.{Bool, true, false, not}
 use mathlib.Core.List.{List, [], _∷_, List·Memᴰ}
 use mathlib.Core.Logic.{_≢_}
-use mathlib.Core.Path.{_≡_, refl, sym, ap, ap₂, subst, _∙_}
-use Prim.Native.Nat.{ℕ, zero, suc, _+_, _≤_, _<_}
+use mathlib.Core.Path.{_≡_, refl, sym, ap₂, subst, _∙_}
+use Prim.Native.Nat.{ℕ, zero, suc, _≤_}
 use native.Mathlib.Omega.{arith}
 use lib.IntN.{ℤ, pos, negsuc, negℤ, natAbs, _+ℤ_, _-ℤ_, _*ℤ_}
 use lib.Signed.{_<ℤ_}
-use lib.ListN.{length, getD}
+use lib.ListN.{getD}
 use Rattle.whole.specs.Diff.{onℤ, sumℤ, subℤ, mulℤ, negℤ-ud}
 use Rattle.whole.specs.Bound.{absℤ, abs-neg, abs-add, abs-sub}
-use Rattle.whole.specs.Ring.{Expr, K, _:+_, _:-_, _:*_, neg, ring2, ring3, ring4, ring6, ring8, combine₁, combine₂}
+use Rattle.whole.specs.Ring.{K, _:+_, _:-_, _:*_, neg, ring2, ring3, ring6, ring8, combine₁, combine₂}
 use Rattle.lists.specs.Lists.{any, All, nil, cons}
 use Rattle.lists.specs.ListsLaw.{clash, All-imp, All-at, All-of, All-joined}
 use Rattle.lists.specs.MembersLaw.{only-keeps, only-out, only-passes}
@@ -21,10 +21,10 @@ use Rattle.meaning.specs.Mesh.{Mesh, Arrow, arrows, sameArrow, holdsArrow, at, 
 use Rattle.meaning.specs.Lawful.{InRange, NodeInRange, Lawful}
 use Rattle.laws.specs.Area.{turn-cycle}
 use Rattle.meaning.specs.Proper.{StrictlyInside, facing, area, shape}
-use Rattle.border.specs.Under.{Form, key, keyAt, ahead}
+use Rattle.border.specs.Under.{Form, key, ahead}
 use Rattle.border.specs.Cancel.{Once, reverse, arrowsOf, border}
-use Rattle.border.specs.Segment.{corner, joint, rise}
-use Rattle.border.specs.Beside.{others, Free}
+use Rattle.border.specs.Segment.{rise}
+use Rattle.border.specs.Beside.{others}
 use Rattle.border.specs.Nearest.{Slanted, Lone, middle}
 use Rattle.border.specs.Meet.{norm-above, rise-is}
 use Rattle.border.specs.Quiet.{Quiet, any-start, any-end, clear-of}

@@ -2,20 +2,20 @@
 use mathlib.Core.Bool.{Bool, true, false}
 use mathlib.Core.Logic.{_≢_, _⊎_, inl, inr}
 use mathlib.Core.Path.{_≡_, refl, sym, ap, ap₂, subst, _∙_}
-use Prim.Native.Nat.{ℕ, zero, suc}
+use Prim.Native.Nat.{zero, suc}
 use native.Mathlib.Omega.{arith}
 use lib.IntN.{ℤ, pos, negsuc, negℤ, _+ℤ_, _-ℤ_, _*ℤ_}
 use lib.Signed.{ltZ, _≤ℤ_, _<ℤ_}
 use Rattle.whole.specs.Diff.{onℤ, sumℤ, subℤ, negℤ-ud}
 use Rattle.whole.specs.Ring.{Expr, K, _:+_, _:-_, _:*_, neg, ring2, ring3, ring4, ring6, ring8, combine₁, combine₂}
-use Rattle.whole.specs.Tests.{ltZ-true, ltZ-false, lt-ltZ, le-ltZ}
+use Rattle.whole.specs.Tests.{ltZ-true, ltZ-false}
 use Rattle.whole.specs.Order.{le-antisymm}
 use Rattle.meaning.specs.declared.Place.{Place}
 use Rattle.meaning.specs.Mesh.{turn}
 use Rattle.meaning.specs.Proper.{Point, StrictlyInside, facing, left}
 use Rattle.laws.specs.Area.{turn-cycle, turn-mirror}
-use Rattle.border.specs.Under.{Form, key, keyAt, ahead, Left, times-above, below-zero, sign-product}
-use Rattle.border.specs.Segment.{Ahead, Strictly, Within, Apart, corner, spot, rise, left-corner, left-start, left-end, left-mix, left-spot}
+use Rattle.border.specs.Under.{Form, key, keyAt, ahead, times-above, sign-product}
+use Rattle.border.specs.Segment.{Strictly, Within, Apart, corner, rise, left-corner, left-start, left-end, left-mix, left-spot}
 use Rattle.border.specs.Along.{unscale-above}
 
 -- ---- products

@@ -1,14 +1,13 @@
 -- Points near a point: close enough it stays inside what it is inside, and is off every line and every key. Assumes nothing.
-use mathlib.Core.Bool.{Bool, true, false}
-use mathlib.Core.List.{List, [], _∷_}
-use mathlib.Core.Logic.{_≢_, _⊎_, inl, inr}
-use mathlib.Core.Path.{_≡_, refl, sym, ap, ap₂, subst, _∙_}
-use Prim.Native.Nat.{ℕ, zero, suc, _+_, _*_, max, _≤_, _<_}
+use mathlib.Core.List.{List}
+use mathlib.Core.Logic.{_≢_}
+use mathlib.Core.Path.{_≡_, refl, sym, subst, _∙_}
+use Prim.Native.Nat.{ℕ, zero, suc, _*_, max, _≤_}
 use native.Mathlib.Omega.{arith}
 use lib.IntN.{ℤ, pos, negsuc, negℤ, natAbs, _+ℤ_, _-ℤ_, _*ℤ_}
-use lib.Signed.{ltZ, _≤ℤ_, _<ℤ_}
-use Rattle.whole.specs.Diff.{onℤ, sumℤ, subℤ, mulℤ, negℤ-ud}
-use Rattle.whole.specs.Ring.{Expr, K, _:+_, _:-_, _:*_, neg, ring2, ring3, ring4, ring6, ring10, combine₂}
+use lib.Signed.{_≤ℤ_, _<ℤ_}
+use Rattle.whole.specs.Diff.{onℤ, sumℤ, subℤ, negℤ-ud}
+use Rattle.whole.specs.Ring.{K, _:+_, _:-_, _:*_, neg, ring2, ring3, ring4, ring6, ring10, combine₂}
 use Rattle.lists.specs.Lists.{All, nil, cons}
 use Rattle.lists.specs.ListsLaw.{All-imp}
 use Rattle.meaning.specs.declared.Place.{Place}

@@ -1,32 +1,30 @@
 -- Below a point: the nearest border arrow says how many rows the point is inside, and they are at most one. Assumes nothing.
 use mathlib.Core.Bool.{Bool, true, false, not, _&&_}
-use mathlib.Core.List.{List, [], _∷_, List·Memᴰ}
+use mathlib.Core.List.{List, List·Memᴰ}
 use mathlib.Core.Logic.{_≢_}
 use mathlib.Core.Path.{_≡_, refl, sym, ap, ap₂, subst, _∙_}
-use Prim.Native.Nat.{ℕ, _≤_}
+use Prim.Native.Nat.{_≤_}
 use native.Mathlib.Omega.{arith}
-use lib.IntN.{+ℤ-comm, ℤ, pos, negsuc, negℤ, _+ℤ_, _-ℤ_, _*ℤ_}
+use lib.IntN.{+ℤ-comm, ℤ, pos, negℤ, _+ℤ_, _-ℤ_, _*ℤ_}
 use lib.Signed.{ltZ, _≤ℤ_, _<ℤ_}
-use borrow.Author.Tests.{eq-eqb}
-use Rattle.whole.specs.Diff.{onℤ, sumℤ, subℤ, negℤ-ud}
-use Rattle.whole.specs.Ring.{Expr, K, _:+_, _:-_, _:*_, neg, ring2, ring4, ring6}
+use Rattle.whole.specs.Diff.{onℤ, subℤ, negℤ-ud}
+use Rattle.whole.specs.Ring.{K, _:+_, _:-_, _:*_, neg, ring2, ring4, ring6}
 use Rattle.whole.specs.Tests.{ltZ-true, ltZ-false, lt-ltZ, le-ltZ}
 use Rattle.whole.specs.Order.{le-antisymm}
-use Rattle.lists.specs.Lists.{any, only, count, consIf, sucIf, cases, All, nil, cons}
-use Rattle.lists.specs.ListsLaw.{clash, both-ways, and-both, and-left, and-right, any-at, All-imp, All-both, All-at, All-of, All-joined}
-use Rattle.lists.specs.MembersLaw.{only-keeps, only-passes}
+use Rattle.lists.specs.Lists.{cases, All, nil, cons}
+use Rattle.lists.specs.ListsLaw.{clash, both-ways, and-both, and-left, and-right, All-imp, All-both, All-at, All-joined}
+use Rattle.lists.specs.MembersLaw.{only-keeps}
 use Rattle.meaning.specs.declared.Place.{Place}
 use Rattle.meaning.specs.declared.Tri.{Tri}
-use Rattle.meaning.specs.Mesh.{Mesh, Arrow, arrow, arrows, sameArrow, holdsArrow, at}
-use Rattle.meaning.specs.Proper.{Point, Shape, area, shape, left}
-use Rattle.laws.specs.Edges.{sameArrow-eq}
-use Rattle.border.specs.Sums.{when, one, added, added-eq, added-only, added-any, added-zero, added-parts}
+use Rattle.meaning.specs.Mesh.{Mesh, Arrow, arrows, sameArrow, at}
+use Rattle.meaning.specs.Proper.{Point, area, shape, left}
+use Rattle.border.specs.Sums.{one, added, added-eq, added-zero}
 use Rattle.border.specs.Under.{Left, sign-product, Form, Off, key, keyAt, under, ahead, under-swapped, below-zero, times-above}
-use Rattle.border.specs.Cancel.{Once, reverse, arrowsOf, border}
+use Rattle.border.specs.Cancel.{Once, arrowsOf, border}
 use Rattle.border.specs.Count.{underArrow, depth, OffRows, depth-border}
 use Rattle.border.specs.Segment.{Ahead, corner, joint, Strictly, Within, Spans, Apart, rise, spot, above, left-spot, spot-ahead, spot-strictly, spot-within, times-to}
 use Rattle.border.specs.Along.{behind, under-rising, unscale-above}
-use Rattle.border.specs.Beside.{Clear, clear-back, Slant, rising, falling, slant, others, Free, ClearArrow, Ends, forth, back, border-split, beside}
+use Rattle.border.specs.Beside.{Clear, clear-back, others, Free, ClearArrow, Ends, forth, back, border-split, beside}
 use Rattle.border.specs.Least.{Least, none-passes, least, find-least}
 
 -- ---- an arrow by its lower and its higher end

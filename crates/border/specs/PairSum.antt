@@ -1,17 +1,16 @@
 -- The one number as a loop over pairs adds it up: each pair of border arrows once, both ways. Assumes nothing.
-use mathlib.Core.Bool.{Bool, true, false, not, _&&_}
-use mathlib.Core.List.{List, [], _∷_, List·Memᴰ, List·Memᴰ·head, List·Memᴰ·tail}
+use mathlib.Core.Bool.{Bool, true, false, not}
+use mathlib.Core.List.{List, [], _∷_, List·Memᴰ}
 use mathlib.Core.Path.{_≡_, refl, sym, ap, ap₂, subst, _∙_}
-use Prim.Native.Nat.{ℕ, suc, _≤_}
+use Prim.Native.Nat.{ℕ, _≤_}
 use native.Mathlib.Omega.{arith}
 use lib.IntN.{ℤ, pos, negℤ, _+ℤ_}
 use Rattle.whole.specs.Diff.{onℤ, sumℤ}
-use Rattle.lists.specs.Lists.{only, consIf, count, sucIf, All, nil, cons}
-use Rattle.lists.specs.ListsLaw.{clash, count-none, All-imp, All-at, All-of}
-use Rattle.meaning.specs.declared.Tri.{Tri}
+use Rattle.lists.specs.Lists.{consIf, sucIf, All, nil, cons}
+use Rattle.lists.specs.ListsLaw.{clash, count-none, All-at, All-of}
 use Rattle.meaning.specs.Mesh.{Mesh, Arrow, sameArrow}
 use Rattle.laws.specs.Edges.{sameArrow-eq}
-use Rattle.border.specs.Sums.{one, added, added-eq, added-sum, exchange}
+use Rattle.border.specs.Sums.{one, added, added-eq, added-sum}
 use Rattle.border.specs.Under.{Form}
 use Rattle.border.specs.Cancel.{Once, arrowsOf, border}
 use Rattle.border.specs.Count.{underArrow}

@@ -1,8 +1,8 @@
 -- Touching and crossing, as tests of two border arrows, and the whole as one test of a mesh. Assumes nothing.
 use mathlib.Core.Bool.{Bool, true, false, not, _&&_, _||_}
-use mathlib.Core.List.{List, List·Memᴰ}
+use mathlib.Core.List.{List·Memᴰ}
 use mathlib.Core.Logic.{_≢_, _⊎_, inl, inr, _↔_}
-use mathlib.Core.Path.{_≡_, refl, sym, ap, ap₂, subst, _∙_}
+use mathlib.Core.Path.{_≡_, refl, sym, ap, _∙_}
 use Prim.Native.Nat.{ℕ}
 use native.Mathlib.Omega.{arith}
 use native.Mathlib.Decide.{ℕ-discrete}
@@ -12,10 +12,10 @@ use lib.Signed.{ltZ, _<ℤ_}
 use borrow.Author.Tests.{eqb-false, ne-eqb}
 use Rattle.whole.specs.Diff.{onℤ, subℤ, negℤ-ud}
 use Rattle.whole.specs.Ring.{K, _:+_, _:-_, _:*_, ring4}
-use Rattle.whole.specs.Tests.{ltZ-true, ltZ-false, lt-ltZ, le-leZ}
+use Rattle.whole.specs.Tests.{ltZ-true, lt-ltZ, le-leZ}
 use Rattle.whole.specs.Order.{le-of-eq}
 use Rattle.lists.specs.Lists.{any, all, All}
-use Rattle.lists.specs.ListsLaw.{clash, and-both, and-left, and-right, or-left, or-right, or-no, all-yes, yes-all, All-at, All-of}
+use Rattle.lists.specs.ListsLaw.{clash, and-both, and-left, and-right, or-left, or-right, all-yes, yes-all, All-at, All-of}
 use Rattle.lists.specs.MembersLaw.{only-keeps}
 use Rattle.meaning.specs.declared.Place.{Place}
 use Rattle.meaning.specs.Mesh.{Mesh, Arrow, sameArrow, holdsArrow, at, turn}
@@ -29,7 +29,7 @@ use Rattle.border.specs.Segment.{rise}
 use Rattle.border.specs.Nearest.{Slanted}
 use Rattle.border.specs.OneNumber.{wholeExcess}
 use Rattle.border.specs.Meet.{Opposite, down, upwards, Cross, turn-back, same-place, facing-key, norm-above, cancel, rise-is}
-use Rattle.border.specs.Quiet.{NoTouch, Quiet}
+use Rattle.border.specs.Quiet.{NoTouch}
 use Rattle.border.specs.Keys.{Separates, all-slanted}
 use Rattle.border.specs.Decided.{NothingFound, decided}
 

@@ -1,29 +1,28 @@
 -- A border of which no start touches another arrow and no two arrows cross: no arrow meets another. Assumes nothing.
 use mathlib.Core.Bool.{Bool, true, false, not}
 use mathlib.Core.List.{List, [], _∷_, List·Memᴰ, List·Memᴰ·head, List·Memᴰ·tail}
-use mathlib.Core.Logic.{_≢_}
-use mathlib.Core.Path.{_≡_, refl, sym, ap, ap₂, subst, _∙_}
-use Prim.Native.Nat.{ℕ, zero, suc, _+_, _≤_, _<_}
+use mathlib.Core.Path.{_≡_, refl, sym, ap, subst, _∙_}
+use Prim.Native.Nat.{ℕ, _≤_}
 use native.Mathlib.Omega.{arith}
 use lib.Dec.{eqb}
-use lib.IntN.{ℤ, pos, negℤ, _+ℤ_, _-ℤ_, _*ℤ_}
+use lib.IntN.{ℤ, pos, _-ℤ_}
 use lib.Signed.{_<ℤ_}
 use borrow.Author.Tests.{eqb-true, eq-eqb}
-use Rattle.whole.specs.Diff.{onℤ, sumℤ, subℤ}
+use Rattle.whole.specs.Diff.{onℤ, subℤ}
 use Rattle.whole.specs.Ring.{K, _:+_, _:-_, _:*_, ring4}
-use Rattle.lists.specs.Lists.{any, only, count, sucIf, cases, All}
-use Rattle.lists.specs.ListsLaw.{clash, any-at, All-at, All-of}
+use Rattle.lists.specs.Lists.{any, count, sucIf, cases, All}
+use Rattle.lists.specs.ListsLaw.{clash, any-at, All-at}
 use Rattle.lists.specs.MembersLaw.{only-out, only-passes}
 use Rattle.lists.specs.AnyLaw.{any-joined}
 use Rattle.meaning.specs.declared.Place.{Place}
 use Rattle.meaning.specs.declared.Tri.{Tri}
-use Rattle.meaning.specs.Mesh.{Mesh, Arrow, arrow, arrows, sameArrow, holdsArrow, at}
+use Rattle.meaning.specs.Mesh.{Mesh, Arrow, arrows, sameArrow, holdsArrow, at}
 use Rattle.meaning.specs.Proper.{StrictlyInside, facing}
 use Rattle.laws.specs.Edges.{sameArrow-eq, eq-arrow}
 use Rattle.border.specs.Under.{Form, key}
 use Rattle.border.specs.Cancel.{Once, reverse, arrowsOf, border, leave-arrive}
 use Rattle.border.specs.Segment.{rise}
-use Rattle.border.specs.Beside.{Clear, others, ClearArrow}
+use Rattle.border.specs.Beside.{ClearArrow}
 use Rattle.border.specs.Nearest.{upward, lowEnd, highEnd, Slanted, low-high}
 use Rattle.border.specs.Meet.{Cross, Missed, missed-back, missed-first, apart-missed}
 

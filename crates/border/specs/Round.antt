@@ -1,35 +1,34 @@
 -- A node that is in no border arrow is covered all round by its own rows. Assumes nothing.
-use mathlib.Core.Bool.{Bool, true, false, not, _&&_, _||_}
-use mathlib.Core.List.{List, [], _∷_, _++_, List·Memᴰ, List·Memᴰ·head, List·Memᴰ·tail}
+use mathlib.Core.Bool.{Bool, true, false, not, _||_}
+use mathlib.Core.List.{List, [], _∷_, _++_, List·Memᴰ}
 use mathlib.Core.Logic.{_≢_}
-use mathlib.Core.Path.{_≡_, refl, sym, ap, ap₂, subst, _∙_}
-use Prim.Native.Nat.{ℕ, zero, suc, _+_, _≤_, _<_}
+use mathlib.Core.Path.{_≡_, refl, sym, ap, subst, _∙_}
+use Prim.Native.Nat.{ℕ, _+_, _≤_}
 use native.Mathlib.Omega.{arith}
 use lib.Dec.{eqb}
-use lib.IntN.{ℤ, pos, negsuc, negℤ, _+ℤ_, _-ℤ_, _*ℤ_}
-use lib.Signed.{ltZ, _≤ℤ_, _<ℤ_}
-use borrow.Author.Tests.{eqb-true, eqb-false, eq-eqb, ne-eqb}
-use Rattle.whole.specs.Diff.{onℤ, sumℤ, subℤ, negℤ-ud}
-use Rattle.lists.specs.Lists.{any, only, consIf, count, sucIf, joined, cases, All, nil, cons}
-use Rattle.lists.specs.ListsLaw.{clash, or-left, or-right, or-no, any-at, any-row, any-none, count-append, All-imp, All-at, All-of, All-both, All-joined}
+use lib.IntN.{ℤ, pos, negℤ, _-ℤ_}
+use lib.Signed.{_<ℤ_}
+use borrow.Author.Tests.{eqb-true, eq-eqb, ne-eqb}
+use Rattle.whole.specs.Diff.{onℤ, subℤ, negℤ-ud}
+use Rattle.lists.specs.Lists.{any, only, consIf, count, cases, All, nil, cons}
+use Rattle.lists.specs.ListsLaw.{clash, any-at, any-row, count-append, All-imp, All-at, All-of, All-both, All-joined}
 use Rattle.lists.specs.MembersLaw.{joined-in, only-in, only-keeps, only-out, only-passes}
-use Rattle.meaning.specs.declared.Place.{Place}
 use Rattle.meaning.specs.declared.Tri.{Tri}
 use Rattle.meaning.specs.Mesh.{Mesh, Arrow, mesh, arrow, arrows, sameArrow, holdsArrow, holdsNode, at, turn}
-use Rattle.meaning.specs.Proper.{Point, Shape, Inside, area, shape, left}
+use Rattle.meaning.specs.Proper.{Point, area, shape, left}
 use Rattle.laws.specs.Area.{turn-cycle}
 use Rattle.laws.specs.Edges.{sameArrow-eq, holds-p, holds-q, holds-r}
 use Rattle.border.specs.Sums.{added, added-eq}
 use Rattle.border.specs.Under.{Form, key, ahead, left-swapped}
 use Rattle.border.specs.Cancel.{Once, reverse, arrowsOf, border, leave-arrive}
 use Rattle.border.specs.Count.{underArrow, depth, OffRows, depth-border}
-use Rattle.border.specs.Segment.{Within, corner, rise, left-corner, ahead-corner}
+use Rattle.border.specs.Segment.{corner, left-corner, ahead-corner}
 use Rattle.border.specs.Beside.{Free}
 use Rattle.border.specs.Nearest.{upward, lowEnd, highEnd, Slanted}
 use Rattle.border.specs.Near.{Eventually, both-from, imply-from, all-from, near, line-not, left-near, tilt}
 use Rattle.border.specs.Sides.{under-stays, free-near}
 use Rattle.border.specs.Quiet.{count-some, some-count}
-use Rattle.border.specs.Keys.{Separates, side-slanted, all-slanted}
+use Rattle.border.specs.Keys.{Separates, side-slanted}
 
 -- the rows that hold node z
 abbrev pub star : ℕ → List Tri → List Tri

@@ -1,12 +1,12 @@
 -- Points of a segment: between two of them nothing changes sides that does not meet the segment. Assumes nothing.
 use mathlib.Core.Bool.{Bool, true, false}
 use mathlib.Core.Logic.{_≢_}
-use mathlib.Core.Path.{_≡_, refl, sym, ap, ap₂, subst, _∙_}
+use mathlib.Core.Path.{_≡_, refl, sym, ap₂, subst, _∙_}
 use native.Mathlib.Omega.{arith}
 use lib.IntN.{ℤ, pos, negℤ, _+ℤ_, _-ℤ_, _*ℤ_}
 use lib.Signed.{ltZ, _≤ℤ_, _<ℤ_}
-use Rattle.whole.specs.Diff.{onℤ, sumℤ, subℤ, negℤ-ud}
-use Rattle.whole.specs.Ring.{Expr, K, _:+_, _:-_, _:*_, neg, ring2, ring3, ring4, ring6, ring8, ring9, ring10, combine₁}
+use Rattle.whole.specs.Diff.{onℤ, sumℤ, negℤ-ud}
+use Rattle.whole.specs.Ring.{Expr, K, _:+_, _:-_, _:*_, neg, ring2, ring4, ring6, ring8, ring9, ring10, combine₁}
 use Rattle.whole.specs.Tests.{ltZ-true}
 use Rattle.whole.specs.Order.{scale-le}
 use Rattle.meaning.specs.declared.Place.{Place}

@@ -1,31 +1,31 @@
 -- Just right and just left of a border arrow: how many rows are there, by the other border arrows at a point of it. Assumes nothing.
 use mathlib.Core.Bool.{Bool, true, false, not, _&&_}
-use mathlib.Core.List.{List, [], _∷_, List·Memᴰ}
+use mathlib.Core.List.{List, List·Memᴰ}
 use mathlib.Core.Logic.{_≢_}
 use mathlib.Core.Path.{_≡_, refl, sym, ap, ap₂, subst, _∙_}
-use Prim.Native.Nat.{ℕ, zero, suc, _+_, _≤_, _<_}
+use Prim.Native.Nat.{ℕ}
 use native.Mathlib.Omega.{arith}
-use lib.IntN.{ℤ, pos, negsuc, negℤ, _+ℤ_, _-ℤ_, _*ℤ_}
+use lib.IntN.{ℤ, pos, negℤ, _+ℤ_}
 use lib.Signed.{ltZ, _≤ℤ_, _<ℤ_}
-use Rattle.whole.specs.Diff.{onℤ, sumℤ, subℤ, negℤ-ud}
-use Rattle.whole.specs.Ring.{Expr, K, _:+_, _:-_, _:*_, neg, ring3, ring6}
+use Rattle.whole.specs.Diff.{onℤ, negℤ-ud}
+use Rattle.whole.specs.Ring.{K, _:+_, _:-_, _:*_, neg, ring3, ring6}
 use Rattle.whole.specs.Tests.{ltZ-true, ltZ-false, lt-ltZ, le-ltZ}
 use Rattle.lists.specs.Lists.{any, cases, All, nil, cons}
-use Rattle.lists.specs.ListsLaw.{clash, All-imp, All-both, All-at, All-joined}
+use Rattle.lists.specs.ListsLaw.{All-imp, All-both, All-at, All-joined}
 use Rattle.lists.specs.MembersLaw.{only-keeps, only-out}
 use Rattle.meaning.specs.declared.Place.{Place}
 use Rattle.meaning.specs.declared.Tri.{Tri}
 use Rattle.meaning.specs.Mesh.{Mesh, Arrow, arrows, sameArrow, holdsArrow, at}
 use Rattle.meaning.specs.Proper.{Point, area, shape, left}
 use Rattle.border.specs.Sums.{one, added, added-eq}
-use Rattle.border.specs.Under.{Form, key, keyAt, ahead, below-zero, left-swapped}
+use Rattle.border.specs.Under.{Form, ahead, below-zero}
 use Rattle.border.specs.Cancel.{Once, reverse, arrowsOf, border}
 use Rattle.border.specs.Count.{underArrow, depth, OffRows, depth-border}
-use Rattle.border.specs.Segment.{Strictly, Within, Apart, rise, above}
+use Rattle.border.specs.Segment.{Strictly, Within, above}
 use Rattle.border.specs.Along.{behind}
-use Rattle.border.specs.Beside.{Clear, others, Free, ClearArrow, border-split}
-use Rattle.border.specs.Nearest.{upward, lowEnd, highEnd, signed, beneath, Slanted, middle, middle-on, Lone, othersAt, low-high, clear-ends, free-ends, under-beneath, free-border}
-use Rattle.border.specs.Near.{tilt-back, Eventually, from-now, both-from, imply-from, all-from, line, line-above, line-not, near, tilt, growth, left-near, ahead-near, weight-stays, Direction, direction-back, directions, point-near}
+use Rattle.border.specs.Beside.{others, Free, border-split}
+use Rattle.border.specs.Nearest.{upward, lowEnd, highEnd, signed, beneath, Slanted, middle, middle-on, Lone, othersAt, clear-ends, free-ends, under-beneath}
+use Rattle.border.specs.Near.{tilt-back, Eventually, both-from, imply-from, all-from, line, line-above, line-not, near, tilt, growth, left-near, ahead-near, weight-stays, Direction, direction-back, directions, point-near}
 
 -- ---- signs that stay
 

@@ -1,25 +1,24 @@
 -- A place strictly inside a side of a triangle is strictly left of the other two; a row's side with the corner opposite. Assumes nothing.
 use mathlib.Core.Bool.{Bool, true, false, _||_}
-use mathlib.Core.List.{List, [], _∷_, List·Memᴰ}
 use mathlib.Core.Logic.{_≢_}
-use mathlib.Core.Path.{_≡_, refl, sym, ap, subst, _∙_}
-use Prim.Native.Nat.{ℕ, zero, suc}
+use mathlib.Core.Path.{_≡_, refl, sym, subst, _∙_}
+use Prim.Native.Nat.{ℕ}
 use native.Mathlib.Omega.{arith}
 use lib.Dec.{eqb}
-use lib.IntN.{ℤ, pos, negsuc, negℤ, _+ℤ_, _-ℤ_, _*ℤ_}
+use lib.IntN.{ℤ, pos, negℤ, _+ℤ_, _-ℤ_, _*ℤ_}
 use lib.Signed.{_≤ℤ_, _<ℤ_}
 use borrow.Author.Tests.{eqb-true}
-use Rattle.whole.specs.Diff.{onℤ, sumℤ, subℤ, negℤ-ud}
-use Rattle.whole.specs.Ring.{Expr, K, _:+_, _:-_, _:*_, neg, ring2, ring6, ring10, combine₁}
+use Rattle.whole.specs.Diff.{onℤ, sumℤ, subℤ}
+use Rattle.whole.specs.Ring.{K, _:+_, _:-_, _:*_, neg, ring2, ring6, ring10, combine₁}
 use Rattle.lists.specs.Lists.{All, nil, cons}
 use Rattle.lists.specs.ListsLaw.{clash}
 use Rattle.meaning.specs.declared.Place.{Place}
 use Rattle.meaning.specs.declared.Tri.{Tri}
 use Rattle.meaning.specs.Mesh.{Mesh, Arrow, arrows, holdsNode, at, turn}
-use Rattle.meaning.specs.Proper.{Point, Shape, Inside, StrictlyInside, facing, area, shape, left}
+use Rattle.meaning.specs.Proper.{Point, Inside, StrictlyInside, facing, area, shape, left}
 use Rattle.laws.specs.Area.{Turn, turn-cycle}
 use Rattle.border.specs.Under.{Form, Off, key, times-above}
-use Rattle.border.specs.Segment.{corner, rise, left-corner}
+use Rattle.border.specs.Segment.{corner, rise}
 use Rattle.border.specs.Along.{unscale-above}
 use Rattle.border.specs.Meet.{square-from}
 use Rattle.border.specs.Covered.{Reaches}

@@ -2,10 +2,10 @@
 use mathlib.Core.Bool.{Bool, true, false, not, _||_}
 use mathlib.Core.List.{List, [], _∷_, _++_}
 use mathlib.Core.Path.{_≡_, refl, sym, ap, _∙_}
-use Prim.Native.Nat.{ℕ, suc, _+_, _≤_}
+use Prim.Native.Nat.{_≤_}
 use native.Mathlib.Omega.{arith}
-use lib.IntN.{ℤ, pos, negℤ, _+ℤ_, _-ℤ_}
-use Rattle.whole.specs.Diff.{onℤ, sumℤ, subℤ, negℤ-ud}
+use lib.IntN.{ℤ, pos, negℤ, _+ℤ_}
+use Rattle.whole.specs.Diff.{onℤ, sumℤ, negℤ-ud}
 use Rattle.lists.specs.Lists.{any, only, consIf, count, sucIf, joined, All, nil, cons}
 
 -- the number, where the test passes

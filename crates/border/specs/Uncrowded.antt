@@ -1,36 +1,36 @@
 -- Not 11, from the border alone: in a quiet mesh whose rows share no point no two nodes stand at one place, and none lies strictly inside an edge. Assumes nothing.
 use mathlib.Core.Bool.{Bool, true, false, not}
-use mathlib.Core.List.{List, [], _∷_, List·Memᴰ}
-use mathlib.Core.Logic.{_≢_, _⊎_, inl, inr}
-use mathlib.Core.Path.{_≡_, refl, sym, ap, ap₂, subst, _∙_}
-use Prim.Native.Nat.{ℕ, zero, suc, _+_, _≤_, _<_}
+use mathlib.Core.List.{List·Memᴰ}
+use mathlib.Core.Logic.{_≢_}
+use mathlib.Core.Path.{_≡_, refl, sym, ap, subst, _∙_}
+use Prim.Native.Nat.{ℕ, _<_}
 use native.Mathlib.Omega.{arith}
 use lib.Dec.{eqb}
-use lib.IntN.{ℤ, pos, negsuc, negℤ, _+ℤ_, _-ℤ_, _*ℤ_}
+use lib.IntN.{ℤ, pos, negℤ, _-ℤ_}
 use lib.Signed.{ltZ, _≤ℤ_, _<ℤ_}
 use lib.ListN.{length}
 use borrow.Author.Tests.{eqb-true, eqb-false}
-use Rattle.whole.specs.Diff.{onℤ, sumℤ, subℤ, negℤ-ud}
+use Rattle.whole.specs.Diff.{onℤ, subℤ, negℤ-ud}
 use Rattle.whole.specs.Ring.{K, _:+_, _:-_, _:*_, ring4}
 use Rattle.whole.specs.Tests.{ltZ-true}
-use Rattle.lists.specs.Lists.{any, only, count, All}
-use Rattle.lists.specs.ListsLaw.{clash, any-row, any-none, All-at, All-of}
+use Rattle.lists.specs.Lists.{any, All}
+use Rattle.lists.specs.ListsLaw.{any-row, any-none, All-at, All-of}
 use Rattle.lists.specs.MembersLaw.{joined-in, only-in}
 use Rattle.meaning.specs.declared.Place.{Place}
 use Rattle.meaning.specs.declared.Tri.{Tri}
 use Rattle.meaning.specs.Mesh.{Mesh, Arrow, arrows, sameArrow, holdsArrow, holdsNode, at, turn}
 use Rattle.meaning.specs.Lawful.{Lawful}
-use Rattle.meaning.specs.Proper.{Point, Shape, Inside, StrictlyInside, facing, area, shape, left}
+use Rattle.meaning.specs.Proper.{Point, Inside, StrictlyInside, facing, area, shape, left}
 use Rattle.laws.specs.Area.{turn-cycle}
 use Rattle.laws.specs.Edges.{sameArrow-eq}
 use Rattle.border.specs.Under.{Form, Off, key, inside, yes-inside, left-swapped, below-zero}
-use Rattle.border.specs.Cancel.{Once, reverse, arrowsOf, border}
-use Rattle.border.specs.Count.{depth, OffRows, rows-positive}
-use Rattle.border.specs.Segment.{corner, rise, left-corner, left-start, left-end}
-use Rattle.border.specs.Near.{Eventually, both-from, imply-from, near, left-stays, weight-stays, inside-near, generic-near}
+use Rattle.border.specs.Cancel.{reverse, border}
+use Rattle.border.specs.Count.{OffRows, rows-positive}
+use Rattle.border.specs.Segment.{corner, left-corner, left-start, left-end}
+use Rattle.border.specs.Near.{both-from, near, left-stays, weight-stays, inside-near, generic-near}
 use Rattle.border.specs.OneNumber.{NoneShared, depth-one}
 use Rattle.border.specs.Meet.{inside-back}
-use Rattle.border.specs.Quiet.{NoTouch, Quiet, count-some, some-count, any-start}
+use Rattle.border.specs.Quiet.{Quiet, count-some, some-count, any-start}
 use Rattle.border.specs.Keys.{Separates, side-slanted, border-slanted}
 use Rattle.border.specs.Covered.{Reaches, towardX, towardY, inward, count-split, not-reached}
 use Rattle.border.specs.Strict.{other-sides, OneOf, the-first, the-second, the-third, corner-of, SideOf, sides-of}

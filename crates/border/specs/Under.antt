@@ -5,16 +5,16 @@ use mathlib.Core.Path.{_≡_, refl, sym, ap, ap₂, subst, _∙_}
 use Prim.Native.Nat.{ℕ, zero, suc}
 use native.Mathlib.Omega.{arith}
 use lib.IntN.{ℤ, pos, negsuc, negℤ, _+ℤ_, _-ℤ_, _*ℤ_}
-use lib.Signed.{ltZ, leZ, _≤ℤ_, _<ℤ_}
+use lib.Signed.{ltZ, leZ, _<ℤ_}
 use Rattle.whole.specs.Diff.{onℤ, sumℤ, subℤ, mulℤ, negℤ-ud}
-use Rattle.whole.specs.Ring.{Expr, K, _:+_, _:-_, _:*_, neg, ring2, ring3, ring6, ring8, ring9}
+use Rattle.whole.specs.Ring.{Expr, K, _:+_, _:-_, _:*_, neg, ring2, ring8, ring9}
 use Rattle.whole.specs.Tests.{ltZ-true, ltZ-false, leZ-true, lt-ltZ, le-ltZ, tests}
-use Rattle.whole.specs.Order.{le-antisymm, scale-lt}
+use Rattle.whole.specs.Order.{le-antisymm}
 use Rattle.lists.specs.ListsLaw.{clash, and-both, and-left, and-right, both-ways}
 use Rattle.meaning.specs.declared.Place.{Place}
 use Rattle.meaning.specs.Good.{sameZ}
 use Rattle.meaning.specs.Proper.{Shape, Point, Inside, area, left}
-use Rattle.border.specs.Sums.{when, one}
+use Rattle.border.specs.Sums.{one}
 
 -- ---- definitions
 

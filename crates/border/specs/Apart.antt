@@ -190,8 +190,12 @@ no-crossing f A B C D h c = go (c .ends-of-first) (c .ends-of-second)
 pub apart-fine : (f : Form) (m : Mesh) (e d : Arrow) → Slanted f m e → Slanted f m d → Before f (at m (e .from)) (at m (e .to)) (at m (d .from)) (at m (d .to)) →
     (pairFine m e d ≡ true) × (pairFine m d e ≡ true) × (underArrow f m (middle m e) d +ℤ underArrow f m (middle m d) e ≡ pos 0)
 apart-fine f m e d n k h = (
-  or-right (sameArrow e d) (and-both (ap not (touches-no f m e n (d .from) second)) (ap not (no-true (crosses (at m (e .from)) (at m (e .to)) (at m (d .from)) (at m (d .to))) (λ c. no-crossing f (at m (e .from)) (at m (e .to)) (at m (d .from)) (at m (d .to)) h (crosses-yes (at m (e .from)) (at m (e .to)) (at m (d .from)) (at m (d .to)) c))))),
-  or-right (sameArrow d e) (and-both (ap not (touches-no f m d k (e .from) first)) (ap not (no-true (crosses (at m (d .from)) (at m (d .to)) (at m (e .from)) (at m (e .to))) (λ c. no-crossing f (at m (e .from)) (at m (e .to)) (at m (d .from)) (at m (d .to)) h (over (crosses-yes (at m (d .from)) (at m (d .to)) (at m (e .from)) (at m (e .to)) c)))))),
+  or-right (sameArrow e d) (and-both (ap not (touches-no f m e n (d .from) second))
+      (ap not (no-true (crosses (at m (e .from)) (at m (e .to)) (at m (d .from)) (at m (d .to)))
+      (λ c. no-crossing f (at m (e .from)) (at m (e .to)) (at m (d .from)) (at m (d .to)) h (crosses-yes (at m (e .from)) (at m (e .to)) (at m (d .from)) (at m (d .to)) c))))),
+  or-right (sameArrow d e) (and-both (ap not (touches-no f m d k (e .from) first))
+      (ap not (no-true (crosses (at m (d .from)) (at m (d .to)) (at m (e .from)) (at m (e .to)))
+      (λ c. no-crossing f (at m (e .from)) (at m (e .to)) (at m (d .from)) (at m (d .to)) h (over (crosses-yes (at m (d .from)) (at m (d .to)) (at m (e .from)) (at m (e .to)) c)))))),
   ap₂ _+ℤ_ (second-none f (at m (e .from)) (at m (e .to)) (at m (d .from)) (at m (d .to)) h) (first-none f (at m (e .from)) (at m (e .to)) (at m (d .from)) (at m (d .to)) h),
 )
   where

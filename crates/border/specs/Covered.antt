@@ -61,9 +61,15 @@ module _ (t : Shape) (A : Place) (positive : pos 0 <ℤ area t) (reaches : Reach
   pub inward : Eventually (λ n. Inside t (near (corner A) (towardX t A) (towardY t A) n))
   inward =
       imply-from (λ n (a, (b, c)). record { pq = a; qr = b; rp = c })
-      (both-from (side (t .p) (t .q) (ring8 (λ a b c d e g x y. ((c :- a) :* ((b :+ d :+ g) :- K (pos 3) :* y) :- ((a :+ c :+ e) :- K (pos 3) :* x) :* (d :- b), Turn a b c d e g :- K (pos 3) :* Left a b c d x y (K (pos 1)))) (t .p .x) (t .p .y) (t .q .x) (t .q .y) (t .r .x) (t .r .y) (A .x) (A .y) tt) (reaches .pq))
-      (both-from (side (t .q) (t .r) (ring8 (λ a b c d e g x y. ((e :- c) :* ((b :+ d :+ g) :- K (pos 3) :* y) :- ((a :+ c :+ e) :- K (pos 3) :* x) :* (g :- d), Turn a b c d e g :- K (pos 3) :* Left c d e g x y (K (pos 1)))) (t .p .x) (t .p .y) (t .q .x) (t .q .y) (t .r .x) (t .r .y) (A .x) (A .y) tt) (reaches .qr))
-      (side (t .r) (t .p) (ring8 (λ a b c d e g x y. ((a :- e) :* ((b :+ d :+ g) :- K (pos 3) :* y) :- ((a :+ c :+ e) :- K (pos 3) :* x) :* (b :- g), Turn a b c d e g :- K (pos 3) :* Left e g a b x y (K (pos 1)))) (t .p .x) (t .p .y) (t .q .x) (t .q .y) (t .r .x) (t .r .y) (A .x) (A .y) tt) (reaches .rp))))
+      (both-from (side (t .p) (t .q)
+      (ring8 (λ a b c d e g x y. ((c :- a) :* ((b :+ d :+ g) :- K (pos 3) :* y) :- ((a :+ c :+ e) :- K (pos 3) :* x) :* (d :- b), Turn a b c d e g :- K (pos 3) :* Left a b c d x y (K (pos 1))))
+      (t .p .x) (t .p .y) (t .q .x) (t .q .y) (t .r .x) (t .r .y) (A .x) (A .y) tt) (reaches .pq))
+      (both-from (side (t .q) (t .r)
+      (ring8 (λ a b c d e g x y. ((e :- c) :* ((b :+ d :+ g) :- K (pos 3) :* y) :- ((a :+ c :+ e) :- K (pos 3) :* x) :* (g :- d), Turn a b c d e g :- K (pos 3) :* Left c d e g x y (K (pos 1))))
+      (t .p .x) (t .p .y) (t .q .x) (t .q .y) (t .r .x) (t .r .y) (A .x) (A .y) tt) (reaches .qr))
+      (side (t .r) (t .p)
+      (ring8 (λ a b c d e g x y. ((a :- e) :* ((b :+ d :+ g) :- K (pos 3) :* y) :- ((a :+ c :+ e) :- K (pos 3) :* x) :* (b :- g), Turn a b c d e g :- K (pos 3) :* Left e g a b x y (K (pos 1))))
+      (t .p .x) (t .p .y) (t .q .x) (t .q .y) (t .r .x) (t .r .y) (A .x) (A .y) tt) (reaches .rp))))
 
 -- those that pass a test and those that do not
 pub count-split : {X : Type 0} (q h : X → Bool) (l : List X) → count q l ≡ count q (only h l) + count q (only (λ x. not (h x)) l)

@@ -1,7 +1,7 @@
 -- A sum over pairs, taken column by column: of two members in one column the earlier with the later; of two in different columns the one in the lower
 -- with the one in the higher, and only as far as the former reaches, if farther pairs add 0. For any columns. Assumes nothing.
 use mathlib.Core.Bool.{Bool, true, false, _&&_}
-use mathlib.Core.List.{List, [], _∷_}
+use mathlib.Core.List.{List, [], _∷_, List·Memᴰ}
 use mathlib.Core.Path.{_≡_, refl, sym, ap, ap₂, _∙_}
 use Prim.Native.Nat.{ℕ, _≤_, _<_}
 use native.Mathlib.Omega.{arith}
@@ -9,7 +9,8 @@ use lib.Dec.{eqb, ltb, leb}
 use lib.IntN.{ℤ, pos, _+ℤ_}
 use borrow.Author.Tests.{eqb-true, eqb-false, ltb-true, ltb-false, leb-false}
 use Rattle.whole.specs.Diff.{onℤ, sumℤ}
-use Rattle.border.specs.Sums.{when, added, added-sum, exchange}
+use Rattle.lists.specs.ListsLaw.{All-of}
+use Rattle.border.specs.Sums.{when, added, added-eq, added-sum, exchange}
 use Rattle.border.specs.PairSum.{pairSum}
 
 module _ {A : Type 0} where
@@ -19,7 +20,7 @@ module _ {A : Type 0} where
       ap₂ _+ℤ_ (added-sum (φ x) (ψ x) xs) (pair-sum-add φ ψ xs) ∙ exchange (added (φ x) xs) (added (ψ x) xs) (pairSum φ xs) (pairSum ψ xs)
 
   -- all ordered pairs: each member with itself, and each two both ways
-  square-sum : (φ : A → A → ℤ) (l : List A) → added (λ e. added (φ e) l) l ≡ added (λ e. φ e e) l +ℤ pairSum (λ e d. φ e d +ℤ φ d e) l
+  pub square-sum : (φ : A → A → ℤ) (l : List A) → added (λ e. added (φ e) l) l ≡ added (λ e. φ e e) l +ℤ pairSum (λ e d. φ e d +ℤ φ d e) l
   square-sum φ [] = refl
   square-sum φ (x ∷ xs) =
       ap (λ k. (φ x x +ℤ added (φ x) xs) +ℤ k) (added-sum (λ e. φ e x) (λ e. added (φ e) xs) xs ∙ ap (λ k. added (λ e. φ e x) xs +ℤ k) (square-sum φ xs)) ∙
@@ -90,15 +91,17 @@ module _ {A : Type 0} where
         none-first k = omega (arith, onℤ, sumℤ (pos 0) k)
 
     -- and from there no farther than it reaches
-    pub as-far-as : ((e d : A) → reach e < home d → ψ e d ≡ pos 0) → (l : List A) →
+    pub as-far-as : (l : List A) → ((e d : A) → List·Memᴰ e l → List·Memᴰ d l → reach e < home d → ψ e d ≡ pos 0) →
         pairSum ψ l ≡ pairSum (λ e d. when (eqb (home e) (home d)) (ψ e d)) l +ℤ added (λ e. added (λ d. when (ltb (home e) (home d) && leb (home d) (reach e)) (ψ e d)) l) l
-    as-far-as far l =
-        by-columns l ∙ ap (λ k. pairSum (λ e d. when (eqb (home e) (home d)) (ψ e d)) l +ℤ k) (λ i. added (λ e. added (λ d. near e d i) l) l)
+    as-far-as l far =
+        by-columns l ∙ ap (λ k. pairSum (λ e d. when (eqb (home e) (home d)) (ψ e d)) l +ℤ k)
+        (added-eq (λ e. added (λ d. when (ltb (home e) (home d)) (ψ e d)) l) (λ e. added (λ d. when (ltb (home e) (home d) && leb (home d) (reach e)) (ψ e d)) l)
+        (All-of l (λ e i. added-eq (λ d. when (ltb (home e) (home d)) (ψ e d)) (λ d. when (ltb (home e) (home d) && leb (home d) (reach e)) (ψ e d)) (All-of l (λ d j. near e d i j)))))
       where
-        near : (e d : A) → when (ltb (home e) (home d)) (ψ e d) ≡ when (ltb (home e) (home d) && leb (home d) (reach e)) (ψ e d)
-        near e d = go (ltb (home e) (home d)) (leb (home d) (reach e)) refl
+        near : (e d : A) → List·Memᴰ e l → List·Memᴰ d l → when (ltb (home e) (home d)) (ψ e d) ≡ when (ltb (home e) (home d) && leb (home d) (reach e)) (ψ e d)
+        near e d i j = go (ltb (home e) (home d)) (leb (home d) (reach e)) refl
           where
             go : (a b : Bool) → leb (home d) (reach e) ≡ b → when a (ψ e d) ≡ when (a && b) (ψ e d)
             go true true w = refl
-            go true false w = far e d (leb-false (home d) (reach e) w)
+            go true false w = far e d i j (leb-false (home d) (reach e) w)
             go false b w = refl

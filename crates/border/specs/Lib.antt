@@ -42,3 +42,4 @@ pub mod Examples
 pub mod PairSum
 pub mod Apart
 pub mod InColumns
+pub mod ByColumns

@@ -32,7 +32,7 @@ abbrev pub wholeExcess : Form → Mesh → ℤ
 wholeExcess f m = added (excess f m (m .tris)) (border (m .tris))
 
 -- numbers that are not below 0 and come to 0 are 0
-none-left : {A : Type 0} (g : A → ℤ) {xs : List A} → All (λ x. (n : ℕ) × (g x ≡ pos n)) xs → (added g xs ≡ pos 0 → All (λ x. g x ≡ pos 0) xs) × ((n : ℕ) × (added g xs ≡ pos n))
+pub none-left : {A : Type 0} (g : A → ℤ) {xs : List A} → All (λ x. (n : ℕ) × (g x ≡ pos n)) xs → (added g xs ≡ pos 0 → All (λ x. g x ≡ pos 0) xs) × ((n : ℕ) × (added g xs ≡ pos n))
 none-left g nil = ((λ e. nil), (0, refl))
 none-left g (cons {x = x} {xs = xs} (n, h) hs) =
     let (below, (k, e)) = none-left g hs in

@@ -212,6 +212,16 @@ module _ (f : Form) (m : Mesh) (e : Arrow) (slanted : Slanted f m e) (k : ℕ) w
 
 -- ---- the whole
 
+pub fine-parts : (f : Form) (m : Mesh) → (borderFine f m ≡ true) ↔ ((all (λ e. all (pairFine m e) (border (m .tris))) (border (m .tris)) ≡ true) × (wholeExcess f m ≡ pos 0))
+unfolding borderFine
+fine-parts f m = (
+  (λ h. (
+    and-left (all (λ e. all (pairFine m e) (border (m .tris))) (border (m .tris))) (sameZ (wholeExcess f m) (pos 0)) h,
+    sameZ-eq (wholeExcess f m) (pos 0) (and-right (all (λ e. all (pairFine m e) (border (m .tris))) (border (m .tris))) (sameZ (wholeExcess f m) (pos 0)) h),
+  )),
+  (λ (a, b). and-both a (eq-sameZ (wholeExcess f m) (pos 0) b)),
+)
+
 module _ (f : Form) (m : Mesh) (sep : Separates f m) (law : Lawful m) where
   slanted : All (Slanted f m) (border (m .tris))
   slanted = only-keeps (λ d. not (any (holdsArrow (reverse d)) (m .tris))) (all-slanted f m sep (rows-positive m law))

@@ -1,31 +1,32 @@
 -- The whole decision as sums over pairs of border arrows taken column by column: 0 found and the one number 0 exactly if the mesh is proper. Assumes nothing.
-use mathlib.Core.Bool.{Bool, true, false, not, _&&_, _||_}
-use mathlib.Core.List.{List, [], _∷_, List·Memᴰ}
-use mathlib.Core.Logic.{_≢_, _↔_}
-use mathlib.Core.Path.{_≡_, refl, sym, ap, ap₂, subst, _∙_}
-use Prim.Native.Nat.{ℕ, zero, suc, _+_, _≤_, _<_}
+use mathlib.Core.Bool.{Bool, true, false, not, _&&_}
+use mathlib.Core.List.{List, List·Memᴰ}
+use mathlib.Core.Logic.{_↔_}
+use mathlib.Core.Path.{_≡_, refl, sym, ap, ap₂, _∙_}
+use Prim.Native.Nat.{ℕ, min, max, _≤_, _<_}
 use native.Mathlib.Omega.{arith}
 use lib.Dec.{eqb, ltb, leb}
 use lib.IntN.{ℤ, pos, negℤ, +ℤ-comm, _+ℤ_}
-use lib.Signed.{_<ℤ_}
+use lib.Signed.{ltZ, _≤ℤ_, _<ℤ_}
 use Rattle.whole.specs.Diff.{onℤ, sumℤ}
-use Rattle.lists.specs.Lists.{any, all, only, count, All}
+use Rattle.whole.specs.Tests.{ltZ-true, ltZ-false}
+use Rattle.lists.specs.Lists.{any, all, count, All}
 use Rattle.lists.specs.ListsLaw.{clash, or-left, count-none, all-yes, yes-all, All-imp, All-at, All-of}
 use Rattle.lists.specs.MembersLaw.{only-keeps}
-use Rattle.meaning.specs.Mesh.{Mesh, Arrow, sameArrow, holdsArrow, at}
+use Rattle.meaning.specs.Mesh.{Mesh, Arrow, holdsArrow, at}
 use Rattle.meaning.specs.Lawful.{Lawful}
 use Rattle.meaning.specs.Proper.{Proper}
-use Rattle.border.specs.Sums.{when, one, added, added-eq, added-zero, added-count}
+use Rattle.border.specs.Sums.{when, one, added, added-zero, added-count}
 use Rattle.border.specs.Under.{Form}
 use Rattle.border.specs.Cancel.{reverse, border}
 use Rattle.border.specs.Count.{underArrow, rows-positive}
 use Rattle.border.specs.Beside.{sameArrow-refl}
 use Rattle.border.specs.Nearest.{upward, middle, Slanted}
 use Rattle.border.specs.OneNumber.{wholeExcess, none-left}
-use Rattle.border.specs.Keys.{Separates, all-slanted}
-use Rattle.border.specs.PairTests.{pairFine, borderFine, fine-proper, fine-parts}
+use Rattle.border.specs.Keys.{Separates, all-slanted, byX, byY, byX-separates, byY-separates}
+use Rattle.border.specs.PairTests.{pairFine, fine-proper, fine-parts}
 use Rattle.border.specs.PairSum.{pairSum, whole-excess-pairs}
-use Rattle.border.specs.Apart.{Before, apart-fine}
+use Rattle.border.specs.Apart.{Before, apart-fine, before-x, before-y}
 use Rattle.border.specs.InColumns.{square-sum, as-far-as}
 
 -- 1 for each way in which something is found of two arrows
@@ -103,3 +104,44 @@ module _ (f : Form) (m : Mesh) (sep : Separates f m) (law : Lawful m) (home reac
     (λ p. let (a, b) = fine-parts f m .0 (fine-proper f m sep law .1 p) in
         record { none-found = sym found-columns ∙ all-none (pairFine m) own (border (m .tris)) a; number-zero = sym number ∙ b }),
   )
+
+-- ---- columns of x, and of y, however wide
+
+module _ (m : Mesh) (law : Lawful m) (column : ℤ → ℕ) (rises : (a b : ℤ) → a ≤ℤ b → column a ≤ column b) where
+  -- the column of the lower end, and of the higher
+  abbrev pub homeX : Arrow → ℕ
+  homeX e = min (column (at m (e .from) .x)) (column (at m (e .to) .x))
+
+  abbrev pub reachX : Arrow → ℕ
+  reachX e = max (column (at m (e .from) .x)) (column (at m (e .to) .x))
+
+  abbrev pub homeY : Arrow → ℕ
+  homeY e = min (column (at m (e .from) .y)) (column (at m (e .to) .y))
+
+  abbrev pub reachY : Arrow → ℕ
+  reachY e = max (column (at m (e .from) .y)) (column (at m (e .to) .y))
+
+  lower : (a b : ℤ) → column a < column b → a <ℤ b
+  lower a b h = go (ltZ a b) refl
+    where
+      go : (t : Bool) → ltZ a b ≡ t → a <ℤ b
+      go true e = ltZ-true a b e
+      go false e = let k = rises b a (ltZ-false a b e) in absurd (omega arith)
+
+  pub beyond-x : (e d : Arrow) → List·Memᴰ e (border (m .tris)) → List·Memᴰ d (border (m .tris)) → reachX e < homeX d → Before byX (at m (e .from)) (at m (e .to)) (at m (d .from)) (at m (d .to))
+  beyond-x e d i j h =
+      before-x m law (e .from) (e .to) (d .from) (d .to)
+      (lower (at m (e .from) .x) (at m (d .from) .x) (omega arith)) (lower (at m (e .from) .x) (at m (d .to) .x) (omega arith))
+      (lower (at m (e .to) .x) (at m (d .from) .x) (omega arith)) (lower (at m (e .to) .x) (at m (d .to) .x) (omega arith))
+
+  pub beyond-y : (e d : Arrow) → List·Memᴰ e (border (m .tris)) → List·Memᴰ d (border (m .tris)) → reachY e < homeY d → Before byY (at m (e .from)) (at m (e .to)) (at m (d .from)) (at m (d .to))
+  beyond-y e d i j h =
+      before-y m law (e .from) (e .to) (d .from) (d .to)
+      (lower (at m (e .from) .y) (at m (d .from) .y) (omega arith)) (lower (at m (e .from) .y) (at m (d .to) .y) (omega arith))
+      (lower (at m (e .to) .y) (at m (d .from) .y) (omega arith)) (lower (at m (e .to) .y) (at m (d .to) .y) (omega arith))
+
+  pub columns-of-x : ColumnsFine byX m (byX-separates m law) law homeX reachX beyond-x ↔ Proper m
+  columns-of-x = columns-decide byX m (byX-separates m law) law homeX reachX beyond-x
+
+  pub columns-of-y : ColumnsFine byY m (byY-separates m law) law homeY reachY beyond-y ↔ Proper m
+  columns-of-y = columns-decide byY m (byY-separates m law) law homeY reachY beyond-y

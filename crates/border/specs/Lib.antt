@@ -10,7 +10,6 @@ pub mod Beside
 pub mod Least
 pub mod Nearest
 pub mod Near
-pub mod Disjoint
 pub mod Sides
 pub mod OneNumber
 pub mod Meet

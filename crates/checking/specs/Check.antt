@@ -2,7 +2,7 @@
 use mathlib.Core.Path.{_≡_, refl, sym, ap, ap₂, _∙_}
 use mathlib.Core.Bool.{Bool, true, false, not, Bool·not-not}
 use mathlib.Core.List.{List, []}
-use Prim.Native.Nat.{ℕ, _+_, _*_, _≤_}
+use Prim.Native.Nat.{ℕ, _+_, _*_, _/_, _≤_, _<_}
 use native.Mathlib.Omega.{arith}
 use borrow.Author.Tests.{ne-eqb}
 use lib.Dec.{eqb}
@@ -10,18 +10,22 @@ use lib.IntN.{ℤ}
 use lib.ListN.{length, replicate, length-replicate}
 use Rattle.lists.specs.declared.Found.{Found}
 use Rattle.lists.specs.Lists.{cases, isFound}
-use Rattle.lists.specs.Search.{lowest}
+use Rattle.lists.specs.Search.{lowest, items}
 use Rattle.meaning.specs.declared.Answer.{Answer}
 use Rattle.meaning.specs.declared.Fault.{Fault}
 use Rattle.meaning.specs.Mesh.{Mesh}
 use Rattle.meaning.specs.Lawful.{Lawful, fault, refusal, compatible, firstClash}
-use Rattle.meaning.specs.Tables.{Given, given, outcome, answer, meshOf}
+use Rattle.meaning.specs.Tables.{Given, given, outcome, answer, placeAt, rowAt, meshOf}
 use Rattle.meaning.specs.Proper.{uncrowded, disjoint}
 use Rattle.meaning.specs.Calls.{culpritOf, unless, baseNo, checkNo, sizesFit, untouched, checkOut}
 use Rattle.laws.specs.Lawful.{lawful-refusal}
-use Rattle.laws.specs.Meshes.{meshAt}
+use Rattle.laws.specs.Meshes.{Standing, meshAt, row-stands}
+use Rattle.neighbours.specs.Ready.{Ready, ready-sized}
+use Rattle.border.specs.Cancel.{border}
+use Rattle.border.specs.Clear.{clear}
 use Rattle.checking.specs.Clash.{clashAt}
 use Rattle.checking.specs.ClashLaw.{clash-is}
+use Rattle.checking.specs.Outlined.{outlined}
 use Rattle.sweep.specs.Severity.{severity}
 use Rattle.judging.specs.Judge.{meshIn, early, Admitted}
 use Rattle.judging.specs.Leaving.{orLate, first-of, verdict, sized-same, zeroed, call-out}
@@ -70,14 +74,29 @@ module _ (r : ℕ) (y : Bool) where
       unfolding numberOf
       number-0 e = rw (ne-eqb r 2 not-2, ne-eqb r 1 not-1, e)
 
--- what comparing the rows asks for, where scratch was s and is cleared
-pub severity-needs : (nodes : List ℤ) (rows s s′ : List ℕ) (n t : ℕ) → Admitted nodes rows s [] 0 n t → s′ ≡ replicate (length s) 0 →
-    Lawful (meshAt nodes rows n t) × ((4 * n ≤ length nodes) × ((3 * t ≤ length rows) × ((t ≤ 262_144) × ((n + 3 * t ≤ length s′) × (s′ ≡ replicate (length s′) 0)))))
-unfolding meshAt
-severity-needs nodes rows s s′ n t A e =
-    let z = A .sizes in
-    let l : length s′ ≡ length s = ap length e ∙ length-replicate (length s) 0 in
-    (A .law, (A .nodes-fit, (A .rows-fit, (omega (arith, A .rows-fit, z .few-rows), (omega (arith, A .nodes-fit, A .rows-fit, z .scratch), e ∙ ap (λ k. replicate k 0) (sym l))))))
+-- ---- how grave it is of the rows
+
+module _ (nodes : List ℤ) (rows s : List ℕ) (n t : ℕ) (A : Admitted nodes rows s [] 0 n t) where
+  law-at : Lawful (meshAt nodes rows n t)
+  unfolding meshAt
+  law-at = A .law
+
+  -- what asking for the border needs
+  pub border-needs : Ready s (length nodes / 4) rows t × ((i : ℕ) → i < t → Standing nodes (rowAt rows i))
+  border-needs = (A .ready, row-stands nodes rows n t law-at (A .nodes-fit))
+
+  -- the border is clear
+  pub border-says : (y : Bool) → (y ≡ true → clear (placeAt nodes) (border (items (rowAt rows) 0 t)) ≡ true) → y ≡ true → 0 ≡ severity (meshIn nodes rows n t)
+  unfolding meshAt
+  border-says = outlined nodes rows n t law-at
+
+  -- what comparing the rows needs, where the index stood in scratch and that is cleared
+  pub severity-needs : (s′ s″ : List ℕ) → Ready s′ (length nodes / 4) rows t → s″ ≡ replicate (length s′) 0 →
+      Lawful (meshAt nodes rows n t) × ((4 * n ≤ length nodes) × ((3 * t ≤ length rows) × ((t ≤ 262_144) × ((n + 3 * t ≤ length s″) × (s″ ≡ replicate (length s″) 0)))))
+  severity-needs s′ s″ r e =
+      let z = ready-sized s′ rows (length nodes / 4) t r in
+      let l : length s″ ≡ length s′ = ap length e ∙ length-replicate (length s′) 0 in
+      (law-at, (A .nodes-fit, (A .rows-fit, (omega (arith, A .rows-fit, z .few-rows), (omega (arith, A .nodes-fit, A .rows-fit, z .scratch), e ∙ ap (λ k. replicate k 0) (sym l))))))
 
 pub severity-same : (nodes : List ℤ) (rows : List ℕ) (n t r : ℕ) → r ≡ severity (meshAt nodes rows n t) → r ≡ severity (meshIn nodes rows n t)
 unfolding meshAt

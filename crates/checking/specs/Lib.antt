@@ -1,3 +1,4 @@
 pub mod Clash
 pub mod ClashLaw
+pub mod Outlined
 pub mod Check

@@ -71,16 +71,20 @@ fn number_of(severity: u32, clashing: bool) -> u32
     0
 }
 
-// How grave it is of the rows of a lawful mesh, two by two. Its index stands in scratch before, and not after.
+// How grave it is of the rows of a lawful mesh, two by two: not at all where the border is clear, so that they are compared only where it is not.
+// The index of the mesh stands in scratch before, and need not after.
 fn severity_of(nodes: &[i32], rows: &[u32], scratch: &mut [u32], n: usize, t: usize) -> u32
     requires { ⌜ Admitted (now nodes) (now rows) (now scratch) [] 0 n t ⌝ }
     ensures { λ r. ⌜ r ≡ severity (meshIn (now (nodes .entry)) (now (rows .entry)) n t) ⌝ }
 {
+    if outline::is_clear(nodes, rows, scratch, t) {
+        return 0;
+    }
     tables::clear(scratch);
     sweep::severity(nodes, rows, scratch, n, t)
 }
 
-// 11, 12 or 10, or 0, of a lawful mesh. Its index stands in scratch before, and not after.
+// 11, 12 or 10, or 0, of a lawful mesh. Its index stands in scratch before, and need not after.
 fn late(nodes: &[i32], rows: &[u32], scratch: &mut [u32], n: usize, t: usize) -> u32
     requires { ⌜ Admitted (now nodes) (now rows) (now scratch) [] 0 n t ⌝ }
     ensures { λ r. ⌜ r ≡ baseNo (meshIn (now (nodes .entry)) (now (rows .entry)) n t) ⌝ }

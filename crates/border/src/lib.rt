@@ -1,0 +1,1 @@
+// What the border of a mesh alone says about points inside rows: see specs/.

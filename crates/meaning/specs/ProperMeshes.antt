@@ -1,4 +1,4 @@
--- W7 by hand: the supplier's mesh, nodes at one place, triangles that overlap, and every order of the numbers. Rows of two lists, each under one
+-- W7 by hand: the supplier's mesh, nodes at one place, triangles that overlap, and every order of the numbers. Rows of six lists, each under one
 -- claim; what is expected was worked out from the words of 02. Assumes nothing.
 use mathlib.Core.Path.{_≡_, refl}
 use mathlib.Core.List.{List, [], _∷_, _++_, map}
@@ -83,39 +83,76 @@ pub record Case : Type 0 where
 abbrev case : Mesh → Found → Found → ℕ → Case
 case m f g k = record { given = m; node = f; row = g; number = k }
 
-abbrev computed : Case → Case
-computed c = case (c .given) (firstCrowded (c .given)) (firstOverlap (c .given)) (checkNo (c .given))
+-- what the definitions give, and what must come out
+abbrev computed : Case → Found × Found × ℕ
+computed c = (firstCrowded (c .given), firstOverlap (c .given), checkNo (c .given))
 
-abbrev pub properCases : List Case
-properCases =
+abbrev expected : Case → Found × Found × ℕ
+expected c = (c .node, c .row, c .number)
+
+abbrev soundCases : List Case
+soundCases =
     case (mesh [] []) Nothing Nothing 0 ∷
     case S Nothing Nothing 0 ∷
     case pinched Nothing Nothing 0 ∷
     case after4 Nothing Nothing 10 ∷
     case R Nothing Nothing 10 ∷
-    -- 11
+    []
+
+abbrev crowdedCases : List Case
+crowdedCases =
     case cracked (At 4) Nothing 11 ∷
     case mended (At 5) Nothing 11 ∷
     case doubled (At 4) Nothing 11 ∷
     case leaning (At 4) Nothing 11 ∷
-    -- 12
+    []
+
+abbrev overlappingCases : List Case
+overlappingCases =
     case across Nothing (At 2) 12 ∷
     case starred Nothing (At 1) 12 ∷
     case nested Nothing (At 1) 12 ∷
-    -- at the ends of the range
+    []
+
+-- at the ends of the range
+abbrev widestCases : List Case
+widestCases =
     case (widest (spot (pos 0) (pos 0))) (At 4) Nothing 11 ∷
     case (widest (spot (negsuc 0) (pos 0))) Nothing Nothing 0 ∷
     case (widest (spot (pos 1) (pos 0))) Nothing (At 1) 12 ∷
-    -- "in the order 7, 11, 12, 10"
+    []
+
+-- "in the order 7, 11, 12, 10"
+abbrev orderCases : List Case
+orderCases =
     case lonely (At 4) Nothing 7 ∷
     case crossed (At 4) (At 3) 11 ∷
     case crackedR (At 4) Nothing 11 ∷
     case coveredR Nothing (At 3) 12 ∷
     []
 
-pub proper-meshes : map computed properCases ≡ properCases
+abbrev pub properCases : List Case
+properCases = soundCases ++ crowdedCases ++ overlappingCases ++ widestCases ++ orderCases
+
+pub sound-meshes : map computed soundCases ≡ map expected soundCases
 unfolding lowest lowestFrom twiceArea firstOutside firstMisnamed firstRepeat firstFlat firstUnused firstClash faultOf refusal compatible noneLeft partedBy apart firstCrowded firstOverlap uncrowded disjoint checkNo
-proper-meshes = refl
+sound-meshes = refl
+
+pub crowded-meshes : map computed crowdedCases ≡ map expected crowdedCases
+unfolding lowest lowestFrom twiceArea firstOutside firstMisnamed firstRepeat firstFlat firstUnused firstClash faultOf refusal compatible noneLeft partedBy apart firstCrowded firstOverlap uncrowded disjoint checkNo
+crowded-meshes = refl
+
+pub overlapping-meshes : map computed overlappingCases ≡ map expected overlappingCases
+unfolding lowest lowestFrom twiceArea firstOutside firstMisnamed firstRepeat firstFlat firstUnused firstClash faultOf refusal compatible noneLeft partedBy apart firstCrowded firstOverlap uncrowded disjoint checkNo
+overlapping-meshes = refl
+
+pub widest-meshes : map computed widestCases ≡ map expected widestCases
+unfolding lowest lowestFrom twiceArea firstOutside firstMisnamed firstRepeat firstFlat firstUnused firstClash faultOf refusal compatible noneLeft partedBy apart firstCrowded firstOverlap uncrowded disjoint checkNo
+widest-meshes = refl
+
+pub order-meshes : map computed orderCases ≡ map expected orderCases
+unfolding lowest lowestFrom twiceArea firstOutside firstMisnamed firstRepeat firstFlat firstUnused firstClash faultOf refusal compatible noneLeft partedBy apart firstCrowded firstOverlap uncrowded disjoint checkNo
+order-meshes = refl
 
 -- ---- calls: the check names no culprit with 11 and 12; "Refine and coarsen don't repeat this."
 

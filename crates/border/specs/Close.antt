@@ -16,11 +16,12 @@ use Rattle.meaning.specs.declared.Place.{Place}
 use Rattle.meaning.specs.Mesh.{turn}
 use Rattle.meaning.specs.Lawful.{InRange}
 use Rattle.meaning.specs.Proper.{Shape, Point, Inside, left}
-use Rattle.laws.specs.Area.{Turn}
+use Rattle.laws.specs.Area.{Turn, turn-from, turn-to}
+use Rattle.border.specs.Keys.{near-x, near-y}
 use Rattle.border.specs.Sums.{one}
 use Rattle.border.specs.Under.{Left, key, keyAt, past, before, ahead, under, left-swapped}
 use Rattle.border.specs.Clear.{steep}
-use Rattle.border.specs.Nudge.{Upright, nudged, flat-from, flat-to, still-above, still-below, near-x, near-y, nudged-above, nudged-ahead, nudged-behind, nudged-inside}
+use Rattle.border.specs.Nudge.{Upright, nudged, still-above, still-below, nudged-above, nudged-ahead, nudged-behind, nudged-inside}
 
 -- 2^46 times P, and each corner once
 abbrev pub toward : Place → Shape → Point
@@ -169,9 +170,9 @@ module _ (P : Place) {t : Shape} (u : Upright t) where
   -- A TRIANGLE THAT P IS IN, OR ON A SIDE OF, HAS THE POINT INSIDE.
   pub close-inside : pos 0 ≤ℤ turn (t .p) (t .q) P → pos 0 ≤ℤ turn (t .q) (t .r) P → pos 0 ≤ℤ turn (t .r) (t .p) P → Inside t (close P t)
   close-inside h i j = nudged-inside u (toward P t) (record {
-    pq = above (t .p) (t .q) h (subst (λ k. pos 0 <ℤ k) (sym (third _ _ _ (flat-from (t .p) (t .q)) (flat-to (t .p) (t .q)))) (u .pqr));
-    qr = above (t .q) (t .r) i (subst (λ k. pos 0 <ℤ k) (sym (first _ _ _ (flat-from (t .q) (t .r)) (flat-to (t .q) (t .r)))) (u .qrp));
-    rp = above (t .r) (t .p) j (subst (λ k. pos 0 <ℤ k) (sym (second _ _ _ (flat-from (t .r) (t .p)) (flat-to (t .r) (t .p)))) (u .rpq));
+    pq = above (t .p) (t .q) h (subst (λ k. pos 0 <ℤ k) (sym (third _ _ _ (turn-from (t .p) (t .q)) (turn-to (t .p) (t .q)))) (u .pqr));
+    qr = above (t .q) (t .r) i (subst (λ k. pos 0 <ℤ k) (sym (first _ _ _ (turn-from (t .q) (t .r)) (turn-to (t .q) (t .r)))) (u .qrp));
+    rp = above (t .r) (t .p) j (subst (λ k. pos 0 <ℤ k) (sym (second _ _ _ (turn-from (t .r) (t .p)) (turn-to (t .r) (t .p)))) (u .rpq));
   })
     where
       more : (z e : ℤ) → pos 0 ≤ℤ z → pos 0 <ℤ e → pos 0 <ℤ (pos 70_368_744_177_664 *ℤ z +ℤ e)

@@ -6,26 +6,24 @@ use mathlib.Core.Logic.{_≢_}
 use mathlib.Core.Path.{_≡_, refl, sym, subst, subst⁻¹, ap, _∙_}
 use Prim.Native.Nat.{ℕ}
 use native.Mathlib.Omega.{arith}
-use lib.IntN.{ℤ, pos, negsuc, negℤ, _+ℤ_, _-ℤ_, _*ℤ_, *ℤ-comm}
+use lib.IntN.{ℤ, pos, negℤ, _+ℤ_, _-ℤ_, _*ℤ_, *ℤ-comm}
 use lib.Signed.{ltZ, _≤ℤ_, _<ℤ_}
-use Rattle.whole.specs.Diff.{onℤ, sumℤ, subℤ, mulℤ, negℤ-ud}
-use Rattle.whole.specs.Order.{scale-le}
-use Rattle.whole.specs.Ring.{Expr, K, _:+_, _:-_, _:*_, neg, combine₁, ring4, ring6, ring8}
+use Rattle.whole.specs.Diff.{onℤ, sumℤ, subℤ, mulℤ}
+use Rattle.whole.specs.Order.{scale-le, positive-times, nonneg-square}
+use Rattle.whole.specs.Ring.{Expr, K, _:+_, _:-_, _:*_, neg, combine₁, ring8}
 use Rattle.whole.specs.Tests.{ltZ-true, ltZ-false}
 use Rattle.meaning.specs.declared.Place.{Place}
 use Rattle.meaning.specs.declared.Tri.{Tri}
 use Rattle.meaning.specs.Mesh.{Mesh, Arrow, tri, arrows, at, turn}
 use Rattle.meaning.specs.Asking.{HoldsPoint}
 use Rattle.meaning.specs.Proper.{Point, Inside, StrictlyInside, facing, shape}
-use Rattle.laws.specs.Area.{Turn, turn-cycle, turn-mirror}
+use Rattle.laws.specs.Area.{Turn}
 use Rattle.laws.specs.RowMean.{CornerOf, is-p, is-q, is-r}
-use Rattle.border.specs.Under.{times-above}
-use Rattle.border.specs.Nudge.{Upright, upright-round, apart-of-turn}
+use Rattle.border.specs.Places.{apart-of-turn, facing-from, facing-to, Facing}
+use Rattle.border.specs.Signs.{minus-above}
+use Rattle.border.specs.Nudge.{Upright, upright-round}
 
 -- ---- a place strictly inside an edge
-
-abbrev Facing : Expr → Expr → Expr → Expr → Expr → Expr → Expr
-Facing ax ay bx by px py = (ax :- px) :* (bx :- px) :+ (ay :- py) :* (by :- py)
 
 -- (P − A)·(Q − A)
 abbrev dot : Place → Place → Place → ℤ
@@ -33,16 +31,6 @@ dot A P Q = (P .x -ℤ A .x) *ℤ (Q .x -ℤ A .x) +ℤ (P .y -ℤ A .y) *ℤ (Q
 
 abbrev Dot : Expr → Expr → Expr → Expr → Expr → Expr → Expr
 Dot ax ay px py qx qy = (px :- ax) :* (qx :- ax) :+ (py :- ay) :* (qy :- ay)
-
-pub facing-from : (A B : Place) → facing A B A ≡ pos 0
-facing-from A B = ring4 (λ a b c d. (Facing a b c d a b, K (pos 0))) (A .x) (A .y) (B .x) (B .y) tt
-
-pub facing-to : (A B : Place) → facing A B B ≡ pos 0
-facing-to A B = ring4 (λ a b c d. (Facing a b c d c d, K (pos 0))) (A .x) (A .y) (B .x) (B .y) tt
-
-square-above : (z : ℤ) → pos 0 ≤ℤ (z *ℤ z)
-square-above (pos a) = omega (arith, onℤ)
-square-above (negsuc a) = omega (arith, onℤ)
 
 -- a factor of what is above 0, the other not being below it
 factor : (x y : ℤ) → (x ≤ℤ pos 0 → pos 0 ≤ℤ y) → pos 0 <ℤ (x *ℤ y) → pos 0 <ℤ x
@@ -78,26 +66,16 @@ module _ (A B C P : Place) where
       both-above (turn B C P) (turn C A P) (turn A B C) (three-turns ∙ ap (λ k. turn A B C -ℤ k) (s .on-line) ∙ whole (turn A B C)) h
       (factor (turn B C P *ℤ turn C A P) (dot A B B) (λ l. long)
       (subst (λ k. pos 0 <ℤ k) (sym (product (s .on-line)))
-      (times-above (turn A B C *ℤ turn A B C) (negℤ (facing A B P)) (times-above (turn A B C) (turn A B C) h h) (opposed (facing A B P) (s .between)))))
+      (positive-times (turn A B C *ℤ turn A B C) (negℤ (facing A B P)) (positive-times (turn A B C) (turn A B C) h h) (minus-above (facing A B P) (s .between)))))
     where
       whole : (k : ℤ) → k -ℤ pos 0 ≡ k
       whole k = omega (arith, onℤ, subℤ k (pos 0))
-
-      opposed : (k : ℤ) → k <ℤ pos 0 → pos 0 <ℤ negℤ k
-      opposed k h = omega (arith, onℤ, negℤ-ud k)
 
       long : pos 0 ≤ℤ dot A B B
       long =
           let u = B .x -ℤ A .x in
           let v = B .y -ℤ A .y in
-          omega (arith, onℤ, square-above u, square-above v, sumℤ (u *ℤ u) (v *ℤ v))
-
--- the edge the other way round
-pub inside-back : {A B P : Place} → StrictlyInside A B P → StrictlyInside B A P
-inside-back {A} {B} {P} s = record {
-  on-line = turn-cycle B A P ∙ turn-mirror A B P ∙ ap negℤ (s .on-line);
-  between = subst (λ k. k <ℤ pos 0) (ring6 (λ a b c d x y. (Facing a b c d x y, Facing c d a b x y)) (A .x) (A .y) (B .x) (B .y) (P .x) (P .y) tt) (s .between);
-}
+          omega (arith, onℤ, nonneg-square u, nonneg-square v, sumℤ (u *ℤ u) (v *ℤ v))
 
 -- ---- the corners of a row in turn
 

@@ -22,16 +22,18 @@ use Rattle.meaning.specs.declared.Tri.{Tri}
 use Rattle.meaning.specs.Mesh.{Mesh, Arrow, tri, arrows, sameArrow, holdsNode, holdsArrow, at, turn}
 use Rattle.meaning.specs.Lawful.{Lawful}
 use Rattle.meaning.specs.Asking.{HoldsPoint}
-use Rattle.meaning.specs.Proper.{StrictlyInside, Crowded, at-one-place, inside-edge, facing, left, shape}
+use Rattle.meaning.specs.Proper.{StrictlyInside, facing, left, shape}
 use Rattle.pairs.specs.Pair.{onSide}
 use Rattle.laws.specs.Edges.{sameArrow-eq}
 use Rattle.laws.specs.RowMean.{CornerOf, is-p, is-q, corner-of}
+use Rattle.laws.specs.Area.{turn-from}
+use Rattle.border.specs.Places.{inside-back, apart-of-turn, facing-from}
 use Rattle.border.specs.Under.{left-swapped}
 use Rattle.border.specs.Cancel.{reverse, arrowsOf, border}
-use Rattle.border.specs.Nudge.{Upright, Single, not-both, row-upright, apart-of-turn, nudged-off, flat-from}
+use Rattle.border.specs.Nudge.{Upright, Single, not-both, row-upright, nudged-off}
 use Rattle.border.specs.Close.{toward, close, toward-weight, close-above}
 use Rattle.border.specs.Fan.{Inner, row-inside, row-at, row-holds-node, fan-covers}
-use Rattle.border.specs.Corners.{Turned, turned-arrow, turned-upright, turned-inside, turned-holds, turned-corner, facing-from, beside, inside-back, inside-no-corner, inside-held, one-corner}
+use Rattle.border.specs.Corners.{Turned, turned-arrow, turned-upright, turned-inside, turned-holds, turned-corner, beside, inside-no-corner, inside-held, one-corner}
 
 -- no border arrow begins on a border edge but in an end of it
 abbrev pub Untouched : Mesh → Type 0
@@ -144,7 +146,7 @@ module _ (m : Mesh) (law : Lawful m) (most : Single m) where
         let same : at m k ≡ at m (d .from) = sym e ∙ ap (at m) (sym (a .from-k)) in
         let yes = side-yes m d k (λ w. n (sym (a .from-k) ∙ sym w))
         (λ w. apart-of-turn (at m (d .from)) (at m (d .to)) (at m z) (u .pqr) (sym same ∙ ap (at m) w))
-        (ap (turn (at m (d .from)) (at m (d .to))) same ∙ flat-from (at m (d .from)) (at m (d .to)))
+        (ap (turn (at m (d .from)) (at m (d .to))) same ∙ turn-from (at m (d .from)) (at m (d .to)))
         (le-of-eq (ap (facing (at m (d .from)) (at m (d .to))) same ∙ facing-from (at m (d .from)) (at m (d .to)))) in
         clash (sym yes ∙ ap (onSide (at m) d) (sym (b .from-k)) ∙ untouched d (b .out) (a .on-border) (b .on-border))
 
@@ -179,8 +181,3 @@ module _ (m : Mesh) (law : Lawful m) (most : Single m) where
             (λ w. inside-no-corner m u s (subst (CornerOf row) (sym w) is-q)) (s .on-line) (omega (arith, onℤ, s .between)) in
             clash (sym yes ∙ ap (onSide (at m) e) (sym (b .from-k)) ∙ untouched e (b .out) c (b .on-border))
         go (inr b) (turned-round v l c) = inner-edge i turned l (turned-arrow c .1) k h s
-
-    -- NOT 11: NO NODE IS CROWDED.
-    pub crowded-none : (k : ℕ) → k < length (m .nodes) → ¬ Crowded m k
-    crowded-none k h (at-one-place j l e) = place-alone j k l h e
-    crowded-none k h (inside-edge t i e j s) = edge-alone k h i j s

@@ -22,12 +22,14 @@ use Rattle.meaning.specs.Asking.{HoldsPoint}
 use Rattle.meaning.specs.Proper.{Shape, Point, Inside, area, shape}
 use Rattle.laws.specs.Area.{turn-cycle}
 use Rattle.laws.specs.RowMean.{corner-of, corner-holds}
+use Rattle.border.specs.Keys.{place-range, steep-apart}
+use Rattle.border.specs.Places.{apart-of-turn}
 use Rattle.border.specs.Sums.{when, one, when-neg, added, added-eq, added-sum, added-zero, added-count, added-joined}
 use Rattle.border.specs.Under.{Off, key, under, inside, inside-yes, yes-inside, under-swapped, one-triangle}
 use Rattle.border.specs.Cancel.{border, border-sum, leave-arrive}
 use Rattle.border.specs.Count.{OffRows, underArrow}
 use Rattle.border.specs.Clear.{steep}
-use Rattle.border.specs.Nudge.{Upright, steep-apart, apart-of-turn, place-range, row-upright, nudged-rows}
+use Rattle.border.specs.Nudge.{Upright, row-upright, nudged-rows}
 use Rattle.border.specs.Close.{toward, close, toward-weight, close-under, close-inside}
 
 -- no border arrow leaves node k
@@ -164,13 +166,13 @@ middle-left true false false h e = clash e
 middle-left false false true h e = clash e
 middle-left false false false h e = h
 
-module _ (m : Mesh) (law : Lawful m) (k : ℕ) (below : k < length (m .nodes)) {t : Shape} (u : Upright t) where
+module _ (m : Mesh) (law : Lawful m) (k : ℕ) {t : Shape} (u : Upright t) where
   -- the arrow x→y of a row whose third corner is k
   side-near : (x y z : ℕ) → InRange (at m x) → InRange (at m y) → pos 0 <ℤ turn (at m x) (at m y) (at m z) → z ≡ k →
       underArrow steep m (close (at m k) t) (arrow x y) ≡ rising m k (arrow x y)
   side-near x y z a b h e =
       let here : pos 0 <ℤ turn (at m x) (at m y) (at m k) = subst (λ w. pos 0 <ℤ turn (at m x) (at m y) (at m w)) e h in
-      let in-k = place-range m law k below in
+      let in-k = place-range m law k in
       close-under (at m k) u a b
       (λ w. apart-of-turn (at m k) (at m x) (at m y) (subst (λ w. pos 0 <ℤ w) (sym (turn-cycle (at m k) (at m x) (at m y))) here) (sym (steep-apart a in-k w)))
       (λ w. apart-of-turn (at m y) (at m k) (at m x) (subst (λ w. pos 0 <ℤ w) (turn-cycle (at m x) (at m y) (at m k)) here) (steep-apart b in-k w))
@@ -204,8 +206,8 @@ fan-covers m law k h inner {t} u =
     let r = row-upright m law i in
     let P = at m k in
     let s = close P (shape m v) in
-    let own = fan-number m law k inner s (nudged-rows m law (toward P (shape m v)) (toward-weight P (shape m v))) (close-near m law k h r) in
-    let same = fan-number m law k inner (close P t) (nudged-rows m law (toward P t) (toward-weight P t)) (close-near m law k h u) in
+    let own = fan-number m law k inner s (nudged-rows m law (toward P (shape m v)) (toward-weight P (shape m v))) (close-near m law k r) in
+    let same = fan-number m law k inner (close P t) (nudged-rows m law (toward P t) (toward-weight P t)) (close-near m law k u) in
     let test = and-both e (yes-inside (shape m v) s (row-inside m law P i (row-holds-node m law k i e))) in
     let some = any-count (λ w. holdsNode k w && inside (shape m w) s) (m .tris) (any-at (λ w. holdsNode k w && inside (shape m w) s) test i) in
     let (w, j, f) = count-some (λ w. holdsNode k w && inside (shape m w) (close P t)) (m .tris) (equal-some (fan m k s) (fan m k (close P t)) (own ∙ sym same) some) in

@@ -1,4 +1,6 @@
 -- The border edges alone say how many rows a point is inside.
+pub mod Signs
+pub mod Places
 pub mod Sums
 pub mod Under
 pub mod Cancel

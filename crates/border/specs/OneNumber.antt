@@ -2,11 +2,11 @@
 use mathlib.Core.Bool.{Bool, true, false, not}
 use mathlib.Core.List.{List, [], _∷_, List·Memᴰ}
 use mathlib.Core.Logic.{_≢_}
-use mathlib.Core.Path.{_≡_, refl, sym, ap, ap₂, subst, _∙_}
-use Prim.Native.Nat.{ℕ, zero, suc, _+_, _≤_, _<_}
+use mathlib.Core.Path.{_≡_, refl, sym}
+use Prim.Native.Nat.{ℕ, suc, _+_, _≤_, _<_}
 use native.Mathlib.Omega.{arith}
 use native.Mathlib.Decide.{decLt}
-use lib.IntN.{ℤ, pos, negsuc, negℤ, _+ℤ_}
+use lib.IntN.{ℤ, pos, negℤ, _+ℤ_}
 use lib.Signed.{_<ℤ_}
 use lib.ListN.{length, getD}
 use Rattle.whole.specs.Diff.{onℤ, sumℤ, negℤ-ud}
@@ -21,7 +21,7 @@ use Rattle.border.specs.Under.{Form, inside, inside-yes}
 use Rattle.border.specs.Cancel.{Once, arrowsOf, border}
 use Rattle.border.specs.Count.{depth}
 use Rattle.border.specs.Nearest.{upward, Slanted, Lone, Bare, othersAt}
-use Rattle.border.specs.Sides.{Depth, right-depth, left-depth}
+use Rattle.border.specs.Sides.{right-depth, left-depth}
 
 -- how many rows lie just right of e: what the others come to at its middle, less 1 if its key falls
 abbrev pub excess : Form → Mesh → List Tri → Arrow → ℤ

@@ -1,8 +1,8 @@
 -- A lawful mesh with a clear border is proper. Assumes nothing.
 use mathlib.Core.Bool.{true}
 use mathlib.Core.Path.{_≡_}
-use Rattle.lists.specs.ListsLaw.{All-imp, All-of}
-use Rattle.meaning.specs.Mesh.{Mesh, arrows, at, twiceArea}
+use Rattle.lists.specs.ListsLaw.{All-of}
+use Rattle.meaning.specs.Mesh.{Mesh, arrows, at}
 use Rattle.meaning.specs.Lawful.{Lawful}
 use Rattle.meaning.specs.Proper.{Proper}
 use Rattle.border.specs.Cancel.{border}
@@ -11,6 +11,7 @@ use Rattle.border.specs.Nearest.{at-most-one}
 use Rattle.border.specs.Nudge.{Single, shared-none}
 use Rattle.border.specs.Crowd.{Untouched, place-alone, edge-alone}
 use Rattle.border.specs.ClearLaw.{clear-untouched, clear-bare}
+use Rattle.border.specs.Count.{areas-above}
 
 -- no point off the rows is inside two, and no border arrow begins on a border edge but in an end of it
 pub untouched-proper : (m : Mesh) → Lawful m → Single m → Untouched m → Proper m
@@ -21,8 +22,7 @@ untouched-proper m law most untouched = record {
 }
 
 clear-single : (m : Mesh) → Lawful m → clear (at m) (border (m .tris)) ≡ true → Single m
-unfolding twiceArea
-clear-single m law c = at-most-one steep m (All-imp (λ t h. h) (law .positive)) (law .noTwice) (clear-bare m law c)
+clear-single m law c = at-most-one steep m (areas-above m law) (law .noTwice) (clear-bare m law c)
 
 -- NEITHER 11 NOR 12, FROM THE BORDER ALONE.
 pub border-clear : (m : Mesh) → Lawful m → clear (at m) (border (m .tris)) ≡ true → Proper m

@@ -2,10 +2,10 @@
 use mathlib.Core.Bool.{Bool, true, false, not, _||_}
 use mathlib.Core.List.{List, [], _∷_, _++_}
 use mathlib.Core.Path.{_≡_, refl, sym, ap, _∙_}
-use Prim.Native.Nat.{ℕ, suc, _+_, _≤_}
+use Prim.Native.Nat.{_+_, _≤_}
 use native.Mathlib.Omega.{arith}
-use lib.IntN.{ℤ, pos, negℤ, _+ℤ_, _-ℤ_}
-use Rattle.whole.specs.Diff.{onℤ, sumℤ, subℤ, negℤ-ud}
+use lib.IntN.{ℤ, pos, negℤ, _+ℤ_}
+use Rattle.whole.specs.Diff.{onℤ, sumℤ, negℤ-ud}
 use Rattle.lists.specs.Lists.{any, only, consIf, count, sucIf, joined, All, nil, cons}
 
 -- the number, where the test passes
@@ -34,10 +34,6 @@ regroup a b c = omega (arith, onℤ, sumℤ a b, sumℤ b c, sumℤ a (b +ℤ c)
 
 neg-sum : (a b : ℤ) → negℤ a +ℤ negℤ b ≡ negℤ (a +ℤ b)
 neg-sum a b = omega (arith, onℤ, sumℤ a b, sumℤ (negℤ a) (negℤ b), negℤ-ud a, negℤ-ud b, negℤ-ud (a +ℤ b))
-
--- what is its own negative is 0
-pub own-negative : (a : ℤ) → a ≡ negℤ a → a ≡ pos 0
-own-negative a e = omega (arith, onℤ, negℤ-ud a)
 
 module _ {A : Type 0} where
   abbrev pub added : (A → ℤ) → List A → ℤ

@@ -6,10 +6,10 @@ use Prim.Native.Nat.{ℕ, zero, suc}
 use native.Mathlib.Omega.{arith}
 use lib.Dec.{eqb}
 use lib.IntN.{ℤ, pos, negsuc, _+ℤ_, _-ℤ_, _*ℤ_}
-use lib.Signed.{leZ, ltZ, _≤ℤ_, _<ℤ_}
+use lib.Signed.{leZ, ltZ, _≤ℤ_}
 use borrow.Author.Tests.{eq-eqb}
-use Rattle.whole.specs.Diff.{onℤ, subℤ}
-use Rattle.whole.specs.Order.{le-antisymm}
+use Rattle.whole.specs.Diff.{onℤ}
+use Rattle.whole.specs.Order.{le-antisymm, lt-not-le}
 use Rattle.whole.specs.Ring.{K, _:+_, _:-_, _:*_, combine₂, ring2, ring6}
 use Rattle.whole.specs.Tests.{leZ-true, ltZ-true, ltZ-false}
 use Rattle.lists.specs.ListsLaw.{clash, and-left, and-right, or-left, or-right}
@@ -19,8 +19,10 @@ use Rattle.meaning.specs.Good.{sameZ}
 use Rattle.meaning.specs.Proper.{facing}
 use Rattle.pairs.specs.Pair.{onSide}
 use Rattle.laws.specs.Area.{Turn}
-use Rattle.border.specs.Under.{sameZ-eq}
-use Rattle.border.specs.Meet.{cancel, norm-above, Opposite, down, upwards, Cross}
+use Rattle.laws.specs.Star.{sameZ-eq}
+use Rattle.border.specs.Places.{place-eq}
+use Rattle.border.specs.Signs.{above-not, equal-of-zero, cancel}
+use Rattle.border.specs.Meet.{norm-above, Opposite, down, upwards, Cross}
 use Rattle.border.specs.Quiet.{NoTouch}
 use Rattle.border.specs.Clear.{opposite, crosses}
 
@@ -35,13 +37,9 @@ is-zero (negsuc n) h = absurd (h (λ e. omega (arith, onℤ)))
 -- two squares that come to no more than 0
 no-length : (x y : ℤ) → (x *ℤ x +ℤ y *ℤ y) ≤ℤ pos 0 → (x ≡ pos 0) × (y ≡ pos 0)
 no-length x y h = (
-  is-zero x (λ n. never _ (norm-above (pos 1) (pos 0) x y (λ e. n (ring2 (λ x y. (x, K (pos 1) :* x :+ K (pos 0) :* y)) x y tt ∙ e))) h),
-  is-zero y (λ n. never _ (norm-above (pos 0) (pos 1) x y (λ e. n (ring2 (λ x y. (y, K (pos 0) :* x :+ K (pos 1) :* y)) x y tt ∙ e))) h),
+  is-zero x (λ n. lt-not-le (norm-above (pos 1) (pos 0) x y (λ e. n (ring2 (λ x y. (x, K (pos 1) :* x :+ K (pos 0) :* y)) x y tt ∙ e))) h),
+  is-zero y (λ n. lt-not-le (norm-above (pos 0) (pos 1) x y (λ e. n (ring2 (λ x y. (y, K (pos 0) :* x :+ K (pos 1) :* y)) x y tt ∙ e))) h),
 )
-  where
-    never : (z : ℤ) → pos 0 <ℤ z → z ≤ℤ pos 0 → ⊥
-    never z h i = omega (arith, onℤ)
-
 -- of a place of the line of A and B that sees them at a right angle: it is one of them
 module _ (A B P : Place) (flat : turn A B P ≡ pos 0) (level : facing A B P ≡ pos 0) where
   abbrev distance : ℤ
@@ -64,18 +62,12 @@ module _ (A B P : Place) (flat : turn A B P ≡ pos 0) (level : facing A B P ≡
   at-end : (P ≡ A) ⊎ (P ≡ B)
   at-end = go (ltZ (pos 0) distance) refl
     where
-      above-not : (z : ℤ) → pos 0 <ℤ z → z ≢ pos 0
-      above-not z h e = omega (arith, onℤ)
-
-      equal : (a p : ℤ) → a -ℤ p ≡ pos 0 → p ≡ a
-      equal a p h = omega (arith, onℤ, subℤ a p)
-
       same : (Q : Place) → Q .x -ℤ P .x ≡ pos 0 → Q .y -ℤ P .y ≡ pos 0 → P ≡ Q
-      same Q h i = λ j. record { x = equal (Q .x) (P .x) h j; y = equal (Q .y) (P .y) i j }
+      same Q h i = sym (place-eq (equal-of-zero (Q .x) (P .x) h) (equal-of-zero (Q .y) (P .y) i))
 
       go : (b : Bool) → ltZ (pos 0) distance ≡ b → (P ≡ A) ⊎ (P ≡ B)
       go true e =
-          let n = above-not distance (ltZ-true (pos 0) distance e) in
+          let n = above-not (ltZ-true (pos 0) distance e) in
           inl (same A (cancel distance (A .x -ℤ P .x) n x-zero) (cancel distance (A .y -ℤ P .y) n y-zero))
       go false e = let (h, i) = no-length (B .x -ℤ P .x) (B .y -ℤ P .y) (ltZ-false (pos 0) distance e) in inr (same B h i)
 

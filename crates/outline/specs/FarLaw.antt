@@ -14,7 +14,7 @@ use Rattle.meaning.specs.declared.Place.{Place}
 use Rattle.meaning.specs.Mesh.{turn}
 use Rattle.meaning.specs.Proper.{facing}
 use Rattle.laws.specs.Area.{Turn}
-use Rattle.border.specs.Under.{Form, key, times-above}
+use Rattle.border.specs.Under.{Form, key}
 use Rattle.border.specs.Clear.{opposite, crosses}
 
 -- ---- signs
@@ -28,7 +28,7 @@ square (negsuc n) = omega (arith, onℤ)
 
 times-least : (a b : ℤ) → pos 0 <ℤ a → pos 0 ≤ℤ b → pos 0 ≤ℤ (a *ℤ b)
 times-least a (pos zero) h i = omega (arith, onℤ, mulℤ a (pos 0))
-times-least a (pos (suc b)) h i = omega (arith, onℤ, times-above a (pos (suc b)) h (omega (arith, onℤ)))
+times-least a (pos (suc b)) h i = omega (arith, onℤ, positive-times a (pos (suc b)) h (omega (arith, onℤ)))
 times-least a (negsuc b) h i = absurd (omega (arith, onℤ))
 
 -- ---- (a) a place on an edge has its key between those of the ends
@@ -36,11 +36,11 @@ times-least a (negsuc b) h i = absurd (omega (arith, onℤ))
 -- the place is C; p, q are the keys of the ends past its own, r, s what is left of the ends across; n is above 0
 numbers-on : (n f p q r s : ℤ) → pos 0 <ℤ n → f ≤ℤ pos 0 → p *ℤ s ≡ r *ℤ q → n *ℤ f ≡ p *ℤ q +ℤ r *ℤ s → pos 0 <ℤ p → pos 0 <ℤ q → ⊥
 numbers-on n f p q r s above low flat mean hp hq =
-    let pq = times-above p q hp hq in
+    let pq = positive-times p q hp hq in
     let nf : pos 0 ≤ℤ (n *ℤ negℤ f) = times-least n (negℤ f) above (omega (arith, onℤ, negℤ-ud f)) in
     let e : n *ℤ negℤ f ≡ negℤ (p *ℤ q +ℤ r *ℤ s) = ring2 (λ n f. (n :* neg f, neg (n :* f))) n f tt ∙ ap negℤ mean in
     let rs : pos 0 <ℤ negℤ (r *ℤ s) = sides (p *ℤ q) (r *ℤ s) (n *ℤ negℤ f) e nf pq in
-    let down = times-above q (negℤ (r *ℤ s)) hq rs in
+    let down = positive-times q (negℤ (r *ℤ s)) hq rs in
     let up = times-least p (s *ℤ s) hp (square s) in
     let same : q *ℤ negℤ (r *ℤ s) ≡ negℤ (p *ℤ (s *ℤ s)) =
     ring4 (λ p q r s. (q :* neg (r :* s), neg ((r :* q) :* s))) p q r s tt ∙ ap (λ k. negℤ (k *ℤ s)) (sym flat) ∙ ring4 (λ p q r s. (neg ((p :* s) :* s), neg (p :* (s :* s)))) p q r s tt in
@@ -119,7 +119,7 @@ flop : (z : ℤ) → pos 0 <ℤ z → negℤ z <ℤ pos 0
 flop z h = omega (arith, onℤ, negℤ-ud z)
 
 times-below : (a b : ℤ) → a <ℤ pos 0 → b <ℤ pos 0 → pos 0 <ℤ (a *ℤ b)
-times-below a b h i = rw (sym (ring2 (λ a b. (neg a :* neg b, a :* b)) a b tt)) (times-above (negℤ a) (negℤ b) (flip a h) (flip b i))
+times-below a b h i = rw (sym (ring2 (λ a b. (neg a :* neg b, a :* b)) a b tt)) (positive-times (negℤ a) (negℤ b) (flip a h) (flip b i))
 
 module _ (a b c d kA kB kC kD : ℤ) where
   -- the two weighted sums, multiplied out
@@ -147,12 +147,12 @@ module _ (a b c d kA kB kC kD : ℤ) where
 
       sum : pos 0 <ℤ (a *ℤ d) → pos 0 <ℤ (a *ℤ negℤ c) → pos 0 <ℤ (negℤ b *ℤ d) → pos 0 <ℤ (b *ℤ c) → ⊥
       sum p q r s =
-          four-above (times-above _ _ p (above-minus da)) (times-above _ _ q (above-minus db)) (times-above _ _ r (above-minus ca)) (times-above _ _ s (above-minus cb)) none
+          four-above (positive-times _ _ p (above-minus da)) (positive-times _ _ q (above-minus db)) (positive-times _ _ r (above-minus ca)) (positive-times _ _ s (above-minus cb)) none
 
       go : ((a <ℤ pos 0) × (pos 0 <ℤ b)) ⊎ ((pos 0 <ℤ a) × (b <ℤ pos 0)) → ((c <ℤ pos 0) × (pos 0 <ℤ d)) ⊎ ((pos 0 <ℤ c) × (d <ℤ pos 0)) → ⊥
       go (inl (p, q)) (inl (r, s)) = omega (arith, onℤ, subℤ a b, subℤ d c)
-      go (inl (p, q)) (inr (r, s)) = sum (times-below a d p s) (times-below a (negℤ c) p (flop c r)) (times-below (negℤ b) d (flop b q) s) (times-above b c q r)
-      go (inr (p, q)) (inl (r, s)) = sum (times-above a d p s) (times-above a (negℤ c) p (flip c r)) (times-above (negℤ b) d (flip b q) s) (times-below b c q r)
+      go (inl (p, q)) (inr (r, s)) = sum (times-below a d p s) (times-below a (negℤ c) p (flop c r)) (times-below (negℤ b) d (flop b q) s) (positive-times b c q r)
+      go (inr (p, q)) (inl (r, s)) = sum (positive-times a d p s) (positive-times a (negℤ c) p (flip c r)) (positive-times (negℤ b) d (flip b q) s) (times-below b c q r)
       go (inr (p, q)) (inr (r, s)) = omega (arith, onℤ, subℤ a b, subℤ d c)
 
 -- the keys of C and D are below those of A and B

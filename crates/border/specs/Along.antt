@@ -12,7 +12,7 @@ use Rattle.whole.specs.Order.{positive-times}
 use Rattle.lists.specs.ListsLaw.{clash, both-ways}
 use Rattle.meaning.specs.declared.Place.{Place}
 use Rattle.meaning.specs.Proper.{Point, left}
-use Rattle.border.specs.Signs.{minus-above, unscale-above, zero-of-equal, below-of-minus, sum-above, not-lt, lt-zero, lt-le, difference-above, below-swapped}
+use Rattle.border.specs.Signs.{minus-above, unscale-above, zero-of-equal, below-of-minus, sum-above, not-lt, lt-zero, lt-le, difference-above, below-swapped, lt-of-difference}
 use Rattle.border.specs.Sums.{one}
 use Rattle.border.specs.Under.{Form, key, keyAt, before, under, ahead}
 use Rattle.border.specs.Segment.{Strictly, Within, Spans, Apart, above, corner, spot, rise, one-side, left-start, left-end, left-spot, ahead-corner, spot-strictly, spot-within}
@@ -53,11 +53,8 @@ under-rising f C D s r w n =
     let bD = not-lt (key f D *ℤ s .W) (keyAt f s) (λ e. n (zero-of-equal (keyAt f s) (key f D *ℤ s .W) (sym e))) ∙ ap not pD in
     (λ i. one (pC i && bD i && above C D s) -ℤ one (pD i && before f C s && above D C s)) ∙
     go (behind f C s) (behind f D s) (before f C s) (above C D s) (above D C s)
-    (λ e. le-ltZ (keyAt f s) (key f C *ℤ s .W) (upto (keyAt f s) (key f C *ℤ s .W) (ltZ-true (pos 0) (ahead f C s) (behind-low f C D s r w e))))
+    (λ e. le-ltZ (keyAt f s) (key f C *ℤ s .W) (lt-le (lt-of-difference (keyAt f s) (key f C *ℤ s .W) (ltZ-true (pos 0) (ahead f C s) (behind-low f C D s r w e)))))
   where
-    upto : (a b : ℤ) → pos 0 <ℤ (a -ℤ b) → b ≤ℤ a
-    upto a b h = omega (arith, onℤ, subℤ a b)
-
     go : (a b c l k : Bool) → (b ≡ true → c ≡ false) → one (a && not b && l) -ℤ one (b && c && k) ≡ one (a && (not b && l))
     go true true true l k h = clash (h refl)
     go true true false l k h = refl

@@ -1,5 +1,5 @@
 -- What `clear` says of a lawful mesh's border: no arrow of it meets another, and no row lies just right of one. Assumes nothing.
-use mathlib.Core.Bool.{Bool, true, false, not, _&&_}
+use mathlib.Core.Bool.{Bool, true, false, not, _&&_, _||_}
 use mathlib.Core.List.{List, List·Memᴰ}
 use mathlib.Core.Logic.{_≢_, _⊎_, inl, inr}
 use mathlib.Core.Path.{_≡_, refl, sym, ap, ap₂, _∙_}
@@ -8,11 +8,11 @@ use native.Mathlib.Omega.{arith}
 use native.Mathlib.Decide.{ℕ-discrete}
 use lib.IntN.{ℤ, pos, negℤ, _+ℤ_, _-ℤ_}
 use lib.Signed.{ltZ, _≤ℤ_}
-use borrow.Author.Tests.{not-true}
+use borrow.Author.Tests.{not-true, ne-eqb}
 use Rattle.whole.specs.Diff.{onℤ, sumℤ}
 use Rattle.whole.specs.Order.{le-of-eq}
 use Rattle.whole.specs.Ring.{K, _:+_, ring4}
-use Rattle.whole.specs.Tests.{lt-ltZ}
+use Rattle.whole.specs.Tests.{lt-ltZ, le-leZ}
 use Rattle.lists.specs.Lists.{any, All}
 use Rattle.lists.specs.ListsLaw.{clash, and-both, and-left, and-right, or-left, or-right, or-no, All-at, All-of, all-yes, any-none}
 use Rattle.meaning.specs.declared.Place.{Place}
@@ -36,7 +36,7 @@ use Rattle.border.specs.Quiet.{NoTouch, Quiet, border-slanted, all-lone}
 use Rattle.border.specs.Clear.{steep, opposite, crosses, meets, underMiddle, rightFree, clear}
 use Rattle.border.specs.Nudge.{row-upright}
 use Rattle.border.specs.Corners.{turned-arrow, turned-upright}
-use Rattle.border.specs.Crowd.{border-row, side-yes}
+use Rattle.border.specs.Crowd.{border-row}
 
 -- ---- the tests
 
@@ -52,7 +52,7 @@ module _ (P : ℕ → Place) (es : List Arrow) (c : clear P es ≡ true) {e : Ar
       (All-at (any-none (meets P e) es (not-true (any (meets P e) es) (and-left (not (any (meets P e) es)) (rightFree P es e) both-tests))) j)
 
   -- no arrow of a clear border begins on another but in an end of it
-  pub clear-untouched : {g : Arrow} → List·Memᴰ g es → onSide P e (g .from) ≡ false
+  clear-untouched : {g : Arrow} → List·Memᴰ g es → onSide P e (g .from) ≡ false
   clear-untouched j = neither j .0
 
   -- and none crosses another
@@ -65,6 +65,12 @@ module _ (P : ℕ → Place) (es : List Arrow) (c : clear P es ≡ true) {e : Ar
 
   clear-right : underMiddle P es e ≡ one (ltZ (key steep (P (e .to))) (key steep (P (e .from))))
   clear-right = sameZ-eq (underMiddle P es e) (one (ltZ (key steep (P (e .to))) (key steep (P (e .from))))) (and-right (not (any (meets P e) es)) (rightFree P es e) both-tests)
+
+-- a node on the edge, as `onSide` says
+side-yes : (m : Mesh) (e : Arrow) (k : ℕ) → k ≢ e .from → k ≢ e .to → turn (at m (e .from)) (at m (e .to)) (at m k) ≡ pos 0 →
+    facing (at m (e .from)) (at m (e .to)) (at m k) ≤ℤ pos 0 → onSide (at m) e k ≡ true
+side-yes m e k f g t h =
+    and-both (and-both (ap₂ (λ a b. not (a || b)) (ne-eqb k (e .from) f) (ne-eqb k (e .to) g)) (and-both (le-leZ _ _ (le-of-eq t)) (le-leZ _ _ (le-of-eq (sym t))))) (le-leZ _ _ h)
 
 -- an arrow does not run under its own middle
 pub own-middle : (f : Form) (A B : Place) → under f A B (joint (corner A) (corner B)) ≡ pos 0

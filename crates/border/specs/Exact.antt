@@ -28,7 +28,7 @@ use Rattle.border.specs.Beside.{border-split}
 use Rattle.border.specs.Nearest.{middle, Bare, othersAt}
 use Rattle.border.specs.OneNumber.{depth-one, all-bare, whole-none}
 use Rattle.border.specs.Meet.{Opposite, down, upwards, Cross}
-use Rattle.border.specs.Quiet.{NoTouch, Quiet, all-lone}
+use Rattle.border.specs.Quiet.{NoTouch, Quiet, all-lone, border-slanted}
 use Rattle.border.specs.Clear.{steep, meets, underMiddle, rightFree, clear}
 use Rattle.border.specs.Nudge.{Single, not-both, row-upright, nudged-inside}
 use Rattle.border.specs.Corners.{Turned, from-p, from-q, from-r, turned-arrow, turned-upright, turned-inside, turned-corner}
@@ -124,7 +124,7 @@ module _ (m : Mesh) (law : Lawful m) (proper : Proper m) where
 
     met-not : meets (at m) e g ≡ false
     unfolding meets
-    met-not = ap₂ _||_ (not-on-side m e (g .from) start-free) (not-crossing (at m (e .from)) (at m (e .to)) (at m (g .from)) (at m (g .to)) uncrossed)
+    met-not = ap₂ _||_ (not-on-side steep m e (g .from) (All-at (border-slanted m law) i) start-free) (not-crossing (at m (e .from)) (at m (e .to)) (at m (g .from)) (at m (g .to)) uncrossed)
 
   quiet : Quiet m
   quiet = record { no-touch = λ e g i j. start-free i j; no-cross = λ e g i j. uncrossed i j }

@@ -6,12 +6,12 @@ use native.Mathlib.Omega.{arith}
 use lib.IntN.{ℤ, pos, natAbs, _+ℤ_, _-ℤ_, _*ℤ_}
 use lib.ListN.{getD}
 use Rattle.whole.specs.Diff.{onℤ, sumℤ, mulℤ}
-use Rattle.whole.specs.Bound.{absℤ, abs-add, abs-sub}
+use Rattle.whole.specs.Bound.{absℤ, abs-add, abs-sub, abs-mul}
 use Rattle.whole.specs.Ring.{K, _:+_, _:-_, _:*_, ring6}
 use Rattle.lists.specs.Lists.{All, nil, cons}
 use Rattle.meaning.specs.declared.Place.{Place}
 use Rattle.meaning.specs.declared.Node.{Node}
-use Rattle.meaning.specs.Mesh.{Mesh, at, origin}
+use Rattle.meaning.specs.Mesh.{Mesh, at, turn, origin}
 use Rattle.meaning.specs.Lawful.{InRange, NodeInRange, Lawful}
 use Rattle.border.specs.Signs.{equal-of-zero, zero-of-equal}
 use Rattle.border.specs.Places.{place-eq}
@@ -61,3 +61,13 @@ steep-apart {A} {B} a b h = let (x, y) = steep-doubles a b b (ap₂ _+ℤ_ h h) 
   where
     half : (p q : ℤ) → p +ℤ p ≡ q +ℤ q → p ≡ q
     half p q e = omega (arith, onℤ, sumℤ p p, sumℤ q q)
+
+-- ---- keys and turns are small
+
+pub turn-small : {A B C : Place} → InRange A → InRange B → InRange C → natAbs (turn A B C) ≤ 8_796_093_022_208
+turn-small {A} {B} {C} a b c =
+    abs-sub ((B .x -ℤ A .x) *ℤ (C .y -ℤ A .y)) ((C .x -ℤ A .x) *ℤ (B .y -ℤ A .y))
+    (abs-mul (B .x -ℤ A .x) (C .y -ℤ A .y) (near-x a b) (near-y a c)) (abs-mul (C .x -ℤ A .x) (B .y -ℤ A .y) (near-x a c) (near-y a b))
+
+pub key-small : {A : Place} → InRange A → natAbs (key steep A) ≤ 8_796_094_070_784
+key-small {A} a = abs-add (pos 8_388_608 *ℤ A .x) (pos 1 *ℤ A .y) (abs-mul (pos 8_388_608) (A .x) {m = 8_388_608} (omega arith) (a .x-near)) (abs-mul (pos 1) (A .y) {m = 1} (omega arith) (a .y-near))

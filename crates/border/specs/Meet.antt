@@ -15,7 +15,7 @@ use Rattle.meaning.specs.Mesh.{turn}
 use Rattle.meaning.specs.Proper.{Point, StrictlyInside, facing, left}
 use Rattle.laws.specs.Area.{turn-cycle, turn-mirror, turn-back}
 use Rattle.border.specs.Places.{place-eq, inside-back}
-use Rattle.border.specs.Signs.{zero-swapped, minus-above, zero-of-minus, unscale-above, zero-of-equal, above-not, below-of-minus, equal-of-zero, sum-above, cancel, lt-le, minus-below, difference-above}
+use Rattle.border.specs.Signs.{zero-swapped, minus-above, zero-of-minus, unscale-above, zero-of-equal, above-not, below-of-minus, equal-of-zero, sum-above, cancel, lt-le, minus-below, difference-above, zero-or-not}
 use Rattle.border.specs.Under.{Form, key, keyAt, ahead}
 use Rattle.border.specs.Segment.{Strictly, Within, Apart, corner, rise, left-corner, left-start, left-end, left-mix, left-spot, rise-vector}
 
@@ -33,6 +33,10 @@ norm-above a b (pos zero) y n =
     omega (arith, onℤ, sumℤ (pos 0 *ℤ pos 0) (y *ℤ y))
 norm-above a b (pos (suc x)) y n = sum-above (pos (suc x) *ℤ pos (suc x)) (y *ℤ y) (square-above (pos (suc x)) (λ g. omega (arith, onℤ))) (nonneg-square y)
 norm-above a b (negsuc x) y n = sum-above (negsuc x *ℤ negsuc x) (y *ℤ y) (square-above (negsuc x) (λ g. omega (arith, onℤ))) (nonneg-square y)
+-- the square of the distance
+abbrev pub norm : Place → Place → ℤ
+norm A B = (B .x -ℤ A .x) *ℤ (B .x -ℤ A .x) +ℤ (B .y -ℤ A .y) *ℤ (B .y -ℤ A .y)
+
 -- ---- on a line, the key says where
 
 abbrev cofactor : ℤ → ℤ → ℤ → ℤ → ℤ → ℤ → ℤ
@@ -45,13 +49,35 @@ Cofactor a b p q u v =
     (neg b :* ((a :* p :+ b :* q) :* u :+ (a :* u :+ b :* v) :* p) :+ a :* ((a :* p :+ b :* q) :* v :+ (a :* u :+ b :* v) :* q)) :+
     (a :* p :+ b :* q) :* (b :* p :- a :* q)
 
+-- on the line with the key of A: it is A
+same-place : (f : Form) (A B P : Place) → rise f A B ≢ pos 0 → rise f A P ≡ pos 0 → turn A B P ≡ pos 0 → A ≡ P
+same-place f A B P n k e = sym (place-eq (equal-of-zero (P .x) (A .x) (cancel (rise f A B) (P .x -ℤ A .x) n x-zero)) (equal-of-zero (P .y) (A .y) (cancel (rise f A B) (P .y -ℤ A .y) n y-zero)))
+  where
+    x-zero : rise f A B *ℤ (P .x -ℤ A .x) ≡ pos 0
+    x-zero =
+        combine₂ (B .x -ℤ A .x) (negℤ (f .across)) k e
+        (ring8 (λ f g a b c d x y. (
+          ((f :* c :+ g :* d) :- (f :* a :+ g :* b)) :* (x :- a) :- K (pos 0),
+          (c :- a) :* (((f :* x :+ g :* y) :- (f :* a :+ g :* b)) :- K (pos 0)) :+ neg g :* (((c :- a) :* (y :- b) :- (x :- a) :* (d :- b)) :- K (pos 0)),
+        ))
+        (f .along) (f .across) (A .x) (A .y) (B .x) (B .y) (P .x) (P .y) tt)
+
+    y-zero : rise f A B *ℤ (P .y -ℤ A .y) ≡ pos 0
+    y-zero =
+        combine₂ (B .y -ℤ A .y) (f .along) k e
+        (ring8 (λ f g a b c d x y. (
+          ((f :* c :+ g :* d) :- (f :* a :+ g :* b)) :* (y :- b) :- K (pos 0),
+          (d :- b) :* (((f :* x :+ g :* y) :- (f :* a :+ g :* b)) :- K (pos 0)) :+ f :* (((c :- a) :* (y :- b) :- (x :- a) :* (d :- b)) :- K (pos 0)),
+        ))
+        (f .along) (f .across) (A .x) (A .y) (B .x) (B .y) (P .x) (P .y) tt)
+
 module _ (f : Form) (A B : Place) where
   rise-split : (P : Place) → rise f A B ≡ rise f A P +ℤ rise f P B
   rise-split P = ring3 (λ a b p. (b :- a, (p :- a) :+ (b :- p))) (key f A) (key f B) (key f P) tt
 
   -- of a place of the line: rise² · facing = −(rise from A)(rise to B) |AB|²
   facing-key : (P : Place) → turn A B P ≡ pos 0 →
-      (rise f A B *ℤ rise f A B) *ℤ facing A B P ≡ negℤ ((rise f A P *ℤ rise f P B) *ℤ ((B .x -ℤ A .x) *ℤ (B .x -ℤ A .x) +ℤ (B .y -ℤ A .y) *ℤ (B .y -ℤ A .y)))
+      (rise f A B *ℤ rise f A B) *ℤ facing A B P ≡ negℤ ((rise f A P *ℤ rise f P B) *ℤ norm A B)
   facing-key P e =
       combine₁ (cofactor (f .along) (f .across) (B .x -ℤ A .x) (B .y -ℤ A .y) (P .x -ℤ A .x) (P .y -ℤ A .y)) e
       (ring8 (λ f g a b c d x y. (
@@ -70,35 +96,29 @@ module _ (f : Form) (A B : Place) where
       square : pos 0 <ℤ (rise f A B *ℤ rise f A B)
       square = positive-times (rise f A B) (rise f A B) whole whole
 
-      product : pos 0 <ℤ ((rise f A P *ℤ rise f P B) *ℤ ((B .x -ℤ A .x) *ℤ (B .x -ℤ A .x) +ℤ (B .y -ℤ A .y) *ℤ (B .y -ℤ A .y)))
+      product : pos 0 <ℤ ((rise f A P *ℤ rise f P B) *ℤ norm A B)
       product =
-          positive-times (rise f A P *ℤ rise f P B) ((B .x -ℤ A .x) *ℤ (B .x -ℤ A .x) +ℤ (B .y -ℤ A .y) *ℤ (B .y -ℤ A .y)) (positive-times (rise f A P) (rise f P B) h i)
+          positive-times (rise f A P *ℤ rise f P B) (norm A B) (positive-times (rise f A P) (rise f P B) h i)
           (norm-above (f .along) (f .across) (B .x -ℤ A .x) (B .y -ℤ A .y) (λ g. above-not whole (rise-vector f A B ∙ g)))
 
       negative : (a x : ℤ) → pos 0 <ℤ a → (a *ℤ x) <ℤ pos 0 → x <ℤ pos 0
       negative a x h l = below-of-minus x (unscale-above (negℤ x) a h (subst (λ k. pos 0 <ℤ k) (ring2 (λ a x. (neg (a :* x), neg x :* a)) a x tt) (minus-above (a *ℤ x) l)))
 
-  -- on the line with the key of A: it is A
-  pub same-place : (P : Place) → rise f A B ≢ pos 0 → rise f A P ≡ pos 0 → turn A B P ≡ pos 0 → A ≡ P
-  same-place P n k e = sym (place-eq (equal-of-zero (P .x) (A .x) (cancel (rise f A B) (P .x -ℤ A .x) n x-zero)) (equal-of-zero (P .y) (A .y) (cancel (rise f A B) (P .y -ℤ A .y) n y-zero)))
+  -- on the line, and the ends are seen from it neither the same way nor opposite ways: it is one of them
+  pub one-of-ends : (P : Place) → rise f A B ≢ pos 0 → turn A B P ≡ pos 0 → facing A B P ≡ pos 0 → (P ≡ A) ⊎ (P ≡ B)
+  one-of-ends P n e z = go (zero-or-not (rise f A P))
     where
-      x-zero : rise f A B *ℤ (P .x -ℤ A .x) ≡ pos 0
-      x-zero =
-          combine₂ (B .x -ℤ A .x) (negℤ (f .across)) k e
-          (ring8 (λ f g a b c d x y. (
-            ((f :* c :+ g :* d) :- (f :* a :+ g :* b)) :* (x :- a) :- K (pos 0),
-            (c :- a) :* (((f :* x :+ g :* y) :- (f :* a :+ g :* b)) :- K (pos 0)) :+ neg g :* (((c :- a) :* (y :- b) :- (x :- a) :* (d :- b)) :- K (pos 0)),
-          ))
-          (f .along) (f .across) (A .x) (A .y) (B .x) (B .y) (P .x) (P .y) tt)
+      product : norm A B *ℤ (rise f A P *ℤ rise f P B) ≡ pos 0
+      product =
+          ring2 (λ k r. (k :* r, r :* k)) (norm A B) (rise f A P *ℤ rise f P B) tt ∙
+          zero-of-minus ((rise f A P *ℤ rise f P B) *ℤ norm A B) (sym (facing-key P e) ∙ ap (λ k. (rise f A B *ℤ rise f A B) *ℤ k) z ∙ ring2 (λ r k. (r :* K (pos 0), K (pos 0))) (rise f A B *ℤ rise f A B) (pos 0) tt)
 
-      y-zero : rise f A B *ℤ (P .y -ℤ A .y) ≡ pos 0
-      y-zero =
-          combine₂ (B .y -ℤ A .y) (f .along) k e
-          (ring8 (λ f g a b c d x y. (
-            ((f :* c :+ g :* d) :- (f :* a :+ g :* b)) :* (y :- b) :- K (pos 0),
-            (d :- b) :* (((f :* x :+ g :* y) :- (f :* a :+ g :* b)) :- K (pos 0)) :+ f :* (((c :- a) :* (y :- b) :- (x :- a) :* (d :- b)) :- K (pos 0)),
-          ))
-          (f .along) (f .across) (A .x) (A .y) (B .x) (B .y) (P .x) (P .y) tt)
+      go : (rise f A P ≡ pos 0) ⊎ (rise f A P ≢ pos 0) → (P ≡ A) ⊎ (P ≡ B)
+      go (inl q) = inl (sym (same-place f A B P n q e))
+      go (inr q) =
+          let both = cancel (norm A B) (rise f A P *ℤ rise f P B) (above-not (norm-above (f .along) (f .across) (B .x -ℤ A .x) (B .y -ℤ A .y) (λ h. n (rise-vector f A B ∙ h)))) product in
+          let level = cancel (rise f A P) (rise f P B) q both in
+          inr (sym (same-place f B A P (λ h. n (zero-swapped (key f A) (key f B) h)) (zero-swapped (key f B) (key f P) level) (turn-back A B P e)))
 
 -- ---- two segments
 

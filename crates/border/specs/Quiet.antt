@@ -32,7 +32,7 @@ use Rattle.border.specs.Cancel.{Once, reverse, arrowsOf, border, leave-a
 use Rattle.border.specs.Segment.{rise, rise-vector}
 use Rattle.border.specs.Beside.{ClearArrow, others}
 use Rattle.border.specs.Nearest.{upward, lowEnd, highEnd, Slanted, low-high, Lone, middle}
-use Rattle.border.specs.Meet.{Cross, Missed, missed-back, missed-first, apart-missed, norm-above}
+use Rattle.border.specs.Meet.{norm, Cross, Missed, missed-back, missed-first, apart-missed, norm-above}
 
 -- node k is not strictly inside e, and stands at an end's place only if it is that end
 pub record NoTouch (m : Mesh) (e : Arrow) (k : ℕ) : Type 0 where
@@ -127,7 +127,7 @@ four-facing a b v e =
     combine₁ ((v +ℤ v) -ℤ (a +ℤ b)) e (ring3 (λ a b v. (K (pos 4) :* ((a :- v) :* (b :- v)) :- neg ((b :- a) :* (b :- a)), ((v :+ v) :- (a :+ b)) :* ((v :+ v) :- (a :+ b)))) a b v tt)
 
 middle-inside : (f : Form) (A B M : Place) → rise f A B ≢ pos 0 → M .x +ℤ M .x ≡ A .x +ℤ B .x → M .y +ℤ M .y ≡ A .y +ℤ B .y → StrictlyInside A B M
-middle-inside f A B M n e g = record { on-line = half (turn A B M) on-line; between = below (facing A B M) ((B .x -ℤ A .x) *ℤ (B .x -ℤ A .x) +ℤ (B .y -ℤ A .y) *ℤ (B .y -ℤ A .y)) norm four }
+middle-inside f A B M n e g = record { on-line = half (turn A B M) on-line; between = below (facing A B M) (norm A B) long four }
   where
     half : (z : ℤ) → z +ℤ z ≡ pos 0 → z ≡ pos 0
     half z h = omega (arith, onℤ, sumℤ z z)
@@ -140,10 +140,10 @@ middle-inside f A B M n e g = record { on-line = half (turn A B M) on-line; betw
           neg (d :- b) :* ((x :+ x) :- (a :+ c)) :+ (c :- a) :* ((y :+ y) :- (b :+ d)),
         )) (A .x) (A .y) (B .x) (B .y) (M .x) (M .y) tt)
 
-    norm : pos 0 <ℤ ((B .x -ℤ A .x) *ℤ (B .x -ℤ A .x) +ℤ (B .y -ℤ A .y) *ℤ (B .y -ℤ A .y))
-    norm = norm-above (f .along) (f .across) (B .x -ℤ A .x) (B .y -ℤ A .y) (λ h. n (rise-vector f A B ∙ h))
+    long : pos 0 <ℤ norm A B
+    long = norm-above (f .along) (f .across) (B .x -ℤ A .x) (B .y -ℤ A .y) (λ h. n (rise-vector f A B ∙ h))
 
-    four : pos 4 *ℤ facing A B M ≡ negℤ ((B .x -ℤ A .x) *ℤ (B .x -ℤ A .x) +ℤ (B .y -ℤ A .y) *ℤ (B .y -ℤ A .y))
+    four : pos 4 *ℤ facing A B M ≡ negℤ (norm A B)
     four =
         ring2 (λ p q. (K (pos 4) :* (p :+ q), K (pos 4) :* p :+ K (pos 4) :* q)) ((A .x -ℤ M .x) *ℤ (B .x -ℤ M .x)) ((A .y -ℤ M .y) *ℤ (B .y -ℤ M .y)) tt ∙
         ap₂ _+ℤ_ (four-facing (A .x) (B .x) (M .x) e) (four-facing (A .y) (B .y) (M .y) g) ∙

@@ -1,6 +1,6 @@
 -- Signs of whole numbers: of negatives, of differences and of products. Assumes nothing.
 use mathlib.Core.Bool.{Bool, true, false, not}
-use mathlib.Core.Logic.{_≢_}
+use mathlib.Core.Logic.{_≢_, _⊎_, inl, inr}
 use mathlib.Core.Path.{_≡_, refl, sym, ap, ap₂, subst, _∙_}
 use Prim.Native.Nat.{ℕ, zero, suc}
 use native.Mathlib.Omega.{arith}
@@ -40,6 +40,11 @@ not-lt a b n = go (ltZ a b) refl
 
 pub below-zero : (a : ℤ) → a ≢ pos 0 → ltZ (pos 0) a ≡ false → a <ℤ pos 0
 below-zero a n e = ltZ-true a (pos 0) (not-lt (pos 0) a (λ w. n (sym w)) ∙ ap not e)
+
+pub zero-or-not : (z : ℤ) → (z ≡ pos 0) ⊎ (z ≢ pos 0)
+zero-or-not (pos zero) = inl refl
+zero-or-not (pos (suc n)) = inr (λ e. omega (arith, onℤ))
+zero-or-not (negsuc n) = inr (λ e. omega (arith, onℤ))
 
 -- ---- sums
 
@@ -90,12 +95,15 @@ below-swapped a b h = omega (arith, onℤ, subℤ a b, subℤ b a)
 pub difference-above : (a b : ℤ) → b <ℤ a → pos 0 <ℤ (a -ℤ b)
 difference-above a b h = omega (arith, onℤ, subℤ a b)
 
+pub lt-of-difference : (a b : ℤ) → pos 0 <ℤ (a -ℤ b) → b <ℤ a
+lt-of-difference a b h = omega (arith, onℤ, subℤ a b)
+
 pub difference-swapped : (a b : ℤ) → b -ℤ a ≡ negℤ (a -ℤ b)
 difference-swapped a b = omega (arith, onℤ, subℤ a b, subℤ b a, negℤ-ud (a -ℤ b))
 
 pub lt-zero : (a b : ℤ) → ltZ a b ≡ ltZ (pos 0) (b -ℤ a)
 lt-zero a b = both-ways _ _ (λ e. lt-ltZ (pos 0) (b -ℤ a) (difference-above b a (ltZ-true a b e)))
-    (λ e. lt-ltZ a b (let l = ltZ-true (pos 0) (b -ℤ a) e in omega (arith, onℤ, subℤ b a)))
+    (λ e. lt-ltZ a b (lt-of-difference b a (ltZ-true (pos 0) (b -ℤ a) e)))
 
 -- ---- products
 

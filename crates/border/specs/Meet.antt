@@ -2,40 +2,47 @@
 use mathlib.Core.Bool.{Bool, true, false}
 use mathlib.Core.Logic.{_≢_, _⊎_, inl, inr}
 use mathlib.Core.Path.{_≡_, refl, sym, ap, ap₂, subst, _∙_}
-use Prim.Native.Nat.{zero, suc}
 use native.Mathlib.Omega.{arith}
-use lib.IntN.{ℤ, pos, negsuc, negℤ, _+ℤ_, _-ℤ_, _*ℤ_}
+use lib.IntN.{ℤ, pos, negℤ, _+ℤ_, _-ℤ_, _*ℤ_}
 use lib.Signed.{ltZ, _≤ℤ_, _<ℤ_}
 use Rattle.whole.specs.Diff.{onℤ, sumℤ, negℤ-ud}
 use Rattle.whole.specs.Ring.{Expr, K, _:+_, _:-_, _:*_, neg, ring2, ring3, ring4, ring8, combine₁, combine₂}
 use Rattle.whole.specs.Tests.{ltZ-true, ltZ-false}
-use Rattle.whole.specs.Order.{le-antisymm, positive-times, nonneg-square, lt-not-le}
+use Rattle.whole.specs.Order.{lt-or-le, le-antisymm, positive-times, nonneg-square, lt-not-le}
 use Rattle.meaning.specs.declared.Place.{Place}
 use Rattle.meaning.specs.Mesh.{turn}
 use Rattle.meaning.specs.Proper.{Point, StrictlyInside, facing, left}
 use Rattle.laws.specs.Area.{turn-cycle, turn-mirror, turn-back}
 use Rattle.border.specs.Places.{place-eq, inside-back}
-use Rattle.border.specs.Signs.{zero-swapped, minus-above, zero-of-minus, unscale-above, zero-of-equal, above-not, below-of-minus, equal-of-zero, sum-above, cancel, lt-le, minus-below, difference-above, zero-or-not}
+use Rattle.border.specs.Signs.{zero-swapped, minus-above, zero-of-minus, unscale-above, zero-of-equal, above-not, below-of-minus, equal-of-zero, sum-above, cancel, lt-le, minus-below, difference-above, zero-or-not, sign-product}
 use Rattle.border.specs.Under.{Form, key, keyAt, ahead}
 use Rattle.border.specs.Segment.{Strictly, Within, Apart, corner, rise, left-corner, left-start, left-end, left-mix, left-spot, rise-vector}
 
 -- ---- products
 
 square-above : (x : ℤ) → x ≢ pos 0 → pos 0 <ℤ (x *ℤ x)
-square-above (pos zero) n = absurd (n refl)
-square-above (pos (suc x)) n = positive-times (pos (suc x)) (pos (suc x)) (omega (arith, onℤ)) (omega (arith, onℤ))
-square-above (negsuc x) n =
-    subst (λ k. pos 0 <ℤ k) (ring2 (λ x y. (neg x :* neg x, x :* x)) (negsuc x) (pos 0) tt) (positive-times (negℤ (negsuc x)) (negℤ (negsuc x)) (omega (arith, onℤ)) (omega (arith, onℤ)))
+square-above x n = go (lt-or-le (pos 0) (x *ℤ x))
+  where
+    go : (pos 0 <ℤ (x *ℤ x)) ⊎ ((x *ℤ x) ≤ℤ pos 0) → pos 0 <ℤ (x *ℤ x)
+    go (inl h) = h
+    go (inr h) = absurd (sign-product x x n n .1 (le-antisymm h (nonneg-square x)))
 
-pub norm-above : (a b x y : ℤ) → a *ℤ x +ℤ b *ℤ y ≢ pos 0 → pos 0 <ℤ (x *ℤ x +ℤ y *ℤ y)
-norm-above a b (pos zero) y n =
-    let h = square-above y (λ e. n (ap (λ k. a *ℤ pos 0 +ℤ b *ℤ k) e ∙ ring2 (λ a b. (a :* K (pos 0) :+ b :* K (pos 0), K (pos 0))) a b tt)) in
-    omega (arith, onℤ, sumℤ (pos 0 *ℤ pos 0) (y *ℤ y))
-norm-above a b (pos (suc x)) y n = sum-above (pos (suc x) *ℤ pos (suc x)) (y *ℤ y) (square-above (pos (suc x)) (λ g. omega (arith, onℤ))) (nonneg-square y)
-norm-above a b (negsuc x) y n = sum-above (negsuc x *ℤ negsuc x) (y *ℤ y) (square-above (negsuc x) (λ g. omega (arith, onℤ))) (nonneg-square y)
 -- the square of the distance
 abbrev pub norm : Place → Place → ℤ
 norm A B = (B .x -ℤ A .x) *ℤ (B .x -ℤ A .x) +ℤ (B .y -ℤ A .y) *ℤ (B .y -ℤ A .y)
+
+-- places with different keys are apart
+pub norm-above : (f : Form) (A B : Place) → rise f A B ≢ pos 0 → pos 0 <ℤ norm A B
+norm-above f A B n = go (B .x -ℤ A .x) (B .y -ℤ A .y) (λ e. n (rise-vector f A B ∙ e))
+  where
+    go : (x y : ℤ) → f .along *ℤ x +ℤ f .across *ℤ y ≢ pos 0 → pos 0 <ℤ (x *ℤ x +ℤ y *ℤ y)
+    go x y n = step (zero-or-not x) (zero-or-not y)
+      where
+        step : (x ≡ pos 0) ⊎ (x ≢ pos 0) → (y ≡ pos 0) ⊎ (y ≢ pos 0) → pos 0 <ℤ (x *ℤ x +ℤ y *ℤ y)
+        step (inr h) k = sum-above (x *ℤ x) (y *ℤ y) (square-above x h) (nonneg-square y)
+        step (inl h) (inr k) = omega (arith, onℤ, nonneg-square x, square-above y k, sumℤ (x *ℤ x) (y *ℤ y))
+        step (inl h) (inl k) =
+            absurd (n (ap₂ (λ x y. f .along *ℤ x +ℤ f .across *ℤ y) h k ∙ ring2 (λ a b. (a :* K (pos 0) :+ b :* K (pos 0), K (pos 0))) (f .along) (f .across) tt))
 
 -- ---- on a line, the key says where
 
@@ -99,7 +106,7 @@ module _ (f : Form) (A B : Place) where
       product : pos 0 <ℤ ((rise f A P *ℤ rise f P B) *ℤ norm A B)
       product =
           positive-times (rise f A P *ℤ rise f P B) (norm A B) (positive-times (rise f A P) (rise f P B) h i)
-          (norm-above (f .along) (f .across) (B .x -ℤ A .x) (B .y -ℤ A .y) (λ g. above-not whole (rise-vector f A B ∙ g)))
+          (norm-above f A B (above-not whole))
 
       negative : (a x : ℤ) → pos 0 <ℤ a → (a *ℤ x) <ℤ pos 0 → x <ℤ pos 0
       negative a x h l = below-of-minus x (unscale-above (negℤ x) a h (subst (λ k. pos 0 <ℤ k) (ring2 (λ a x. (neg (a :* x), neg x :* a)) a x tt) (minus-above (a *ℤ x) l)))
@@ -116,7 +123,7 @@ module _ (f : Form) (A B : Place) where
       go : (rise f A P ≡ pos 0) ⊎ (rise f A P ≢ pos 0) → (P ≡ A) ⊎ (P ≡ B)
       go (inl q) = inl (sym (same-place f A B P n q e))
       go (inr q) =
-          let both = cancel (norm A B) (rise f A P *ℤ rise f P B) (above-not (norm-above (f .along) (f .across) (B .x -ℤ A .x) (B .y -ℤ A .y) (λ h. n (rise-vector f A B ∙ h)))) product in
+          let both = cancel (norm A B) (rise f A P *ℤ rise f P B) (above-not (norm-above f A B n)) product in
           let level = cancel (rise f A P) (rise f P B) q both in
           inr (sym (same-place f B A P (λ h. n (zero-swapped (key f A) (key f B) h)) (zero-swapped (key f B) (key f P) level) (turn-back A B P e)))
 

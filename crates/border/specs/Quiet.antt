@@ -29,7 +29,7 @@ use Rattle.meaning.specs.Lawful.{Lawful}
 use Rattle.border.specs.Signs.{zero-swapped}
 use Rattle.border.specs.Under.{Form, key, ahead}
 use Rattle.border.specs.Cancel.{Once, reverse, arrowsOf, border, leave-arrive}
-use Rattle.border.specs.Segment.{rise, rise-vector}
+use Rattle.border.specs.Segment.{rise}
 use Rattle.border.specs.Beside.{ClearArrow, others}
 use Rattle.border.specs.Nearest.{upward, lowEnd, highEnd, Slanted, low-high, Lone, middle}
 use Rattle.border.specs.Meet.{norm, Cross, Missed, missed-back, missed-first, apart-missed, norm-above}
@@ -127,7 +127,7 @@ four-facing a b v e =
     combine₁ ((v +ℤ v) -ℤ (a +ℤ b)) e (ring3 (λ a b v. (K (pos 4) :* ((a :- v) :* (b :- v)) :- neg ((b :- a) :* (b :- a)), ((v :+ v) :- (a :+ b)) :* ((v :+ v) :- (a :+ b)))) a b v tt)
 
 middle-inside : (f : Form) (A B M : Place) → rise f A B ≢ pos 0 → M .x +ℤ M .x ≡ A .x +ℤ B .x → M .y +ℤ M .y ≡ A .y +ℤ B .y → StrictlyInside A B M
-middle-inside f A B M n e g = record { on-line = half (turn A B M) on-line; between = below (facing A B M) (norm A B) long four }
+middle-inside f A B M n e g = record { on-line = half (turn A B M) on-line; between = below (facing A B M) (norm A B) (norm-above f A B n) four }
   where
     half : (z : ℤ) → z +ℤ z ≡ pos 0 → z ≡ pos 0
     half z h = omega (arith, onℤ, sumℤ z z)
@@ -139,9 +139,6 @@ middle-inside f A B M n e g = record { on-line = half (turn A B M) on-line; betw
           (((c :- a) :* (y :- b) :- (x :- a) :* (d :- b)) :+ ((c :- a) :* (y :- b) :- (x :- a) :* (d :- b))) :- K (pos 0),
           neg (d :- b) :* ((x :+ x) :- (a :+ c)) :+ (c :- a) :* ((y :+ y) :- (b :+ d)),
         )) (A .x) (A .y) (B .x) (B .y) (M .x) (M .y) tt)
-
-    long : pos 0 <ℤ norm A B
-    long = norm-above (f .along) (f .across) (B .x -ℤ A .x) (B .y -ℤ A .y) (λ h. n (rise-vector f A B ∙ h))
 
     four : pos 4 *ℤ facing A B M ≡ negℤ (norm A B)
     four =

@@ -28,12 +28,11 @@ use Rattle.border.specs.Sums.{one}
 use Rattle.border.specs.Under.{Form, Left, key, past, before, under, left-swapped}
 use Rattle.border.specs.Cancel.{border}
 use Rattle.border.specs.Count.{underArrow}
-use Rattle.border.specs.Segment.{corner, joint}
 use Rattle.border.specs.Beside.{border-split}
-use Rattle.border.specs.Nearest.{upward, Slanted, middle, Bare, othersAt}
+use Rattle.border.specs.Nearest.{upward, Slanted, middleOf, Bare, othersAt}
 use Rattle.border.specs.Meet.{Opposite, down, upwards, Cross}
 use Rattle.border.specs.Quiet.{NoTouch, Quiet, border-slanted, all-lone}
-use Rattle.border.specs.Clear.{steep, opposite, crosses, meets, underMiddle, rightFree, clear}
+use Rattle.border.specs.Clear.{steep, middle, opposite, crosses, meets, underMiddle, rightFree, clear}
 use Rattle.border.specs.Nudge.{row-upright}
 use Rattle.border.specs.Corners.{turned-arrow, turned-upright}
 use Rattle.border.specs.Crowd.{border-row}
@@ -73,11 +72,11 @@ side-yes m e k f g t h =
     and-both (and-both (ap₂ (λ a b. not (a || b)) (ne-eqb k (e .from) f) (ne-eqb k (e .to) g)) (and-both (le-leZ _ _ (le-of-eq t)) (le-leZ _ _ (le-of-eq (sym t))))) (le-leZ _ _ h)
 
 -- an arrow does not run under its own middle
-pub own-middle : (f : Form) (A B : Place) → under f A B (joint (corner A) (corner B)) ≡ pos 0
+pub own-middle : (f : Form) (A B : Place) → under f A B (middle A B) ≡ pos 0
 unfolding under
 own-middle f A B =
-    let M = joint (corner A) (corner B) in
-    let there : left A B M ≡ pos 0 = ring4 (λ a b c d. (Left a b c d (a :+ c) (b :+ d) (K (pos 1) :+ K (pos 1)), K (pos 0))) (A .x) (A .y) (B .x) (B .y) tt in
+    let M = middle A B in
+    let there : left A B M ≡ pos 0 = ring4 (λ a b c d. (Left a b c d (a :+ c) (b :+ d) (K (pos 2)), K (pos 0))) (A .x) (A .y) (B .x) (B .y) tt in
     let again : left B A M ≡ pos 0 = left-swapped A B M ∙ ap negℤ there in
     (λ i. one (past f A M && before f B M && ltZ (pos 0) (there i)) -ℤ one (past f B M && before f A M && ltZ (pos 0) (again i))) ∙
     ap₂ _-ℤ_ (never (past f A M) (before f B M)) (never (past f B M) (before f A M))
@@ -160,8 +159,8 @@ module _ (m : Mesh) (law : Lawful m) (c : clear (at m) (border (m .tris)) ≡ tr
   nothing-right : {e : Arrow} → List·Memᴰ e (border (m .tris)) → othersAt steep m (m .tris) e ≡ one (not (upward steep m e))
   unfolding underMiddle
   nothing-right {e} i =
-      rest (underArrow steep m (middle m e) e) (othersAt steep m (m .tris) e) (own-middle steep (at m (e .from)) (at m (e .to))) ∙
-      sym (border-split (m .tris) (law .noTwice) e i (underArrow steep m (middle m e))) ∙
+      rest (underArrow steep m (middleOf m e) e) (othersAt steep m (m .tris) e) (own-middle steep (at m (e .from)) (at m (e .to))) ∙
+      sym (border-split (m .tris) (law .noTwice) e i (underArrow steep m (middleOf m e))) ∙
       clear-right (at m) (border (m .tris)) c i ∙ ap one (falls steep m e (All-at slanted i))
     where
       rest : (a b : ℤ) → a ≡ pos 0 → b ≡ a +ℤ b

@@ -28,7 +28,7 @@ depth m s = count (λ t. inside (shape m t) s) (m .tris)
 abbrev pub OffRows : Form → Mesh → Point → Type 0
 OffRows f m s = All (λ t. Off f (shape m t) s) (m .tris)
 
-drop-zero : (a b c : ℤ) → a +ℤ (b +ℤ (c +ℤ pos 0)) ≡ a +ℤ (b +ℤ c)
+pub drop-zero : (a b c : ℤ) → a +ℤ (b +ℤ (c +ℤ pos 0)) ≡ a +ℤ (b +ℤ c)
 drop-zero a b c = let e : c +ℤ pos 0 ≡ c = omega (arith, onℤ, sumℤ c (pos 0)) in ap (λ k. a +ℤ (b +ℤ k)) e
 
 -- for any rows of positive area: all their arrows under the point

@@ -25,8 +25,8 @@ use Rattle.border.specs.Sums.{one}
 use Rattle.border.specs.Cancel.{border}
 use Rattle.border.specs.Count.{underArrow, areas-above}
 use Rattle.border.specs.Beside.{border-split}
-use Rattle.border.specs.Nearest.{middle, Bare, othersAt}
-use Rattle.border.specs.OneNumber.{depth-one, all-bare, whole-none}
+use Rattle.border.specs.Nearest.{middleOf, Bare, othersAt}
+use Rattle.border.specs.Bare.{depth-one, all-bare}
 use Rattle.border.specs.Meet.{Opposite, down, upwards, Cross}
 use Rattle.border.specs.Quiet.{NoTouch, Quiet, all-lone, border-slanted}
 use Rattle.border.specs.Clear.{steep, meets, underMiddle, rightFree, clear}
@@ -133,9 +133,7 @@ module _ (m : Mesh) (law : Lawful m) (proper : Proper m) where
 
   bare : All (Bare steep m (m .tris)) (border (m .tris))
   bare =
-      let positive = areas-above m law in
-      let lone = all-lone m law quiet in
-      all-bare steep one-across m positive (law .noTwice) lone (whole-none steep one-across m positive (law .noTwice) lone (proper .none-shared))
+      all-bare steep one-across m (areas-above m law) (law .noTwice) (all-lone m law quiet) (proper .none-shared)
     where
       one-across : steep .across ≢ pos 0
       one-across e = omega (arith, onℤ)
@@ -144,8 +142,8 @@ module _ (m : Mesh) (law : Lawful m) (proper : Proper m) where
   unfolding underMiddle
   right-free {e} i =
       let own = All-at bare i in
-      eq-sameZ _ _ (border-split (m .tris) (law .noTwice) e i (underArrow steep m (middle m e)) ∙
-      rest (underArrow steep m (middle m e) e) (othersAt steep m (m .tris) e) (own-middle steep (at m (e .from)) (at m (e .to))) ∙
+      eq-sameZ _ _ (border-split (m .tris) (law .noTwice) e i (underArrow steep m (middleOf m e)) ∙
+      rest (underArrow steep m (middleOf m e) e) (othersAt steep m (m .tris) e) (own-middle steep (at m (e .from)) (at m (e .to))) ∙
       own .nothing ∙ ap one (sym (falls steep m e (own .lone .slanted))))
     where
       rest : (a b : ℤ) → a ≡ pos 0 → a +ℤ b ≡ b

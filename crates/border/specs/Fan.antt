@@ -27,7 +27,7 @@ use Rattle.border.specs.Places.{apart-of-turn}
 use Rattle.border.specs.Sums.{when, one, when-neg, added, added-eq, added-sum, added-zero, added-count, added-joined}
 use Rattle.border.specs.Under.{Off, key, under, inside, inside-yes, yes-inside, under-swapped, one-triangle}
 use Rattle.border.specs.Cancel.{border, border-sum, leave-arrive}
-use Rattle.border.specs.Count.{OffRows, underArrow}
+use Rattle.border.specs.Count.{OffRows, underArrow, drop-zero}
 use Rattle.border.specs.Clear.{steep}
 use Rattle.border.specs.Nudge.{Upright, row-upright, nudged-rows}
 use Rattle.border.specs.Close.{toward, close, toward-weight, close-under, close-inside}
@@ -92,9 +92,6 @@ module _ (m : Mesh) (k : ℕ) (s : Point) where
   unfolding through
   not-through a b e f = ap (λ c. when c (under steep (at m a) (at m b) s)) (ap₂ _||_ e f)
 
-  drop-zero : (a b c : ℤ) → a +ℤ (b +ℤ c) ≡ a +ℤ (b +ℤ (c +ℤ pos 0))
-  drop-zero a b c = let e : c ≡ c +ℤ pos 0 = omega (arith, onℤ, sumℤ c (pos 0)) in ap (λ k. a +ℤ (b +ℤ k)) e
-
   -- one row: what its arrows through k come to, and the arrow opposite
   row-parts : (t : Tri) → pos 0 <ℤ area (shape m t) → Off steep (shape m t) s → (holdsNode k t ≡ true → All (AsAt m k s) (arrows t)) →
       one (holdsNode k t && inside (shape m t) s) ≡ added throughArrow (arrows t) +ℤ when (holdsNode k t) (added (opposite m k) (arrows t))
@@ -106,7 +103,7 @@ module _ (m : Mesh) (k : ℕ) (s : Point) where
       go : (b : Bool) → holdsNode k t ≡ b → one (b && inside (shape m t) s) ≡ added throughArrow (arrows t) +ℤ when b (added (opposite m k) (arrows t))
       go true e =
           sym (one-triangle steep (shape m t) s h o) ∙
-          drop-zero (under steep (at m (t .p)) (at m (t .q)) s) (under steep (at m (t .q)) (at m (t .r)) s) (under steep (at m (t .r)) (at m (t .p)) s) ∙
+          sym (drop-zero (under steep (at m (t .p)) (at m (t .q)) s) (under steep (at m (t .q)) (at m (t .r)) s) (under steep (at m (t .r)) (at m (t .p)) s)) ∙
           added-eq (underArrow steep m s) (λ e. throughArrow e +ℤ opposite m k e) (All-imp arrow-parts (near e)) ∙
           sym total
       go false e =

@@ -13,7 +13,7 @@ pub mod Least
 pub mod Nearest
 pub mod Near
 pub mod Sides
-pub mod OneNumber
+pub mod Bare
 pub mod Meet
 pub mod Quiet
 pub mod Keys

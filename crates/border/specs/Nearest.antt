@@ -24,9 +24,10 @@ use Rattle.border.specs.Sums.{one, added, added-eq, added-zero}
 use Rattle.border.specs.Under.{Left, Form, Off, key, under, ahead, under-swapped, ahead-not}
 use Rattle.border.specs.Cancel.{Once, arrowsOf, border}
 use Rattle.border.specs.Count.{underArrow, depth, OffRows, depth-border}
-use Rattle.border.specs.Segment.{Ahead, corner, joint, Strictly, Within, Spans, Apart, rise, spot, above, left-spot, spot-ahead, spot-strictly, spot-within}
+use Rattle.border.specs.Segment.{Ahead, Strictly, Within, Spans, Apart, rise, spot, above, left-spot, spot-ahead, spot-strictly, spot-within}
 use Rattle.border.specs.Along.{behind, under-rising}
 use Rattle.border.specs.Beside.{Clear, clear-back, others, Free, ClearArrow, Ends, forth, back, border-split, beside}
+use Rattle.border.specs.Clear.{middle}
 use Rattle.border.specs.Least.{Least, none-passes, least, find-least}
 
 -- ---- an arrow by its lower and its higher end
@@ -145,26 +146,26 @@ module _ (f : Form) (A B : Place) (up : pos 0 <ℤ rise f A B) (s : Point) (span
 -- ---- the border
 
 -- the middle of e
-abbrev pub middle : Mesh → Arrow → Point
-middle m e = joint (corner (at m (e .from))) (corner (at m (e .to)))
+abbrev pub middleOf : Mesh → Arrow → Point
+middleOf m e = middle (at m (e .from)) (at m (e .to))
 
-middle-between : (f : Form) (A B : Place) → pos 0 <ℤ rise f A B → Strictly f A B (joint (corner A) (corner B))
+middle-between : (f : Form) (A B : Place) → pos 0 <ℤ rise f A B → Strictly f A B (middle A B)
 middle-between f A B h = record {
   weight = omega (arith, onℤ);
-  on-line = ring4 (λ a b c d. (Left a b c d (a :+ c) (b :+ d) (K (pos 1) :+ K (pos 1)), K (pos 0))) (A .x) (A .y) (B .x) (B .y) tt;
-  past-low = subst (λ k. pos 0 <ℤ k) (ring6 (λ f g a b c d. ((f :* c :+ g :* d) :- (f :* a :+ g :* b), Ahead f g a b (a :+ c) (b :+ d) (K (pos 1) :+ K (pos 1)))) (f .along) (f .across) (A .x) (A .y) (B .x) (B .y) tt) h;
-  before-high = below-of-minus (ahead f B (joint (corner A) (corner B)))
-      (subst (λ k. pos 0 <ℤ k) (ring6 (λ f g a b c d. ((f :* c :+ g :* d) :- (f :* a :+ g :* b), neg (Ahead f g c d (a :+ c) (b :+ d) (K (pos 1) :+ K (pos 1))))) (f .along) (f .across) (A .x) (A .y) (B .x) (B .y) tt) h);
+  on-line = ring4 (λ a b c d. (Left a b c d (a :+ c) (b :+ d) (K (pos 2)), K (pos 0))) (A .x) (A .y) (B .x) (B .y) tt;
+  past-low = subst (λ k. pos 0 <ℤ k) (ring6 (λ f g a b c d. ((f :* c :+ g :* d) :- (f :* a :+ g :* b), Ahead f g a b (a :+ c) (b :+ d) (K (pos 2)))) (f .along) (f .across) (A .x) (A .y) (B .x) (B .y) tt) h;
+  before-high = below-of-minus (ahead f B (middle A B))
+      (subst (λ k. pos 0 <ℤ k) (ring6 (λ f g a b c d. ((f :* c :+ g :* d) :- (f :* a :+ g :* b), neg (Ahead f g c d (a :+ c) (b :+ d) (K (pos 2))))) (f .along) (f .across) (A .x) (A .y) (B .x) (B .y) tt) h);
 }
 -- it is strictly between the ends
-pub middle-on : (f : Form) (m : Mesh) (e : Arrow) → Slanted f m e → Strictly f (lowEnd f m e) (highEnd f m e) (middle m e)
+pub middle-on : (f : Form) (m : Mesh) (e : Arrow) → Slanted f m e → Strictly f (lowEnd f m e) (highEnd f m e) (middleOf m e)
 middle-on f m e n = go (upward f m e) (low-high f m e n)
   where
-    swapped : (A B : Place) → joint (corner B) (corner A) ≡ joint (corner A) (corner B)
-    swapped A B = λ i. record { X = +ℤ-comm (B .x) (A .x) i; Y = +ℤ-comm (B .y) (A .y) i; W = pos 1 +ℤ pos 1 }
+    swapped : (A B : Place) → middle B A ≡ middle A B
+    swapped A B = λ i. record { X = +ℤ-comm (B .x) (A .x) i; Y = +ℤ-comm (B .y) (A .y) i; W = pos 2 }
 
     go : (b : Bool) → pos 0 <ℤ rise f (cases b (at m (e .from)) (at m (e .to))) (cases b (at m (e .to)) (at m (e .from))) →
-        Strictly f (cases b (at m (e .from)) (at m (e .to))) (cases b (at m (e .to)) (at m (e .from))) (middle m e)
+        Strictly f (cases b (at m (e .from)) (at m (e .to))) (cases b (at m (e .to)) (at m (e .from))) (middleOf m e)
     go true h = middle-between f (at m (e .from)) (at m (e .to)) h
     go false h = subst (Strictly f (at m (e .to)) (at m (e .from))) (swapped (at m (e .from)) (at m (e .to))) (middle-between f (at m (e .to)) (at m (e .from)) h)
 
@@ -172,11 +173,11 @@ middle-on f m e n = go (upward f m e) (low-high f m e n)
 pub record Lone (f : Form) (m : Mesh) (ts : List Tri) (e : Arrow) : Type 0 where
   pub slanted : Slanted f m e
   pub clear : All (ClearArrow f m (lowEnd f m e) (highEnd f m e)) (others e (border ts))
-  pub middle-free : All (Free f m (middle m e)) (others e (border ts))
+  pub middle-free : All (Free f m (middleOf m e)) (others e (border ts))
 
 -- what the other border arrows come to at e's middle
 abbrev pub othersAt : Form → Mesh → List Tri → Arrow → ℤ
-othersAt f m ts e = added (underArrow f m (middle m e)) (others e (border ts))
+othersAt f m ts e = added (underArrow f m (middleOf m e)) (others e (border ts))
 
 -- and no row lies just right of e: the others come to what e itself takes away there
 pub record Bare (f : Form) (m : Mesh) (ts : List Tri) (e : Arrow) : Type 0 where
@@ -257,7 +258,7 @@ module _ (f : Form) (m : Mesh) (ts : List Tri) (no-twice : Once (arrowsOf ts)) (
     others-sum =
         added-eq (underArrow f m s) (underArrow f m foot)
         (All-imp (λ d (b, (g, (c, n))). same-foot d b g c n) (All-both (kept bare) (All-both (kept free) (All-both (own .lone .clear) (kept nearest))))) ∙
-        beside f m ts no-twice (A′ e) (B′ e) up e (arrow-ends f m e) (middle m e) foot (middle-on f m e (own .lone .slanted)) foot-on
+        beside f m ts no-twice (A′ e) (B′ e) up e (arrow-ends f m e) (middleOf m e) foot (middle-on f m e (own .lone .slanted)) foot-on
         (All-imp (λ d (c, (p, g)). (c, p, free-foot d g)) (All-both (own .lone .clear) (All-both (own .lone .middle-free) (kept free)))) ∙
         own .nothing
       where

@@ -31,7 +31,7 @@ use Rattle.border.specs.Under.{Form, key, ahead}
 use Rattle.border.specs.Cancel.{Once, reverse, arrowsOf, border, leave-arrive}
 use Rattle.border.specs.Segment.{rise}
 use Rattle.border.specs.Beside.{ClearArrow, others}
-use Rattle.border.specs.Nearest.{upward, lowEnd, highEnd, Slanted, low-high, Lone, middle}
+use Rattle.border.specs.Nearest.{upward, lowEnd, highEnd, Slanted, low-high, Lone, middleOf}
 use Rattle.border.specs.Meet.{norm, Cross, Missed, missed-back, missed-first, apart-missed, norm-above}
 
 -- node k is not strictly inside e, and stands at an end's place only if it is that end
@@ -152,14 +152,14 @@ middle-inside f A B M n e g = record { on-line = half (turn A B M) on-line; betw
 -- ---- a quiet border is one of lone arrows
 
 module _ (m : Mesh) (law : Lawful m) (quiet : Quiet m) where
-  middle-free : (e : Arrow) → List·Memᴰ e (border (m .tris)) → (v : ℕ) → ¬ StrictlyInside (at m (e .from)) (at m (e .to)) (at m v) → ahead steep (at m v) (middle m e) ≢ pos 0
+  middle-free : (e : Arrow) → List·Memᴰ e (border (m .tris)) → (v : ℕ) → ¬ StrictlyInside (at m (e .from)) (at m (e .to)) (at m v) → ahead steep (at m v) (middleOf m e) ≢ pos 0
   middle-free e i v out g =
       let (x, y) = steep-doubles (place-range m law v) (place-range m law (e .from)) (place-range m law (e .to)) (double (key steep (at m v)) (key steep (at m (e .from))) (key steep (at m (e .to))) (sym split ∙ g)) in
       out (middle-inside steep (at m (e .from)) (at m (e .to)) (at m v) (All-at (border-slanted m law) i) x y)
     where
-      split : ahead steep (at m v) (middle m e) ≡ (key steep (at m (e .from)) +ℤ key steep (at m (e .to))) -ℤ (key steep (at m v) +ℤ key steep (at m v))
+      split : ahead steep (at m v) (middleOf m e) ≡ (key steep (at m (e .from)) +ℤ key steep (at m (e .to))) -ℤ (key steep (at m v) +ℤ key steep (at m v))
       split =
-          ring8 (λ f g a b c d x y. ((f :* (a :+ c) :+ g :* (b :+ d)) :- (f :* x :+ g :* y) :* (K (pos 1) :+ K (pos 1)), ((f :* a :+ g :* b) :+ (f :* c :+ g :* d)) :- ((f :* x :+ g :* y) :+ (f :* x :+ g :* y))))
+          ring8 (λ f g a b c d x y. ((f :* (a :+ c) :+ g :* (b :+ d)) :- (f :* x :+ g :* y) :* K (pos 2), ((f :* a :+ g :* b) :+ (f :* c :+ g :* d)) :- ((f :* x :+ g :* y) :+ (f :* x :+ g :* y))))
           (steep .along) (steep .across) (at m (e .from) .x) (at m (e .from) .y) (at m (e .to) .x) (at m (e .to) .y) (at m v .x) (at m v .y) tt
 
       double : (k a b : ℤ) → (a +ℤ b) -ℤ (k +ℤ k) ≡ pos 0 → k +ℤ k ≡ a +ℤ b

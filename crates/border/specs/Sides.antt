@@ -24,7 +24,7 @@ use Rattle.border.specs.Count.{underArrow, depth, OffRows, depth-border}
 use Rattle.border.specs.Segment.{Strictly, Within, above}
 use Rattle.border.specs.Along.{behind}
 use Rattle.border.specs.Beside.{others, Free, border-split}
-use Rattle.border.specs.Nearest.{upward, lowEnd, highEnd, signed, beneath, Slanted, middle, middle-on, Lone, othersAt, clear-ends, free-ends, under-beneath}
+use Rattle.border.specs.Nearest.{upward, lowEnd, highEnd, signed, beneath, Slanted, middleOf, middle-on, Lone, othersAt, clear-ends, free-ends, under-beneath}
 use Rattle.border.specs.Near.{tilt-back, Eventually, both-from, imply-from, all-from, line, line-above, line-not, near, tilt, growth, left-near, ahead-near, weight-stays, Direction, direction-back, directions, point-near, line-minus}
 
 -- ---- signs that stay
@@ -82,42 +82,42 @@ module _ (f : Form) (s : Point) (u v : ℤ) where
 -- ---- on either side of a border arrow
 
 module _ (f : Form) (m : Mesh) (ts : List Tri) (slanted : All (Slanted f m) (border ts)) (e : Arrow) (lone : Lone f m ts e) (u v : ℤ) where
-  on : Strictly f (lowEnd f m e) (highEnd f m e) (middle m e)
+  on : Strictly f (lowEnd f m e) (highEnd f m e) (middleOf m e)
   on = middle-on f m e (lone .slanted)
 
   -- the others count as at e's middle
-  others-near : Eventually (λ n. added (underArrow f m (near (middle m e) u v n)) (others e (border ts)) ≡ othersAt f m ts e)
+  others-near : Eventually (λ n. added (underArrow f m (near (middleOf m e) u v n)) (others e (border ts)) ≡ othersAt f m ts e)
   others-near =
-      imply-from (λ n h. added-eq (underArrow f m (near (middle m e) u v n)) (underArrow f m (middle m e)) h)
-      (all-from (All-imp (λ d (k, (g, c)). under-stays f (middle m e) u v m (on .weight) d k g
-      (clear-ends f m d (lowEnd f m e) (highEnd f m e) c .apart (middle m e) on))
+      imply-from (λ n h. added-eq (underArrow f m (near (middleOf m e) u v n)) (underArrow f m (middleOf m e)) h)
+      (all-from (All-imp (λ d (k, (g, c)). under-stays f (middleOf m e) u v m (on .weight) d k g
+      (clear-ends f m d (lowEnd f m e) (highEnd f m e) c .apart (middleOf m e) on))
       (All-both (only-keeps (λ d. not (sameArrow e d)) slanted) (All-both (lone .middle-free) (lone .clear)))))
 
-  ends-free : Free f m (middle m e) e
+  ends-free : Free f m (middleOf m e) e
   ends-free = go (upward f m e) (on .past-low) (on .before-high)
     where
-      go : (b : Bool) → pos 0 <ℤ ahead f (cases b (at m (e .from)) (at m (e .to))) (middle m e) → ahead f (cases b (at m (e .to)) (at m (e .from))) (middle m e) <ℤ pos 0 → Free f m (middle m e) e
+      go : (b : Bool) → pos 0 <ℤ ahead f (cases b (at m (e .from)) (at m (e .to))) (middleOf m e) → ahead f (cases b (at m (e .to)) (at m (e .from))) (middleOf m e) <ℤ pos 0 → Free f m (middleOf m e) e
       go true h i = record { from-free = above-not h; to-free = below-not i }
       go false h i = record { from-free = below-not i; to-free = above-not h }
 
   -- e itself counts as the direction turns
-  own-near : Eventually (λ n. underArrow f m (near (middle m e) u v n) e ≡ signed (upward f m e) (one (ltZ (pos 0) (tilt (lowEnd f m e) (highEnd f m e) u v))))
+  own-near : Eventually (λ n. underArrow f m (near (middleOf m e) u v n) e ≡ signed (upward f m e) (one (ltZ (pos 0) (tilt (lowEnd f m e) (highEnd f m e) u v))))
   own-near =
-      imply-from (λ n (w, (g, (a, b))). under-beneath f m e (near (middle m e) u v n) (lone .slanted) w g ∙
+      imply-from (λ n (w, (g, (a, b))). under-beneath f m e (near (middleOf m e) u v n) (lone .slanted) w g ∙
       ap (signed (upward f m e)) (λ i. one (low-past n a i && (not (high-not n b i) && side n i))))
-      (both-from (weight-stays (middle m e) u v (on .weight)) (both-from (free-near f (middle m e) u v m (on .weight) e (lone .slanted) ends-free)
-      (both-from (behind-stays f (middle m e) u v (lowEnd f m e) (free-ends f m e (middle m e) ends-free .0))
-      (behind-stays f (middle m e) u v (highEnd f m e) (free-ends f m e (middle m e) ends-free .1)))))
+      (both-from (weight-stays (middleOf m e) u v (on .weight)) (both-from (free-near f (middleOf m e) u v m (on .weight) e (lone .slanted) ends-free)
+      (both-from (behind-stays f (middleOf m e) u v (lowEnd f m e) (free-ends f m e (middleOf m e) ends-free .0))
+      (behind-stays f (middleOf m e) u v (highEnd f m e) (free-ends f m e (middleOf m e) ends-free .1)))))
     where
-      low-past : (n : ℕ) → behind f (lowEnd f m e) (near (middle m e) u v n) ≡ behind f (lowEnd f m e) (middle m e) → behind f (lowEnd f m e) (near (middle m e) u v n) ≡ true
-      low-past n h = h ∙ lt-ltZ (pos 0) (ahead f (lowEnd f m e) (middle m e)) (on .past-low)
+      low-past : (n : ℕ) → behind f (lowEnd f m e) (near (middleOf m e) u v n) ≡ behind f (lowEnd f m e) (middleOf m e) → behind f (lowEnd f m e) (near (middleOf m e) u v n) ≡ true
+      low-past n h = h ∙ lt-ltZ (pos 0) (ahead f (lowEnd f m e) (middleOf m e)) (on .past-low)
 
-      high-not : (n : ℕ) → behind f (highEnd f m e) (near (middle m e) u v n) ≡ behind f (highEnd f m e) (middle m e) → behind f (highEnd f m e) (near (middle m e) u v n) ≡ false
+      high-not : (n : ℕ) → behind f (highEnd f m e) (near (middleOf m e) u v n) ≡ behind f (highEnd f m e) (middleOf m e) → behind f (highEnd f m e) (near (middleOf m e) u v n) ≡ false
       high-not n h = h ∙ lt-not (on .before-high)
 
-      side : (n : ℕ) → above (lowEnd f m e) (highEnd f m e) (near (middle m e) u v n) ≡ ltZ (pos 0) (tilt (lowEnd f m e) (highEnd f m e) u v)
+      side : (n : ℕ) → above (lowEnd f m e) (highEnd f m e) (near (middleOf m e) u v n) ≡ ltZ (pos 0) (tilt (lowEnd f m e) (highEnd f m e) u v)
       side n =
-          ap (ltZ (pos 0)) (left-near (lowEnd f m e) (highEnd f m e) (middle m e) u v n ∙ ap (λ k. line k (tilt (lowEnd f m e) (highEnd f m e) u v) n) (on .on-line) ∙
+          ap (ltZ (pos 0)) (left-near (lowEnd f m e) (highEnd f m e) (middleOf m e) u v n ∙ ap (λ k. line k (tilt (lowEnd f m e) (highEnd f m e) u v) n) (on .on-line) ∙
           ring3 (λ n t z. (n :* K (pos 0) :+ t, t)) (pos n) (tilt (lowEnd f m e) (highEnd f m e) u v) (pos 0) tt)
 
 -- the direction turns left or right of every arrow
@@ -190,7 +190,7 @@ module _ (f : Form) (across : f .across ≢ pos 0) (m : Mesh) (positive : All (�
     (slanted : All (Slanted f m) (border (m .tris))) (e : Arrow) (here : List·Memᴰ e (border (m .tris))) (lone : Lone f m (m .tris) e) where
   depth-toward : (k u v : ℤ) → Direction f m u v → signed (upward f m e) (one (ltZ (pos 0) (tilt (lowEnd f m e) (highEnd f m e) u v))) ≡ k → Depth f m (k +ℤ othersAt f m (m .tris) e)
   depth-toward k u v d own =
-      let (p, w, off, (a, b)) = point-near f m (middle m e) u v (middle-on f m e (lone .slanted) .weight) d
+      let (p, w, off, (a, b)) = point-near f m (middleOf m e) u v (middle-on f m e (lone .slanted) .weight) d
       (λ p. (underArrow f m p e ≡ signed (upward f m e) (one (ltZ (pos 0) (tilt (lowEnd f m e) (highEnd f m e) u v)))) × (added (underArrow f m p) (others e (border (m .tris))) ≡ othersAt f m (m .tris) e))
       (both-from (own-near f m (m .tris) slanted e lone u v) (others-near f m (m .tris) slanted e lone u v)) in
       record { point = p; weight = w; off = off; is = depth-border f m p positive no-twice off ∙ border-split (m .tris) no-twice e here (underArrow f m p) ∙ ap₂ _+ℤ_ (a ∙ own) b }

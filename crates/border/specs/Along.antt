@@ -96,9 +96,11 @@ module _ (f : Form) (A B : Place) (low-high : pos 0 <ℤ rise f A B) (s t : Poin
           let q : rise f v B *ℤ t .W ≡ ahead f v t -ℤ ahead f B t = ring4 (λ v b k w. ((b :- v) :* w, (k :- v :* w) :- (k :- b :* w))) (key f v) (key f B) (keyAt f t) (t .W) tt in
           unscale-above (rise f v B) (t .W) (ht .weight)
           (from-difference (rise f v B *ℤ t .W) (ahead f v t) (ahead f B t) q (ltZ-true (pos 0) (ahead f v t) g) (lt-le (ht .before-high)))
+
   module _ (C D : Place) (up : pos 0 <ℤ rise f C D) (apart : Apart f A B C D) where
     within-at : (p : Point) → behind f C p ≡ true → behind f D p ≡ false → Within f C D p
     within-at p e g = record { from-low = lt-le (ltZ-true (pos 0) (ahead f C p) e); to-high = ltZ-false (pos 0) (ahead f D p) g }
+
     within-start : Within f C D (corner C)
     within-start = record { from-low = subst (λ k. pos 0 ≤ℤ k) (sym (ahead-corner f C C)) (own (key f C)); to-high = subst (λ k. k ≤ℤ pos 0) (sym (ahead-corner f D C)) (lt-le (below-swapped (key f C) (key f D) up)) }
       where
@@ -121,6 +123,7 @@ module _ (f : Form) (A B : Place) (low-high : pos 0 <ℤ rise f A B) (s t : Poin
             ap (ltZ (pos 0)) (ring3 (λ a r z. (a :* K (pos 0) :- r :* z, neg z :* r)) a r z tt) ∙
             both-ways _ _ (λ e. lt-ltZ z (pos 0) (below-of-minus z (unscale-above (negℤ z) r h (ltZ-true (pos 0) (negℤ z *ℤ r) e))))
             (λ e. lt-ltZ (pos 0) (negℤ z *ℤ r) (positive-times (negℤ z) r (minus-above z (ltZ-true z (pos 0) e)) h))
+
     -- an arrow that rises and does not meet the segment
     pub moved : Earlier f s t → ahead f D s ≢ pos 0 → ahead f D t ≢ pos 0 → under f C D t -ℤ under f C D s ≡ between f A B s t C -ℤ between f A B s t D
     unfolding between

@@ -36,6 +36,7 @@ pub record Clear (f : Form) (A B C D : Place) : Type 0 where
 
 pub clear-back : (f : Form) (A B C D : Place) → Clear f A B C D → Clear f A B D C
 clear-back f A B C D h = record { slanted = λ e. h .slanted (zero-swapped (key f C) (key f D) e); apart = h .apart-back; apart-back = h .apart }
+
 -- one of two ends is the lower
 pub data Slant (f : Form) (C D : Place) : Type 0 where
   rising : pos 0 <ℤ rise f C D → Slant f C D
@@ -147,6 +148,7 @@ module _ (f : Form) (m : Mesh) (ts : List Tri) (no-twice : Once (arrowsOf ts)) (
         added-eq (λ d. underArrow f m t d -ℤ underArrow f m s d) (λ d. between f A B s t (at m (d .from)) -ℤ between f A B s t (at m (d .to)))
         (All-imp (λ d (c, p, q). moved-any f A B low-high s t hs ht early (at m (d .from)) (at m (d .to)) c (p .from-free) (p .to-free) (q .from-free) (q .to-free)) h) ∙
         others-balance (λ k. between f A B s t (at m k)) ends-out)
+
   -- at any two points of e
   pub beside : Ends m e A B → (s t : Point) → Strictly f A B s → Strictly f A B t → All (λ d. ClearArrow f m A B d × Free f m s d × Free f m t d) (others e (border ts)) →
       added (underArrow f m t) (others e (border ts)) ≡ added (underArrow f m s) (others e (border ts))

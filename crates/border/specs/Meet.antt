@@ -100,6 +100,7 @@ module _ (f : Form) (A B : Place) where
     where
       whole : pos 0 <ℤ rise f A B
       whole = subst (λ k. pos 0 <ℤ k) (sym (rise-split P)) (sum-above (rise f A P) (rise f P B) h (lt-le i))
+
       square : pos 0 <ℤ (rise f A B *ℤ rise f A B)
       square = positive-times (rise f A B) (rise f A B) whole whole
 
@@ -254,8 +255,10 @@ module _ (f : Form) (A B C D : Place) (low-high : pos 0 <ℤ rise f A B) (slante
   -- the lower key is the one that is farther behind
   rises : (P Q : Place) → ahead f Q s <ℤ ahead f P s → pos 0 <ℤ rise f P Q
   rises P Q h = unscale-above (rise f P Q) (s .W) (on .weight) (subst (λ k. pos 0 <ℤ k) (sym (rise-ahead P Q)) (difference-above (ahead f P s) (ahead f Q s) h))
+
   level : (P Q : Place) → ahead f P s ≡ ahead f Q s → rise f P Q ≡ pos 0
   level P Q e = cancel (s .W) (rise f P Q) (above-not (on .weight)) (ring2 (λ w r. (w :* r, r :* w)) (s .W) (rise f P Q) tt ∙ rise-ahead P Q ∙ zero-of-equal (ahead f P s) (ahead f Q s) e)
+
   below-trans : {a b : ℤ} → a <ℤ pos 0 → pos 0 ≤ℤ b → a <ℤ b
   below-trans h i = omega (arith, onℤ)
 
@@ -271,6 +274,7 @@ module _ (f : Form) (A B C D : Place) (low-high : pos 0 <ℤ rise f A B) (slante
       missed .c-out (key-inside f A B C (rises A C (subst (λ k. k <ℤ ahead f A s) (sym e) (on .past-low))) (rises C B (subst (λ k. ahead f B s <ℤ k) (sym e) (on .before-high)))
       (cancel (negℤ (ahead f D s)) (turn A B C) (λ g. slanted (level C D (e ∙ sym (zero-of-minus (ahead f D s) g))))
       (sym (ap (λ k. negℤ (ahead f D s) *ℤ turn A B C +ℤ k *ℤ turn A B D) e ∙ ring2 (λ a b. (a :+ K (pos 0) :* b, a)) (negℤ (ahead f D s) *ℤ turn A B C) (turn A B D) tt) ∙ weighed)))
+
   at-end : ahead f D s ≡ pos 0 → ⊥
   at-end e =
       missed .d-out (key-inside f A B D (rises A D (subst (λ k. k <ℤ ahead f A s) (sym e) (on .past-low))) (rises D B (subst (λ k. ahead f B s <ℤ k) (sym e) (on .before-high)))

@@ -157,6 +157,7 @@ middle-between f A B h = record {
   before-high = below-of-minus (ahead f B (middle A B))
       (subst (λ k. pos 0 <ℤ k) (ring6 (λ f g a b c d. ((f :* c :+ g :* d) :- (f :* a :+ g :* b), neg (Ahead f g c d (a :+ c) (b :+ d) (K (pos 2))))) (f .along) (f .across) (A .x) (A .y) (B .x) (B .y) tt) h);
 }
+
 -- it is strictly between the ends
 pub middle-on : (f : Form) (m : Mesh) (e : Arrow) → Slanted f m e → Strictly f (lowEnd f m e) (highEnd f m e) (middleOf m e)
 middle-on f m e n = go (upward f m e) (low-high f m e n)

@@ -132,6 +132,7 @@ module _ (f : Form) (A B C D : Place) (apart : Apart f A B C D) where
       let ha : pos 0 <ℤ a = minus-above (left C D t) r in
       apart (mix a s b t) (mix-strictly f A B a b s t ha l hs ht) (mix-within f C D a b s t ha l ws wt)
       (left-mix C D a b s t ∙ ring2 (λ x y. (neg y :* x :+ x :* y, K (pos 0))) (left C D s) (left C D t) tt)
+
   -- all points of A–B between the keys of C and D are on one side of C–D
   pub one-side : (s t : Point) → Strictly f A B s → Within f C D s → Strictly f A B t → Within f C D t → above C D s ≡ above C D t
   one-side s t hs ws ht wt = go (above C D s) (above C D t) refl refl

@@ -163,6 +163,7 @@ module _ (f : Form) (across : f .across ≢ pos 0) (m : Mesh) (positive : All (�
         direction = direction-back f m (l .u) (l .v) (l .direction);
         turns = subst (λ k. k <ℤ pos 0) (sym (tilt-back (at m (e .from)) (at m (e .to)) (l .u) (l .v))) (minus-below (tilt (at m (e .from)) (at m (e .to)) (l .u) (l .v)) (l .turns));
       }
+
 module _ (f : Form) (m : Mesh) (e : Arrow) (u v : ℤ) where
   -- right of it an arrow that falls takes one away; left of it one that rises adds one
   own-right : tilt (at m (e .from)) (at m (e .to)) u v <ℤ pos 0 → signed (upward f m e) (one (ltZ (pos 0) (tilt (lowEnd f m e) (highEnd f m e) u v))) ≡ negℤ (one (not (upward f m e)))

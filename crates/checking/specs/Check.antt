@@ -1,6 +1,6 @@
 -- The base check: after 1 to 7 come 11, 12 and 10. Assumes nothing.
 use mathlib.Core.Path.{_≡_, refl, sym, ap, ap₂, _∙_}
-use mathlib.Core.Bool.{Bool, true, false, not}
+use mathlib.Core.Bool.{Bool, true, false, not, Bool·not-not}
 use mathlib.Core.List.{List, []}
 use Prim.Native.Nat.{ℕ, _+_, _*_, _/_, _≤_, _<_}
 use native.Mathlib.Omega.{arith}
@@ -109,11 +109,7 @@ unfolding compatible refusal meshOf
 late-number nodes rows n t law c y r k d q e h =
     let m = meshIn nodes rows n t in
     let i : lowest (clashAt rows t) 0 t ≡ firstClash m = clash-is nodes rows [] n t (lawful-refusal m law) in
-    h ∙ ap₂ numberOf e (q ∙ ap isFound (d ∙ i) ∙ twice (isFound (firstClash m))) ∙ number-is m
-  where
-    twice : (b : Bool) → b ≡ not (not b)
-    twice true = refl
-    twice false = refl
+    h ∙ ap₂ numberOf e (q ∙ ap isFound (d ∙ i) ∙ sym (Bool·not-not (isFound (firstClash m)))) ∙ number-is m
 
 -- ---- after 1 to 7
 

@@ -17,7 +17,6 @@ use Rattle.meaning.specs.Lawful.{InBounds, Lawful, Names, rowOf}
 use Rattle.meaning.specs.Tables.{Given, meshOf, cleared}
 use Rattle.meaning.specs.Calls.{sizesFit, askNo, told, asks, Heard, askOut}
 use Rattle.meaning.specs.Asking.{HoldsPoint, weights, Covered, dxOf, dyOf, correctionIn}
-use Rattle.laws.specs.Lawful.{refusal-exact, applies-from-3}
 use Rattle.laws.specs.Late.{late-not-1}
 use Rattle.laws.specs.Weights.{weights-sum}
 use Rattle.laws.specs.RowMean.{CornerOf}

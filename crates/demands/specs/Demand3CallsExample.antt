@@ -23,6 +23,7 @@ use Rattle.meaning.specs.Asking.{weighted, weights, meanIn, rowHolding, correct
 use Rattle.meaning.specs.Tables.{Given, Outcome, given, outcome, answer, nodeAt, rowAt, meshOf}
 use Rattle.meaning.specs.Calls.{culpritOf, checkNo, refineNo, coarsenNo, checks, refines, coarsens, restores, sets, sizesFit, checkOut, refineOut, coarsenOut, restoreOut, setOut, askNo, told, asks, Heard, heard, askOut}
 use Rattle.laws.specs.TableMesh.{tablesAfter}
+use Rattle.laws.specs.CallLaw.{Sizes}
 use Rattle.proper.specs.Flawless.{Flawless}
 use Rattle.demands.specs.InFour.{InFour}
 use Rattle.demands.specs.AskCall.{AskDone}
@@ -248,9 +249,10 @@ asked-alike r a = asked-same S _ S-checked refl a asked-second
 
 -- The tables that the calls of `history` left hold a lawful, proper mesh.
 S4-flawless : Flawless (meshOf S4)
+unfolding leaving
 S4-flawless = grew-flawless S _ S-checked refl (held-grew history)
 
 -- A question about the place of node 4 is told what the node carries, as any row that holds it would have it.
 node-4 : (o : Heard) → o ≡ askOut S4 4 (place (pos 4) (pos 4)) → Sizes S4 4 → o .told ≡ told 0 0 toSet
-unfolding bears square nodesCut cutSet toSet S4 items itemsFrom nodeAt meshOf
+unfolding bears square nodesCut cutSet toSet leaving S4 items itemsFrom nodeAt meshOf
 node-4 o e s = node-tells S _ S-checked refl (held-grew history) 4 (place (pos 4) (pos 4)) o e s 4 (omega arith) refl

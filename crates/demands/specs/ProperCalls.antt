@@ -79,11 +79,17 @@ unfolding meshOf
 same-mesh g ns rs s e f F = subst₂ (λ ns rs. Flawless (meshOf (given ns rs s (g .n) (g .t)))) (sym e) (sym f) F
 
 refused-as-given : {g : Given} {o : Outcome} → Made g o → o .answer .number ≢ 0 → AsGiven g o
-refused-as-given {g} (check-made e) n = subst (AsGiven g) (sym e) (check-leaves g .all-as-given)
-refused-as-given {g} (refine-made w n0 marks e) n = subst (AsGiven g) (sym e) (refine-leaves g n0 w marks .refusal-leaves (λ z. n (ap (λ x. x .answer .number) e ∙ z)))
-refused-as-given {g} (coarsen-made n0 marks e) n = subst (AsGiven g) (sym e) (coarsen-leaves g n0 marks .refusal-leaves (λ z. n (ap (λ x. x .answer .number) e ∙ z)))
-refused-as-given {g} (set-made n0 y c e) n = subst (AsGiven g) (sym e) (set-leaves g n0 y c .refusal-leaves (λ z. n (ap (λ x. x .answer .number) e ∙ z)))
-refused-as-given {g} (restore-made n0 e) n = subst (AsGiven g) (sym e) (restore-leaves g n0 .refusal-leaves (λ z. n (ap (λ x. x .answer .number) e ∙ z)))
+refused-as-given {g} {o} m n = go m
+  where
+    left : {x : Outcome} → o ≡ x → (x .answer .number ≢ 0 → AsGiven g x) → AsGiven g o
+    left e h = subst (AsGiven g) (sym e) (h (λ z. n (ap (λ y. y .answer .number) e ∙ z)))
+
+    go : Made g o → AsGiven g o
+    go (check-made e) = left e (λ z. check-leaves g .all-as-given)
+    go (refine-made w n0 marks e) = left e (refine-leaves g n0 w marks .refusal-leaves)
+    go (coarsen-made n0 marks e) = left e (coarsen-leaves g n0 marks .refusal-leaves)
+    go (set-made n0 y c e) = left e (set-leaves g n0 y c .refusal-leaves)
+    go (restore-made n0 e) = left e (restore-leaves g n0 .refusal-leaves)
 
 -- ---- the theorem
 

@@ -1,7 +1,6 @@
 -- A base that the check admits is lawful and has a compatible labelling, which is what demand 3 asks of it. (That each number is given exactly when its
 -- line says stands in crates/proper, which knows what 11 and 12 mean.) Assumes nothing.
 use mathlib.Core.Path.{_≡_}
-use Prim.Native.Nat.{ℕ}
 use native.Mathlib.Omega.{arith}
 use Rattle.meaning.specs.Mesh.{Mesh}
 use Rattle.meaning.specs.Lawful.{Lawful, Compatible, refusal, compatible}

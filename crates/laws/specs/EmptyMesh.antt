@@ -1,16 +1,16 @@
 -- "The empty mesh (n = t = 0) is lawful": every call says 0 of it, in tables that fit, with no marks. Assumes nothing.
-use mathlib.Core.List.{List, []}
-use mathlib.Core.Path.{_≡_, refl, subst, _∙_}
+use mathlib.Core.List.{[]}
+use mathlib.Core.Path.{_≡_, refl, _∙_}
 use Prim.Native.Nat.{ℕ}
 use native.Mathlib.Omega.{arith}
 use Rattle.lists.specs.Lists.{nil}
 use Rattle.lists.specs.Search.{lowest, lowestFrom, items, itemsFrom}
-use Rattle.meaning.specs.Mesh.{Mesh, mesh}
+use Rattle.meaning.specs.Mesh.{mesh}
 use Rattle.meaning.specs.Lawful.{Lawful, compatible, firstClash}
 use Rattle.meaning.specs.Proper.{firstCrowded, firstOverlap, uncrowded, disjoint}
 use Rattle.meaning.specs.Split.{Way, closure, splitEdges, splitAt, split, refined}
 use Rattle.meaning.specs.Tables.{Given, Room, meshOf, roomOf}
-use Rattle.meaning.specs.Calls.{checkNo, refineNo, coarsenNo, checkOut, refineOut, coarsenOut, restoreOut}
+use Rattle.meaning.specs.Calls.{checkNo, refineNo, checkOut, refineOut, coarsenOut, restoreOut}
 use Rattle.laws.specs.Lawful.{lawful-refusal}
 use Rattle.laws.specs.Marks.{WellMarked}
 use Rattle.laws.specs.Refine.{refine-0}

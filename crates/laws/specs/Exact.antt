@@ -8,11 +8,11 @@ use Prim.Native.Nat.{ℕ, zero, suc, _<_}
 use native.Mathlib.Omega.{arith}
 use Rattle.lists.specs.Lists.{any}
 use Rattle.lists.specs.ListsLaw.{clash, any-at, any-row}
+use Rattle.lists.specs.PartsLaw.{not-so}
 use Rattle.meaning.specs.Calls.{orElse}
 
 pub refuted : (b : Bool) → (b ≡ true → ⊥) → b ≡ false
-refuted true h = absurd (h refl)
-refuted false h = refl
+refuted = not-so
 
 pub unfit : (b : Bool) {P : Type 0} → (b ≡ true) ↔ P → (b ≡ false) ↔ (¬ P)
 unfit b e = (λ q h. clash (sym (e .1 h) ∙ q), λ n. refuted b (λ q. n (e .0 q)))

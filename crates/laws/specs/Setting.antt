@@ -9,7 +9,7 @@ use native.Mathlib.Omega.{arith}
 use lib.Dec.{leb, ltb}
 use lib.IntN.{pos}
 use lib.Signed.{_<ℤ_}
-use lib.ListN.{length, getD, set, length-set}
+use lib.ListN.{length, set, length-set}
 use lib.Seq.{getD-set-same, getD-set-other, map-set-same}
 use borrow.Author.Tests.{leb-true, leb-false, ltb-true, ltb-false}
 use Rattle.lists.specs.declared.Found.{Found}
@@ -18,7 +18,6 @@ use Rattle.lists.specs.Lists.{onFound, All, nil, cons}
 use Rattle.lists.specs.ListsLaw.{clash, All-imp, All-getD}
 use Rattle.meaning.specs.declared.Node.{Node}
 use Rattle.meaning.specs.declared.Correction.{Correction}
-use Rattle.meaning.specs.declared.Fault.{Fault}
 use Rattle.meaning.specs.Mesh.{Mesh, node, nodeOf, at, origin, total}
 use Rattle.meaning.specs.Lawful.{InBounds, NodeInRange, Lawful, Applies, Other, Names, names-3, names-none, beyond, firstOutside, fault, orLater}
 use Rattle.meaning.specs.Setting.{corrected, SetApplies, of-mesh, value-out, base-node, not-below, SetSays, SetNames, names-stored, names-given, foundIf, orFound, setFault}

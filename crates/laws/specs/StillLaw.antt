@@ -1,14 +1,11 @@
 -- Where no node goes, a mesh stays as it is: a pass over a mesh with no good node changes nothing. Assumes nothing.
-use mathlib.Core.Bool.{Bool, true, false}
-use mathlib.Core.List.{List, [], _∷_, _++_, map}
-use mathlib.Core.Path.{_≡_, refl, sym, ap, ap₂, _∙_}
-use Prim.Native.Nat.{ℕ, zero, suc, _+_, _<_}
-use native.Mathlib.Omega.{arith}
+use mathlib.Core.List.{List, [], _∷_, map}
+use mathlib.Core.Path.{_≡_, refl, ap, ap₂, _∙_}
+use Prim.Native.Nat.{ℕ, suc}
 use Rattle.lists.specs.Lists.{joined}
 use Rattle.meaning.specs.declared.Tri.{Tri}
-use Rattle.meaning.specs.Mesh.{Mesh, mesh, tri}
-use Rattle.meaning.specs.Good.{pairs}
-use Rattle.meaning.specs.Coarsen.{fate, stays, renumber, renamed, staying, without, goodNodes, pass}
+use Rattle.meaning.specs.Mesh.{Mesh, mesh}
+use Rattle.meaning.specs.Coarsen.{fate, renumber, renamed, staying, without, goodNodes, pass}
 use Rattle.laws.specs.Stay.{stayed-all}
 use Rattle.laws.specs.Restore.{pass-is}
 

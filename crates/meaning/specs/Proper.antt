@@ -23,9 +23,12 @@ pub record Shape : Type 0 where
   pub q : Place
   pub r : Place
 
--- row t, by the places of its corners
+-- row t, by the places of its corners; P gives the place of each node
+abbrev pub shapeBy : (ℕ → Place) → Tri → Shape
+shapeBy P t = record { p = P (t .p); q = P (t .q); r = P (t .r) }
+
 abbrev pub shape : Mesh → Tri → Shape
-shape m t = record { p = at m (t .p); q = at m (t .q); r = at m (t .r) }
+shape m = shapeBy (at m)
 
 abbrev pub area : Shape → ℤ
 area t = turn (t .p) (t .q) (t .r)

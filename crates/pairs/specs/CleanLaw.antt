@@ -12,22 +12,21 @@ use Rattle.whole.specs.Diff.{onℤ}
 use Rattle.whole.specs.Tests.{ltZ-true, le-leZ}
 use Rattle.lists.specs.Lists.{any}
 use Rattle.lists.specs.ListsLaw.{and-left, and-right}
+use Rattle.lists.specs.PartsLaw.{not-so}
 use Rattle.meaning.specs.declared.Place.{Place}
 use Rattle.meaning.specs.declared.Tri.{Tri}
 use Rattle.meaning.specs.Mesh.{arrow, turn}
 use Rattle.meaning.specs.Proper.{noneLeft, partedBy, apart}
 use Rattle.laws.specs.Area.{turn-cycle}
-use Rattle.pairs.specs.OnLine.{len-above}
-use Rattle.pairs.specs.Clear.{On, on-of, Clear, one, other, right, Above, off-ab, off-br, off-ra, not-above, off-a, off-b, off-r}
+use Rattle.laws.specs.Weights.{turned}
+use Rattle.proper.specs.OnLine.{len-above}
+use Rattle.pairs.specs.OnSide.{On, on-is}
+use Rattle.pairs.specs.Clear.{Clear, one, other, right, Above, off-ab, off-br, off-ra, not-above, off-a, off-b, off-r}
 use Rattle.pairs.specs.Pair.{shapeBy, corners, onSide, touches, grave}
 use Rattle.pairs.specs.Seen.{cornerBy, seenBy, isEnd, rightOf, isClear, allClear, clean}
-use Rattle.pairs.specs.Turned.{turned, grave-sym, grave-turned}
+use Rattle.pairs.specs.Turned.{grave-sym, grave-turned}
 
 module _ (P : ℕ → Place) where
-  refuted : (b : Bool) → (b ≡ true → ⊥) → b ≡ false
-  refuted true h = absurd (h refl)
-  refuted false h = refl
-
   -- ---- two rows, the side p–q of the first clean for the second
 
   none : {a b c : Bool} → a ≡ false → b ≡ false → c ≡ false → a || (b || (c || false)) ≡ false
@@ -35,7 +34,7 @@ module _ (P : ℕ → Place) where
 
   -- no node of three is on the side
   side-off : (x y : ℕ) (u : Tri) → (On P x y (u .p) → ⊥) → (On P x y (u .q) → ⊥) → (On P x y (u .r) → ⊥) → any (onSide P (arrow x y)) (corners u) ≡ false
-  side-off x y u f g h = none (refuted _ (λ e. f (on-of P x y (u .p) e))) (refuted _ (λ e. g (on-of P x y (u .q) e))) (refuted _ (λ e. h (on-of P x y (u .r) e)))
+  side-off x y u f g h = none (not-so _ (λ e. f (on-is P x y (u .p) e))) (not-so _ (λ e. g (on-is P x y (u .q) e))) (not-so _ (λ e. h (on-is P x y (u .r) e)))
 
   record AllClear (t u : Tri) : Type 0 where
     clear-p : Clear P (P (t .p)) (P (t .q)) (t .p) (t .q) (u .p)

@@ -1,5 +1,5 @@
 pub mod Pair
-pub mod OnLine
+pub mod OnSide
 pub mod Clear
 pub mod Turned
 pub mod Seen

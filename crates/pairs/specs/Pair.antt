@@ -11,10 +11,8 @@ use Rattle.meaning.specs.declared.Tri.{Tri}
 use Rattle.meaning.specs.Mesh.{Arrow, arrows, turn}
 use Rattle.meaning.specs.Good.{sameZ}
 use Rattle.meaning.specs.Tables.{rowAt}
-use Rattle.meaning.specs.Proper.{Shape, facing, apart}
-
-abbrev pub shapeBy : (ℕ → Place) → Tri → Shape
-shapeBy P t = record { p = P (t .p); q = P (t .q); r = P (t .r) }
+use Rattle.meaning.specs.Proper.{facing, apart}
+pub use Rattle.meaning.specs.Proper.{shapeBy}
 
 abbrev pub corners : Tri → List ℕ
 corners t = t .p ∷ t .q ∷ t .r ∷ []

@@ -1,65 +1,42 @@
 -- What a pair of rows draws does not depend on which row comes first, nor on where a row begins. Assumes nothing.
-use mathlib.Core.Bool.{Bool, true, false, _&&_, _||_}
+use mathlib.Core.Bool.{Bool, false, _&&_, _||_, and-comm, and-assoc, or-comm, or-assoc}
 use mathlib.Core.List.{List}
-use mathlib.Core.Path.{_≡_, refl, sym}
+use mathlib.Core.Path.{_≡_, sym, _∙_}
 use Prim.Native.Nat.{ℕ}
+use borrow.Author.Tests.{eqb-true, eq-eqb}
 use lib.Dec.{eqb}
 use lib.IntN.{pos}
 use lib.Signed.{leZ}
-use borrow.Author.Tests.{eqb-true, eq-eqb}
 use Rattle.lists.specs.Lists.{any, cases}
 use Rattle.lists.specs.ListsLaw.{both-ways}
+use Rattle.lists.specs.SearchLaw.{or-three}
 use Rattle.meaning.specs.declared.Place.{Place}
 use Rattle.meaning.specs.declared.Tri.{Tri}
-use Rattle.meaning.specs.Mesh.{arrow, tri, turn}
+use Rattle.meaning.specs.Mesh.{arrow, turn}
 use Rattle.meaning.specs.Tables.{rowAt}
 use Rattle.meaning.specs.Proper.{noneLeft, partedBy, apart}
+use Rattle.laws.specs.Weights.{turned}
 use Rattle.pairs.specs.Pair.{shapeBy, corners, onSide, touches, grave, graveAt}
 
-or-sym : (a b : Bool) → a || b ≡ b || a
-or-sym true true = refl
-or-sym true false = refl
-or-sym false true = refl
-or-sym false false = refl
+or-turned-left : (a b c : Bool) → b || c || a ≡ a || b || c
+or-turned-left a b c = or-comm (b || c) a ∙ sym (or-assoc a b c)
 
 or-turned : (a b c : Bool) → b || (c || (a || false)) ≡ a || (b || (c || false))
-or-turned true true c = refl
-or-turned true false true = refl
-or-turned true false false = refl
-or-turned false true c = refl
-or-turned false false true = refl
-or-turned false false false = refl
-
-or-turned-left : (a b c : Bool) → b || c || a ≡ a || b || c
-or-turned-left true true c = refl
-or-turned-left true false true = refl
-or-turned-left true false false = refl
-or-turned-left false true c = refl
-or-turned-left false false true = refl
-or-turned-left false false false = refl
+or-turned a b c = sym (or-three b c a) ∙ or-turned-left a b c ∙ or-three a b c
 
 and-turned-left : (a b c : Bool) → b && c && a ≡ a && b && c
-and-turned-left true true true = refl
-and-turned-left true true false = refl
-and-turned-left true false c = refl
-and-turned-left false true true = refl
-and-turned-left false true false = refl
-and-turned-left false false c = refl
+and-turned-left a b c = and-comm (b && c) a ∙ sym (and-assoc a b c)
 
 eqb-sym : (a b : ℕ) → eqb a b ≡ eqb b a
 eqb-sym a b = both-ways (eqb a b) (eqb b a) (λ h. eq-eqb b a (sym (eqb-true a b h))) (λ h. eq-eqb a b (sym (eqb-true b a h)))
-
--- the same row, from its next corner on
-abbrev pub turned : Tri → Tri
-turned t = tri (t .q) (t .r) (t .p)
 
 module _ (P : ℕ → Place) where
   -- either row may come first
   pub grave-sym : (t u : Tri) → grave P t u ≡ grave P u t
   unfolding grave apart
   grave-sym t u =
-      let e = or-sym (touches P t u) (touches P u t) in
-      let f = or-sym (partedBy (shapeBy P t) (shapeBy P u)) (partedBy (shapeBy P u) (shapeBy P t)) in
+      let e = or-comm (touches P t u) (touches P u t) in
+      let f = or-comm (partedBy (shapeBy P t) (shapeBy P u)) (partedBy (shapeBy P u) (shapeBy P t)) in
       (λ i. cases (e i) 2 (cases (f i) 0 1))
 
   pub grave-at-sym : (rows : List ℕ) (i j : ℕ) → graveAt P rows i j ≡ graveAt P rows j i

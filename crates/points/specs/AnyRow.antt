@@ -7,45 +7,32 @@ use lib.IntN.{ℤ, pos, natAbs, _*ℤ_, _+ℤ_, *ℤ-comm}
 use lib.Signed.{_≤ℤ_, _<ℤ_, pos-natAbs, yes-nonNeg}
 use native.Mathlib.Omega.{arith}
 use Rattle.whole.specs.Diff.{onℤ}
-use Rattle.whole.specs.Ring.{Expr, K, _:+_, _:*_, ring3, ring7, ring8}
+use Rattle.whole.specs.Ring.{_:+_, _:*_, ring3, ring7}
 use Rattle.lists.specs.ListsLaw.{All-at}
 use Rattle.meaning.specs.declared.Place.{Place}
 use Rattle.meaning.specs.declared.Tri.{Tri}
 use Rattle.meaning.specs.Mesh.{Mesh, at, correction, twiceArea}
 use Rattle.meaning.specs.Lawful.{Lawful}
-use Rattle.meaning.specs.Proper.{Proper}
+use Rattle.meaning.specs.Proper.{shape, Proper}
 use Rattle.meaning.specs.Rounding.{SameFraction}
 use Rattle.meaning.specs.Asking.{HoldsPoint, weightP, weightQ, weightR, weighted, meanIn, dxOf, dyOf, correctionIn}
-use Rattle.laws.specs.Area.{Turn}
 use Rattle.laws.specs.RowMean.{mean-same}
-use Rattle.proper.specs.Sums.{Mix, mix, level, Coordinate, by-x, by-y, by-one, SamePoint}
+use Rattle.proper.specs.Convex.{val, spot}
+use Rattle.proper.specs.Sharing.{left-turn, weights}
+use Rattle.proper.specs.Sums.{Mix, mix, level, SamePoint, Affine, coordinate-affine}
 use Rattle.proper.specs.ProperFaithful.{proper-faithful}
 
 -- ---- the corners by a point's weights
 
--- x, y or 1 of a place
-abbrev coordinate : Place → {m : Mesh} {φ : ℕ → ℤ} → Coordinate m φ → ℤ
-coordinate P by-x = P .x
-coordinate P by-y = P .y
-coordinate P by-one = pos 1
-
--- the sum of three values by the weights of (x, y) in (a, b), (c, d), (e, f)
-abbrev Weighted : Expr → Expr → Expr → Expr → Expr → Expr → Expr → Expr → Expr → Expr → Expr → Expr
-Weighted a b c d e f x y u v w = Turn c d e f x y :* u :+ Turn e f a b x y :* v :+ Turn a b c d x y :* w
-
 module _ (m : Mesh) (P : Place) (t : Tri) where
-  -- the mean of the corners' x is the point's, and that of their y, wherever the point is
-  weighted-coordinate : {φ : ℕ → ℤ} (k : Coordinate m φ) → weighted φ m P t ≡ twiceArea m t *ℤ coordinate P k
+  -- the mean of the corners' x is the point's, that of their y, and that of any linear form, wherever the point is
+  weighted-form : {φ : ℕ → ℤ} (A : Affine m φ) → weighted φ m P t ≡ twiceArea m t *ℤ val (A .form) (spot P)
   unfolding weighted twiceArea
-  weighted-coordinate by-x =
-      ring8 (λ a b c d e f x y. (Weighted a b c d e f x y a c e, Turn a b c d e f :* x))
-      (at m (t .p) .x) (at m (t .p) .y) (at m (t .q) .x) (at m (t .q) .y) (at m (t .r) .x) (at m (t .r) .y) (P .x) (P .y) tt
-  weighted-coordinate by-y =
-      ring8 (λ a b c d e f x y. (Weighted a b c d e f x y b d f, Turn a b c d e f :* y))
-      (at m (t .p) .x) (at m (t .p) .y) (at m (t .q) .x) (at m (t .q) .y) (at m (t .r) .x) (at m (t .r) .y) (P .x) (P .y) tt
-  weighted-coordinate by-one =
-      ring8 (λ a b c d e f x y. (Weighted a b c d e f x y (K (pos 1)) (K (pos 1)) (K (pos 1)), Turn a b c d e f :* K (pos 1)))
-      (at m (t .p) .x) (at m (t .p) .y) (at m (t .q) .x) (at m (t .q) .y) (at m (t .r) .x) (at m (t .r) .y) (P .x) (P .y) tt
+  weighted-form A =
+      let p = left-turn (at m (t .q)) (at m (t .r)) P in
+      let q = left-turn (at m (t .r)) (at m (t .p)) P in
+      let r = left-turn (at m (t .p)) (at m (t .q)) P in
+      (λ i. sym p i *ℤ A .is (t .p) i +ℤ sym q i *ℤ A .is (t .q) i +ℤ sym r i *ℤ A .is (t .r) i) ∙ sym (weights (A .form) (shape m t) (spot P))
 
   -- the corners by d times the point's weights
   abbrev mixAt : ℤ → Mix
@@ -73,9 +60,10 @@ module _ {m : Mesh} (law : Lawful m) (proper : Proper m) {P : Place} {t u : Tri}
 
   one-point : SamePoint m (level (mixAt m P t (twiceArea m u))) (level (mixAt m P u (twiceArea m t)))
   one-point φ c =
-      mix-weighted m P t h (twiceArea m u) above-u φ ∙ ap (λ w. twiceArea m u *ℤ w) (weighted-coordinate m P t c)
-      ∙ ring3 (λ d e x. (e :* (d :* x), d :* (e :* x))) (twiceArea m t) (twiceArea m u) (coordinate P c) tt
-      ∙ sym (mix-weighted m P u k (twiceArea m t) above-t φ ∙ ap (λ w. twiceArea m t *ℤ w) (weighted-coordinate m P u c))
+      let A = coordinate-affine c in
+      mix-weighted m P t h (twiceArea m u) above-u φ ∙ ap (λ w. twiceArea m u *ℤ w) (weighted-form m P t A)
+      ∙ ring3 (λ d e x. (e :* (d :* x), d :* (e :* x))) (twiceArea m t) (twiceArea m u) (val (A .form) (spot P)) tt
+      ∙ sym (mix-weighted m P u k (twiceArea m t) above-t φ ∙ ap (λ w. twiceArea m t *ℤ w) (weighted-form m P u A))
 
   -- ANY TWO ROWS THAT HOLD A POINT MAKE ONE FRACTION OF IT, of any value of a node,
   pub any-row-same : (f : ℕ → ℤ) → SameFraction (weighted f m P t) (twiceArea m t) (weighted f m P u) (twiceArea m u)

@@ -11,20 +11,21 @@ use lib.ListN.{length, getD}
 use lib.Signed.{_≤ℤ_}
 use Rattle.lists.specs.Lists.{isFound}
 use Rattle.lists.specs.ListsLaw.{All-at}
-use Rattle.lists.specs.MembersLaw.{mem-at, at-mem, count-some}
+use Rattle.lists.specs.MembersLaw.{mem-at, at-mem}
 use Rattle.meaning.specs.declared.Correction.{Correction}
 use Rattle.meaning.specs.declared.Node.{Node}
 use Rattle.meaning.specs.declared.Place.{Place}
 use Rattle.meaning.specs.declared.Tri.{Tri}
-use Rattle.meaning.specs.Mesh.{Mesh, tri, correction, origin, holdsNode, nodeOf, at, turn, twiceArea}
+use Rattle.meaning.specs.Mesh.{Mesh, tri, correction, origin, nodeOf, at, turn, twiceArea}
 use Rattle.meaning.specs.Lawful.{Lawful, names-none, rowOf}
 use Rattle.meaning.specs.Proper.{Proper}
 use Rattle.meaning.specs.Rounding.{floor}
 use Rattle.meaning.specs.Asking.{HoldsPoint, weighted, weights, meanIn, RowHolds, Covered, dxOf, dyOf, correctionIn, rowHolding, correctionAt}
 use Rattle.meaning.specs.Calls.{culpritOf, askNo, toldAs, told, asks}
 use Rattle.laws.specs.Exact.{unfit}
-use Rattle.laws.specs.RowMean.{corner-of, corner-holds, mean-corner}
+use Rattle.laws.specs.RowMean.{corner-holds, mean-corner}
 use Rattle.laws.specs.Asking.{covered-exact, ask-0, ask-14, ask-exact, refuses, answered, asks-exact, told-is}
+use Rattle.proper.specs.FaithfulProper.{node-row}
 use Rattle.points.specs.AnyRow.{any-row-correction}
 
 -- ---- any mesh that is lawful
@@ -70,8 +71,7 @@ module _ {m : Mesh} (law : Lawful m) (proper : Proper m) where
   -- AT THE PLACE OF A NODE: WHAT THE NODE CARRIES.
   pub node-told : (k : ℕ) → k < length (m .nodes) → asks m (at m k) ≡ told 0 0 (nodeOf m k .correction)
   node-told k l =
-      let (t, i, e) = count-some (holdsNode k) (m .tris) (law .used k l) in
-      let c = corner-of t k e in
+      let (t, i, c) = node-row m law k l in
       let above = All-at (law .positive) i in
       row-told i (corner-holds m t above c) ∙ (λ n. told 0 0 (correction (mean-corner (dxOf m) m t above c n) (mean-corner (dyOf m) m t above c n)))
 

@@ -1,13 +1,13 @@
 -- A place lies strictly inside an edge exactly if it is a mean of the ends with weights above 0. Assumes nothing.
 use mathlib.Core.Path.{_≡_, refl, sym, ap, _∙_}
 use mathlib.Core.Logic.{_⊎_, inl, inr, _↔_, _≢_}
-use Prim.Native.Nat.{ℕ, zero, suc, _+_, _<_}
+use Prim.Native.Nat.{ℕ, _+_, _<_}
 use native.Mathlib.Omega.{arith}
 use lib.IntN.{ℤ, pos, negsuc, _+ℤ_, _-ℤ_, _*ℤ_}
 use lib.Signed.{_≤ℤ_, _<ℤ_}
 use Rattle.whole.specs.Diff.{onℤ, sumℤ, subℤ}
 use Rattle.whole.specs.Ring.{K, _:+_, _:-_, _:*_, ring4, ring8, combine₁, combine₂}
-use Rattle.whole.specs.Order.{lt-or-le, positive-times, nonneg-square}
+use Rattle.whole.specs.Order.{lt-or-le, positive-times, nonneg-square, square-none}
 use Rattle.meaning.specs.declared.Place.{Place}
 use Rattle.meaning.specs.Mesh.{turn}
 use Rattle.meaning.specs.Proper.{StrictlyInside}
@@ -81,11 +81,6 @@ module _ (A B P : Place) (apart : pos 0 <ℤ len A B) where
 len-differ : (A B : Place) → A ≢ B → pos 0 <ℤ len A B
 len-differ A B n = go (lt-or-le (pos 0) (len A B))
   where
-    root : (z : ℤ) → (z *ℤ z) ≤ℤ pos 0 → z ≡ pos 0
-    root (pos zero) h = refl
-    root (pos (suc k)) h = absurd (omega (arith, onℤ))
-    root (negsuc k) h = absurd (omega (arith, onℤ))
-
     same : (a b : ℤ) → b -ℤ a ≡ pos 0 → a ≡ b
     same a b e = omega (arith, onℤ, subℤ b a)
 
@@ -95,8 +90,8 @@ len-differ A B n = go (lt-or-le (pos 0) (len A B))
         let u = B .x -ℤ A .x in
         let v = B .y -ℤ A .y in
         let s = sumℤ (u *ℤ u) (v *ℤ v) in
-        let p = same (A .x) (B .x) (root u (omega (arith, onℤ, nonneg-square v))) in
-        let q = same (A .y) (B .y) (root v (omega (arith, onℤ, nonneg-square u))) in
+        let p = same (A .x) (B .x) (square-none u (omega (arith, onℤ, nonneg-square v))) in
+        let q = same (A .y) (B .y) (square-none v (omega (arith, onℤ, nonneg-square u))) in
         absurd (n (λ i. record { x = p i; y = q i }))
 
 -- A PLACE LIES STRICTLY INSIDE AN EDGE EXACTLY IF IT IS A MEAN OF THE ENDS WITH WEIGHTS ABOVE 0

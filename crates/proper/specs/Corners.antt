@@ -2,7 +2,7 @@
 -- the same corners are one row. Assumes nothing.
 use mathlib.Core.List.{List·Memᴰ, List·Memᴰ·head, List·Memᴰ·tail}
 use mathlib.Core.Logic.{_≢_}
-use mathlib.Core.Path.{_≡_, refl, sym, subst⁻¹, _∙_}
+use mathlib.Core.Path.{_≡_, refl, sym, subst, subst⁻¹, _∙_}
 use Prim.Native.Nat.{ℕ, _+_, _*_, _<_}
 use native.Mathlib.Omega.{arith}
 use native.Mathlib.Decide.{ℕ-discrete}
@@ -19,6 +19,7 @@ use Rattle.laws.specs.Area.{turn-cycle, turn-mirror}
 use Rattle.laws.specs.Edges.{eq-arrow, here, here-self, here-no}
 use Rattle.laws.specs.Faults.{holds-own}
 use Rattle.laws.specs.Pairs.{arrows-once, holder-one}
+use Rattle.laws.specs.RowMean.{CornerOf, is-p, is-q, is-r}
 use Rattle.laws.specs.Weights.{turned}
 use Rattle.proper.specs.OnLine.{len, len-above}
 use Rattle.proper.specs.Sums.{Sum, Mix, mix, level, two, SameSum, rotated, rotated-same, without-third}
@@ -36,23 +37,17 @@ same-weight s u e j = let f : pos (weightOf s j) ≡ pos (weightOf u j) = e (pea
 
 -- ---- corners
 
--- node k is a corner of row t
-pub data IsCorner (k : ℕ) (t : Tri) : Type 0 where
-  is-p : k ≡ t .p → IsCorner k t
-  is-q : k ≡ t .q → IsCorner k t
-  is-r : k ≡ t .r → IsCorner k t
-
 -- a node with weight is a corner
-pub corner-of-weight : (s : Mix) (k : ℕ) → 0 < weightOf s k → IsCorner k (s .row)
+pub corner-of-weight : (s : Mix) (k : ℕ) → 0 < weightOf s k → CornerOf (s .row) k
 corner-of-weight s k h = go (ℕ-discrete (s .row .p) k) (ℕ-discrete (s .row .q) k) (ℕ-discrete (s .row .r) k)
   where
     none : (a b c u v w : ℕ) → 0 < a * u + b * v + c * w → u ≡ 0 → v ≡ 0 → w ≡ 0 → ⊥
     none a b c u v w h e f g = let n : a * u + b * v + c * w ≡ a * 0 + b * 0 + c * 0 = rw (e, f, g) in omega arith
 
-    go : Dec (s .row .p ≡ k) → Dec (s .row .q ≡ k) → Dec (s .row .r ≡ k) → IsCorner k (s .row)
-    go (yes e) y z = is-p (sym e)
-    go (no e) (yes f) z = is-q (sym f)
-    go (no e) (no f) (yes g) = is-r (sym g)
+    go : Dec (s .row .p ≡ k) → Dec (s .row .q ≡ k) → Dec (s .row .r ≡ k) → CornerOf (s .row) k
+    go (yes e) y z = subst (CornerOf (s .row)) e is-p
+    go (no e) (yes f) z = subst (CornerOf (s .row)) f is-q
+    go (no e) (no f) (yes g) = subst (CornerOf (s .row)) g is-r
     go (no e) (no f) (no g) = absurd (none (s .a) (s .b) (s .c) _ _ _ h (here-no k (s .row .p) e) (here-no k (s .row .q) f) (here-no k (s .row .r) g))
 
 -- the weights of the corners, which are three nodes
@@ -144,8 +139,8 @@ module _ (m : Mesh) (law : Lawful m) {t u : Tri} (i : List·Memᴰ t (m .tris)) 
       let n = turn-mirror (at m a) (at m b) (at m c) in
       omega (arith, onℤ, negℤ-ud (turn (at m a) (at m b) (at m c)))
 
-  same-corners : IsCorner (t .p) u → IsCorner (t .q) u → IsCorner (t .r) u → t ≡ u
-  same-corners = go
+  same-corners : CornerOf u (t .p) → CornerOf u (t .q) → CornerOf u (t .r) → t ≡ u
+  same-corners x y z = go x y z refl refl refl
     where
       N : Named (length (m .nodes)) t
       N = All-at (law .named) i
@@ -153,22 +148,22 @@ module _ (m : Mesh) (law : Lawful m) {t u : Tri} (i : List·Memᴰ t (m .tris)) 
       first : {k l o : ℕ} → k ≡ o → l ≡ o → k ≡ l
       first e f = e ∙ sym f
 
-      go : IsCorner (t .p) u → IsCorner (t .q) u → IsCorner (t .r) u → t ≡ u
-      go (is-p e) (is-p f) z = absurd (N .p≢q (first e f))
-      go (is-q e) (is-q f) z = absurd (N .p≢q (first e f))
-      go (is-r e) (is-r f) z = absurd (N .p≢q (first e f))
-      go (is-p e) (is-q f) z = same-arrow (List·Memᴰ·head refl) (List·Memᴰ·head refl) e f
-      go (is-q e) (is-r f) z = same-arrow (List·Memᴰ·head refl) (List·Memᴰ·tail (List·Memᴰ·head refl)) e f
-      go (is-r e) (is-p f) z = same-arrow (List·Memᴰ·head refl) (List·Memᴰ·tail (List·Memᴰ·tail (List·Memᴰ·head refl))) e f
-      go (is-q e) (is-p f) (is-p g) = absurd (N .q≢r (first f g))
-      go (is-q e) (is-p f) (is-q g) = absurd (N .r≢p (first g e))
-      go (is-q e) (is-p f) (is-r g) = absurd (opposed (above-qrp m law j) e f g)
-      go (is-r e) (is-q f) (is-q g) = absurd (N .q≢r (first f g))
-      go (is-r e) (is-q f) (is-r g) = absurd (N .r≢p (first g e))
-      go (is-r e) (is-q f) (is-p g) = absurd (opposed (above-rpq m law j) e f g)
-      go (is-p e) (is-r f) (is-r g) = absurd (N .q≢r (first f g))
-      go (is-p e) (is-r f) (is-p g) = absurd (N .r≢p (first g e))
-      go (is-p e) (is-r f) (is-q g) = absurd (opposed (above-pqr m law j) e f g)
+      go : {a b c : ℕ} → CornerOf u a → CornerOf u b → CornerOf u c → t .p ≡ a → t .q ≡ b → t .r ≡ c → t ≡ u
+      go is-p is-p z e f g = absurd (N .p≢q (first e f))
+      go is-q is-q z e f g = absurd (N .p≢q (first e f))
+      go is-r is-r z e f g = absurd (N .p≢q (first e f))
+      go is-p is-q z e f g = same-arrow (List·Memᴰ·head refl) (List·Memᴰ·head refl) e f
+      go is-q is-r z e f g = same-arrow (List·Memᴰ·head refl) (List·Memᴰ·tail (List·Memᴰ·head refl)) e f
+      go is-r is-p z e f g = same-arrow (List·Memᴰ·head refl) (List·Memᴰ·tail (List·Memᴰ·tail (List·Memᴰ·head refl))) e f
+      go is-q is-p is-p e f g = absurd (N .q≢r (first f g))
+      go is-q is-p is-q e f g = absurd (N .r≢p (first g e))
+      go is-q is-p is-r e f g = absurd (opposed (above-qrp m law j) e f g)
+      go is-r is-q is-q e f g = absurd (N .q≢r (first f g))
+      go is-r is-q is-r e f g = absurd (N .r≢p (first g e))
+      go is-r is-q is-p e f g = absurd (opposed (above-rpq m law j) e f g)
+      go is-p is-r is-r e f g = absurd (N .q≢r (first f g))
+      go is-p is-r is-p e f g = absurd (N .r≢p (first g e))
+      go is-p is-r is-q e f g = absurd (opposed (above-pqr m law j) e f g)
 
 -- a sum with weight at every corner tells the row
 pub full-row : (m : Mesh) → Lawful m → (s u : Mix) → List·Memᴰ (s .row) (m .tris) → List·Memᴰ (u .row) (m .tris) →

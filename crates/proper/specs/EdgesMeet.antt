@@ -9,14 +9,14 @@ use lib.IntN.{ℤ, pos, _+ℤ_, _-ℤ_, _*ℤ_, *ℤ-comm}
 use lib.ListN.{length}
 use lib.Signed.{_≤ℤ_, _<ℤ_}
 use Rattle.whole.specs.Diff.{onℤ, sumℤ, subℤ}
-use Rattle.whole.specs.Ring.{K, _:+_, _:-_, _:*_, ring2, ring3, ring4}
+use Rattle.whole.specs.Ring.{K, _:+_, _:*_, ring2, ring3, ring4}
 use Rattle.whole.specs.Order.{lt-or-le, positive-times, nonpos-times, times-le, times-cancel}
 use Rattle.meaning.specs.declared.Place.{Place}
 use Rattle.meaning.specs.Mesh.{Mesh, at}
 use Rattle.meaning.specs.Proper.{StrictlyInside}
 use Rattle.laws.specs.Area.{turn-back}
 use Rattle.proper.specs.Between.{between-inside}
-use Rattle.proper.specs.OnLine.{along, len, zero-of-mul, inside-of-along, at-start, along-swap, len-swap, between-others}
+use Rattle.proper.specs.OnLine.{along, len, along-from, zero-of-mul, inside-of-along, at-start, along-swap, len-swap, between-others}
 use Rattle.proper.specs.Sums.{one, two, by-x, by-y, by-one, SamePoint, SameSum, two-linear, affine-same, turnTo, alongTo, along-affine}
 
 -- no two nodes at one place
@@ -53,9 +53,6 @@ side-swap {m} {x} {y} E = record {
 }
 
 -- ---- numbers at the ends of an edge
-
-along-from : (A B : Place) → along A B A ≡ pos 0
-along-from A B = ring4 (λ a b c d. ((a :- a) :* (c :- a) :+ (b :- b) :* (d :- b), K (pos 0))) (A .x) (A .y) (B .x) (B .y) tt
 
 -- the sum of the ends, of a number that is 0 at one
 two-last : (α β u v : ℤ) → u ≡ pos 0 → α *ℤ u +ℤ β *ℤ v ≡ β *ℤ v

@@ -1,6 +1,6 @@
 -- A lawful, faithful mesh is proper: two nodes at one place, a node strictly inside an edge, and two triangles with an interior point in
 -- common are each one point as two sums of corners. Assumes nothing.
-use mathlib.Core.List.{[], _∷_, List·Memᴰ}
+use mathlib.Core.List.{List·Memᴰ}
 use mathlib.Core.Logic.{_≢_}
 use mathlib.Core.Path.{_≡_, refl, sym, ap, _∙_}
 use Prim.Native.Nat.{ℕ, _+_, _*_, _<_}
@@ -12,7 +12,7 @@ use lib.Signed.{_<ℤ_}
 use Rattle.lists.specs.ListsLaw.{All-of}
 use Rattle.lists.specs.MembersLaw.{at-mem, count-some}
 use Rattle.whole.specs.Diff.{onℤ}
-use Rattle.whole.specs.Ring.{Expr, X, K, _:+_, _:-_, _:*_, solve, ring3, ring4}
+use Rattle.whole.specs.Ring.{K, _:+_, _:*_, ring3, ring4, ring7}
 use Rattle.whole.specs.Order.{positive-times}
 use Rattle.meaning.specs.declared.Tri.{Tri}
 use Rattle.meaning.specs.Mesh.{Mesh, Arrow, tri, arrows, holdsNode, at}
@@ -21,8 +21,10 @@ use Rattle.meaning.specs.Proper.{Shape, Point, left, area, Inside, Share, Stric
 use Rattle.laws.specs.Edges.{here, here-self, here-no}
 use Rattle.laws.specs.Pairs.{same-row}
 use Rattle.laws.specs.RowMean.{CornerOf, is-p, is-q, is-r, corner-of}
+use Rattle.proper.specs.Convex.{Form, val, spot}
+use Rattle.proper.specs.Sharing.{weights}
 use Rattle.proper.specs.Between.{Between, inside-between, as-nat}
-use Rattle.proper.specs.Sums.{Sum, mix, level, one, two, by-x, by-y, by-one, SamePoint, SameSum, Faithful}
+use Rattle.proper.specs.Sums.{Sum, mix, level, one, two, by-x, by-y, by-one, SamePoint, SameSum, Faithful, coordinate-affine}
 use Rattle.proper.specs.Corners.{SumOf, above-pqr, row-edge, peak, full-row}
 
 -- a sum of two nodes that is one node
@@ -54,25 +56,13 @@ record InsideSum (t : Shape) (s : Point) (n : ℤ) : Type 0 where
   a-above : 0 < a
   b-above : 0 < b
   c-above : 0 < c
-  on-x : pos a *ℤ t .p .x +ℤ pos b *ℤ t .q .x +ℤ pos c *ℤ t .r .x ≡ n *ℤ (area t *ℤ s .X)
-  on-y : pos a *ℤ t .p .y +ℤ pos b *ℤ t .q .y +ℤ pos c *ℤ t .r .y ≡ n *ℤ (area t *ℤ s .Y)
-  on-one : pos a *ℤ pos 1 +ℤ pos b *ℤ pos 1 +ℤ pos c *ℤ pos 1 ≡ n *ℤ (area t *ℤ s .W)
-
-abbrev Left : Expr → Expr → Expr → Expr → Expr
-Left px py qx qy = (qx :- px) :* (X 8 :- py :* X 9) :- (X 7 :- px :* X 9) :* (qy :- py)
-
-abbrev Sum3 : Expr → Expr → Expr → Expr
-Sum3 u v w = X 0 :* Left (X 3) (X 4) (X 5) (X 6) :* u :+ X 0 :* Left (X 5) (X 6) (X 1) (X 2) :* v :+ X 0 :* Left (X 1) (X 2) (X 3) (X 4) :* w
-
-abbrev Area : Expr
-Area = (X 3 :- X 1) :* (X 6 :- X 2) :- (X 5 :- X 1) :* (X 4 :- X 2)
+  on : (f : Form) → pos a *ℤ val f (spot (t .p)) +ℤ pos b *ℤ val f (spot (t .q)) +ℤ pos c *ℤ val f (spot (t .r)) ≡ n *ℤ (area t *ℤ val f s)
 
 inside-sum : (t : Shape) (s : Point) (n : ℤ) → Inside t s → pos 0 <ℤ n → InsideSum t s n
 inside-sum t s n i h =
     let a = as-nat (n *ℤ left (t .q) (t .r) s) (positive-times n (left (t .q) (t .r) s) h (i .qr)) in
     let b = as-nat (n *ℤ left (t .r) (t .p) s) (positive-times n (left (t .r) (t .p) s) h (i .rp)) in
     let c = as-nat (n *ℤ left (t .p) (t .q) s) (positive-times n (left (t .p) (t .q) s) h (i .pq)) in
-    let vars = n ∷ t .p .x ∷ t .p .y ∷ t .q .x ∷ t .q .y ∷ t .r .x ∷ t .r .y ∷ s .X ∷ s .Y ∷ s .W ∷ [] in
     record {
       a = a .0;
       b = b .0;
@@ -80,9 +70,11 @@ inside-sum t s n i h =
       a-above = a .1;
       b-above = b .1;
       c-above = c .1;
-      on-x = (λ k. sym (a .2) k *ℤ t .p .x +ℤ sym (b .2) k *ℤ t .q .x +ℤ sym (c .2) k *ℤ t .r .x) ∙ solve vars (Sum3 (X 1) (X 3) (X 5)) (X 0 :* (Area :* X 7)) tt;
-      on-y = (λ k. sym (a .2) k *ℤ t .p .y +ℤ sym (b .2) k *ℤ t .q .y +ℤ sym (c .2) k *ℤ t .r .y) ∙ solve vars (Sum3 (X 2) (X 4) (X 6)) (X 0 :* (Area :* X 8)) tt;
-      on-one = (λ k. sym (a .2) k *ℤ pos 1 +ℤ sym (b .2) k *ℤ pos 1 +ℤ sym (c .2) k *ℤ pos 1) ∙ solve vars (Sum3 (K (pos 1)) (K (pos 1)) (K (pos 1))) (X 0 :* (Area :* X 9)) tt;
+      on = λ f.
+          (λ k. sym (a .2) k *ℤ val f (spot (t .p)) +ℤ sym (b .2) k *ℤ val f (spot (t .q)) +ℤ sym (c .2) k *ℤ val f (spot (t .r)))
+          ∙ ring7 (λ n u v w x y z. (n :* u :* x :+ n :* v :* y :+ n :* w :* z, n :* (u :* x :+ v :* y :+ w :* z))) n (left (t .q) (t .r) s) (left (t .r) (t .p) s) (left (t .p) (t .q) s)
+          (val f (spot (t .p))) (val f (spot (t .q))) (val f (spot (t .r))) tt
+          ∙ ap (λ z. n *ℤ z) (sym (weights f t s));
     }
 
 -- ---- sums of corners that are one node, or two
@@ -94,7 +86,7 @@ corner-sum t w is-r = (0, 0, w, λ φ. ring4 (λ w u v x. (K (pos 0) :* u :+ K (
 
 module _ (m : Mesh) (law : Lawful m) where
   -- a node is a corner of some row
-  node-row : (k : ℕ) → k < length (m .nodes) → (t : Tri) × List·Memᴰ t (m .tris) × CornerOf t k
+  pub node-row : (k : ℕ) → k < length (m .nodes) → (t : Tri) × List·Memᴰ t (m .tris) × CornerOf t k
   node-row k h = let r = count-some (holdsNode k) (m .tris) (law .used k h) in (r .0, r .1, corner-of (r .0) k (r .2))
 
   module _ (faithful : Faithful m) where
@@ -145,9 +137,11 @@ module _ (m : Mesh) (law : Lawful m) where
 
         same : (S : InsideSum (shape m t) (s .point) (area (shape m u))) (U : InsideSum (shape m u) (s .point) (area (shape m t))) →
             SamePoint m (level (mix t (S .a) (S .b) (S .c))) (level (mix u (U .a) (U .b) (U .c)))
-        same S U φ by-x = S .on-x ∙ swap (area (shape m u)) (area (shape m t)) (s .point .X) ∙ sym (U .on-x)
-        same S U φ by-y = S .on-y ∙ swap (area (shape m u)) (area (shape m t)) (s .point .Y) ∙ sym (U .on-y)
-        same S U φ by-one = S .on-one ∙ swap (area (shape m u)) (area (shape m t)) (s .point .W) ∙ sym (U .on-one)
+        same S U φ c =
+            let A = coordinate-affine c in
+            (λ k. pos (S .a) *ℤ A .is (t .p) k +ℤ pos (S .b) *ℤ A .is (t .q) k +ℤ pos (S .c) *ℤ A .is (t .r) k)
+            ∙ S .on (A .form) ∙ swap (area (shape m u)) (area (shape m t)) (val (A .form) (s .point)) ∙ sym (U .on (A .form))
+            ∙ sym (λ k. pos (U .a) *ℤ A .is (u .p) k +ℤ pos (U .b) *ℤ A .is (u .q) k +ℤ pos (U .c) *ℤ A .is (u .r) k)
 
     -- A LAWFUL, FAITHFUL MESH IS PROPER
     pub faithful-proper : Proper m

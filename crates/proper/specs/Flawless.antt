@@ -18,7 +18,7 @@ use Rattle.meaning.specs.Coarsen.{coarsened, pass, restored, allMarked}
 use Rattle.meaning.specs.Tables.{Room}
 use Rattle.meaning.specs.Calls.{refineNo}
 use Rattle.meaning.specs.Setting.{corrected, setFault}
-use Rattle.meaning.specs.Proper.{Shape, StrictlyInside, Share, Proper, uncrowded, disjoint}
+use Rattle.meaning.specs.Proper.{shapeBy, StrictlyInside, Share, Proper, uncrowded, disjoint}
 use Rattle.laws.specs.Lawful.{refusal-lawful, lawful-refusal}
 use Rattle.laws.specs.Cut.{CutLaws}
 use Rattle.laws.specs.Bisected.{bisected-laws}
@@ -81,9 +81,6 @@ restored-flawless n0 m F = restored-keeps Flawless n0 (pass-flawless n0) m F
 module _ {m m′ : Mesh} (s : SamePlaces m m′) where
   places-same : at m ≡ at m′
   places-same = λ i k. at-same s k i
-
-  abbrev shapeBy : (ℕ → Place) → Tri → Shape
-  shapeBy f t = record { p = f (t .p); q = f (t .q); r = f (t .r) }
 
   pub proper-by-place : Proper m → Proper m′
   proper-by-place P = record {

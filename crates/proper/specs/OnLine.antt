@@ -1,5 +1,5 @@
 -- Places on the line through A and B, by how far along it they are: between A and B, at A, or beyond. Assumes nothing.
-use mathlib.Core.Path.{_≡_, _∙_}
+use mathlib.Core.Path.{_≡_, sym, subst, _∙_}
 use mathlib.Core.Logic.{_⊎_, inl, inr}
 use native.Mathlib.Omega.{arith}
 use lib.IntN.{ℤ, pos, _+ℤ_, _-ℤ_, _*ℤ_, *ℤ-comm}
@@ -24,7 +24,7 @@ len A B = along A B B
 abbrev pub Along : Expr → Expr → Expr → Expr → Expr → Expr → Expr
 Along ax ay bx by px py = (px :- ax) :* (bx :- ax) :+ (py :- ay) :* (by :- ay)
 
-abbrev Facing : Expr → Expr → Expr → Expr → Expr → Expr → Expr
+abbrev pub Facing : Expr → Expr → Expr → Expr → Expr → Expr → Expr
 Facing ax ay bx by px py = (ax :- px) :* (bx :- px) :+ (ay :- py) :* (by :- py)
 
 -- ---- signs
@@ -38,7 +38,7 @@ above-of-mul c a h i = unscale-lt c (pos 0) a h (omega (arith, onℤ, *ℤ-comm 
 pub zero-of-mul : (c a : ℤ) → pos 0 <ℤ c → c *ℤ a ≡ pos 0 → a ≡ pos 0
 zero-of-mul c a h e = times-cancel c a (pos 0) h (omega (arith, onℤ, mulℤ c (pos 0)))
 
-times-zero : (a b : ℤ) → b ≡ pos 0 → a *ℤ b ≡ pos 0
+pub times-zero : (a b : ℤ) → b ≡ pos 0 → a *ℤ b ≡ pos 0
 times-zero a b e = rw e (omega (arith, onℤ, mulℤ a (pos 0)))
 
 -- ---- two places on the line of A and B, seen from A
@@ -52,17 +52,22 @@ module _ (A B P Q : Place) where
   crossed = ring8 (λ a b c d e f g h. (Along a b c d c d :* Turn e f g h a b, Along a b c d e f :* Turn a b c d g h :- Along a b c d g h :* Turn a b c d e f))
       (A .x) (A .y) (B .x) (B .y) (P .x) (P .y) (Q .x) (Q .y) tt
 
-abbrev square : Place → Place → ℤ
-square C D = (C .x -ℤ D .x) *ℤ (C .x -ℤ D .x) +ℤ (C .y -ℤ D .y) *ℤ (C .y -ℤ D .y)
+-- ---- distances
 
-abbrev Square : Expr → Expr → Expr → Expr → Expr
-Square a b c d = (a :- c) :* (a :- c) :+ (b :- d) :* (b :- d)
-
-square-above : (C D : Place) → pos 0 ≤ℤ square C D
-square-above C D =
-    let u = C .x -ℤ D .x in
-    let v = C .y -ℤ D .y in
+pub len-nonneg : (A B : Place) → pos 0 ≤ℤ len A B
+len-nonneg A B =
+    let u = B .x -ℤ A .x in
+    let v = B .y -ℤ A .y in
     omega (arith, onℤ, nonneg-square u, nonneg-square v, sumℤ (u *ℤ u) (v *ℤ v))
+
+pub along-from : (A B : Place) → along A B A ≡ pos 0
+along-from A B = ring4 (λ a b c d. (Along a b c d a b, K (pos 0))) (A .x) (A .y) (B .x) (B .y) tt
+
+-- a place is not apart from itself
+pub len-same : (A B : Place) → A ≡ B → pos 0 <ℤ len A B → ⊥
+len-same A B e h =
+    let k : pos 0 <ℤ len A A = subst (λ (C : Place). pos 0 <ℤ len A C) (sym e) h in
+    omega (arith, onℤ, along-from A A)
 
 -- two places that make an area are apart
 pub len-above : (A B C : Place) → pos 0 <ℤ turn A B C → pos 0 <ℤ len A B
@@ -73,7 +78,7 @@ len-above A B C h = go (lt-or-le (pos 0) (len A B))
 
     go : (pos 0 <ℤ len A B) ⊎ (len A B ≤ℤ pos 0) → pos 0 <ℤ len A B
     go (inl l) = l
-    go (inr l) = absurd (flat (len A B) (facing C C A) (along A B C) (turn A B C) l (square-above C A) h (seen A B C C))
+    go (inr l) = absurd (flat (len A B) (facing C C A) (along A B C) (turn A B C) l (len-nonneg A C) h (seen A B C C))
 
 -- ---- one place on the line
 
@@ -111,21 +116,23 @@ module _ (A B P : Place) (flat : turn A B P ≡ pos 0) (apart : pos 0 <ℤ len A
       one p a b s = times-cancel (len A B) p a apart
           (s ∙ combine₁ (b -ℤ a) e (ring4 (λ l s a b. ((l :- s) :* a :+ s :* b :- l :* a, (b :- a) :* (s :- K (pos 0)))) (len A B) (along A B P) a b tt))
 
+-- the squares of the distances from the ends
+module _ (A B P : Place) where
+  pub from-start : along A B P +ℤ facing A B P ≡ len A P
+  from-start = ring6 (λ a b c d e f. (Along a b c d e f :+ Facing a b c d e f, Along a b e f e f)) (A .x) (A .y) (B .x) (B .y) (P .x) (P .y) tt
+
+  pub from-end : (len A B -ℤ along A B P) +ℤ facing A B P ≡ len B P
+  from-end = ring6 (λ a b c d e f. ((Along a b c d c d :- Along a b c d e f) :+ Facing a b c d e f, Along c d e f e f)) (A .x) (A .y) (B .x) (B .y) (P .x) (P .y) tt
+
 -- strictly inside, by how far along
 pub along-of-inside : (A B P : Place) → StrictlyInside A B P → pos 0 <ℤ len A B → (pos 0 <ℤ along A B P) × (along A B P <ℤ len A B)
 along-of-inside A B P s h = (first, second)
   where
-    from-a : along A B P +ℤ facing A B P ≡ square P A
-    from-a = ring6 (λ a b c d e f. (Along a b c d e f :+ Facing a b c d e f, Square e f a b)) (A .x) (A .y) (B .x) (B .y) (P .x) (P .y) tt
-
-    from-b : (len A B -ℤ along A B P) +ℤ facing A B P ≡ square P B
-    from-b = ring6 (λ a b c d e f. ((Along a b c d c d :- Along a b c d e f) :+ Facing a b c d e f, Square e f c d)) (A .x) (A .y) (B .x) (B .y) (P .x) (P .y) tt
-
     first : pos 0 <ℤ along A B P
-    first = let e = from-a in omega (arith, onℤ, square-above P A, s .between, sumℤ (along A B P) (facing A B P))
+    first = let e = from-start A B P in omega (arith, onℤ, len-nonneg A P, s .between, sumℤ (along A B P) (facing A B P))
 
     second : along A B P <ℤ len A B
-    second = let e = from-b in omega (arith, onℤ, square-above P B, s .between, subℤ (len A B) (along A B P), sumℤ (len A B -ℤ along A B P) (facing A B P))
+    second = let e = from-end A B P in omega (arith, onℤ, len-nonneg B P, s .between, subℤ (len A B) (along A B P), sumℤ (len A B -ℤ along A B P) (facing A B P))
 
 -- ---- the ends exchanged
 
@@ -146,12 +153,9 @@ between-others A B P Q e f l h i = record {
     cross : (a b c d : ℤ) → b ≡ pos 0 → d ≡ pos 0 → a *ℤ b -ℤ c *ℤ d ≡ pos 0
     cross a b c d p q = rw (p, q) (ring4 (λ a b c d. (a :* K (pos 0) :- c :* K (pos 0), K (pos 0))) a b c d tt)
 
-    opposite : (u v : ℤ) → u <ℤ pos 0 → pos 0 <ℤ v → (u *ℤ v) <ℤ pos 0
-    opposite u v h i = omega (arith, onℤ, scale-lt v u (pos 0) i h, mulℤ (pos 0) v)
-
     below : (len A B *ℤ facing P Q A) <ℤ pos 0
     below =
         let e′ = seen A B P Q in
-        let o = opposite (along A B P) (along A B Q) h i in
+        let o = scale-lt (along A B Q) (along A B P) (pos 0) i h in
         let z = times-zero (turn A B P) (turn A B Q) f in
-        omega (arith, onℤ, sumℤ (along A B P *ℤ along A B Q) (turn A B P *ℤ turn A B Q))
+        omega (arith, onℤ, mulℤ (pos 0) (along A B Q), sumℤ (along A B P *ℤ along A B Q) (turn A B P *ℤ turn A B Q))

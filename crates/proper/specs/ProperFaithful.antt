@@ -13,7 +13,7 @@ use lib.Signed.{_≤ℤ_, _<ℤ_}
 use Rattle.lists.specs.ListsLaw.{clash, All-at}
 use Rattle.lists.specs.MembersLaw.{mem-at}
 use Rattle.whole.specs.Diff.{onℤ, sumℤ, mulℤ}
-use Rattle.whole.specs.Ring.{K, _:+_, _:*_, ring3, ring4}
+use Rattle.whole.specs.Ring.{K, _:+_, _:*_, ring4}
 use Rattle.whole.specs.Order.{lt-or-le, lt-not-le, le-of-eq, positive-times, nonpos-times, times-le, times-cancel}
 use Rattle.meaning.specs.declared.Tri.{Tri}
 use Rattle.meaning.specs.Mesh.{Mesh, Arrow, tri, sameTri, arrows, at}
@@ -23,8 +23,8 @@ use Rattle.laws.specs.Area.{turn-from, turn-to}
 use Rattle.laws.specs.Edges.{sameTri-eq, sameTri-refl}
 use Rattle.proper.specs.Apart.{NoneLeft, PartedBy, by-pq, by-qr, by-rp, Apart, by-first, by-second}
 use Rattle.proper.specs.Convex.{val, side, spot}
-use Rattle.proper.specs.Sharing.{side-turn, weights, apart-or-share}
-use Rattle.proper.specs.OnLine.{zero-of-mul}
+use Rattle.proper.specs.Sharing.{share-back, side-turn, weights, apart-or-share}
+use Rattle.proper.specs.OnLine.{zero-of-mul, times-zero}
 use Rattle.proper.specs.Sums.{Mix, mix, level, two, SamePoint, SameSum, Faithful, rotated, rotated-same, without-third, level-linear, affine-same, turnTo, turn-affine}
 use Rattle.proper.specs.Corners.{above-pqr, above-qrp, above-rpq, row-edge}
 use Rattle.proper.specs.EdgesMeet.{Side, edges-meet}
@@ -105,7 +105,7 @@ module _ (m : Mesh) (law : Lawful m) (proper : Proper m) where
       ∙ none (left (S .q) (S .r) Z) (left (S .r) (S .p) Z) (left (S .p) (S .q) Z) _ _ _ (side-turn X Y (at m (t .p)) ∙ e) (side-turn X Y (at m (t .q)) ∙ f) (side-turn X Y (at m (t .r)) ∙ g)))
     where
       none : (a b c u v w : ℤ) → u ≡ pos 0 → v ≡ pos 0 → w ≡ pos 0 → a *ℤ u +ℤ b *ℤ v +ℤ c *ℤ w ≡ pos 0
-      none a b c u v w e f g = third-only a b c u v w e f ∙ rw g (ring3 (λ a b c. (c :* K (pos 0), K (pos 0))) a b c tt)
+      none a b c u v w e f g = third-only a b c u v w e f ∙ times-zero c w g
 
   none-left-same : (x y z : ℕ) → Side m x y → pos 0 <ℤ turnTo m x y z → (α β γ : ℕ) (u : Mix) → List·Memᴰ (u .row) (m .tris) → NoneLeft (at m x) (at m y) (shape m (u .row))
       → SamePoint m (level (mix (tri x y z) α β γ)) (level u) → SameSum (level (mix (tri x y z) α β γ)) (level u)
@@ -157,7 +157,7 @@ module _ (m : Mesh) (law : Lawful m) (proper : Proper m) where
     where
       go : (i j : ℕ) → i < length (m .tris) → j < length (m .tris) → Share (shape m (rowOf (m .tris) i)) (shape m (rowOf (m .tris) j)) → i ≢ j → Dec (i < j) → Dec (j < i) → ⊥
       go i j hi hj s n (yes l) d = proper .none-shared i j l hj s
-      go i j hi hj s n (no l) (yes d) = proper .none-shared j i d hi (record { point = s .point; weight = s .weight; in-first = s .in-second; in-second = s .in-first })
+      go i j hi hj s n (no l) (yes d) = proper .none-shared j i d hi (share-back s)
       go i j hi hj s n (no l) (no d) = n (omega arith)
 
   -- A LAWFUL, PROPER MESH IS FAITHFUL

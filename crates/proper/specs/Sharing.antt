@@ -17,10 +17,15 @@ use Rattle.proper.specs.Apart.{NoneLeft, PartedBy, by-pq, by-qr, by-rp, 
 use Rattle.proper.specs.Convex.{Form, val, val-sum, val-times, side, side-left, spot, _⊕_, _⊙_, Above, above}
 use Rattle.proper.specs.Helly.{Meet, wider, six}
 
+pub share-back : {s t : Shape} → Share s t → Share t s
+share-back h = record { point = h .point; weight = h .weight; in-first = h .in-second; in-second = h .in-first }
+
 -- ---- forms at corners
+pub left-turn : (a b c : Place) → left a b (spot c) ≡ turn a b c
+left-turn a b c = ring6 (λ ax ay bx by cx cy. ((bx :- ax) :* (cy :- ay :* K (pos 1)) :- (cx :- ax :* K (pos 1)) :* (by :- ay), Turn ax ay bx by cx cy)) (a .x) (a .y) (b .x) (b .y) (c .x) (c .y) tt
+
 pub side-turn : (a b c : Place) → val (side a b) (spot c) ≡ turn a b c
-side-turn a b c = side-left a b (spot c)
-    ∙ ring6 (λ ax ay bx by cx cy. ((bx :- ax) :* (cy :- ay :* K (pos 1)) :- (cx :- ax :* K (pos 1)) :* (by :- ay), Turn ax ay bx by cx cy)) (a .x) (a .y) (b .x) (b .y) (c .x) (c .y) tt
+side-turn a b c = side-left a b (spot c) ∙ left-turn a b c
 
 -- the point in a triangle's middle
 abbrev middle : Shape → Point
@@ -168,11 +173,14 @@ sum3-le u v w x y z h i j k l m =
       sumℤ (u *ℤ x +ℤ v *ℤ y) (w *ℤ z),
     )
 
+-- a form that is above 0 at no corner is so at no point inside
+pub form-out : (f : Form) (t : Shape) (s : Point) → pos 0 <ℤ area t → Inside t s →
+    val f (spot (t .p)) ≤ℤ pos 0 → val f (spot (t .q)) ≤ℤ pos 0 → val f (spot (t .r)) ≤ℤ pos 0 → pos 0 <ℤ val f s → ⊥
+form-out f t s h i a b c l = lt-not-le (positive-times (area t) (val f s) h l) (rw (weights f t s) (sum3-le _ _ _ _ _ _ (i .qr) (i .rp) (i .pq) a b c))
+
 none-left-out : (a b : Place) (t : Shape) (s : Point) → pos 0 <ℤ area t → NoneLeft a b t → Inside t s → pos 0 <ℤ left a b s → ⊥
 none-left-out a b t s h o i l =
-    lt-not-le (positive-times (area t) (val (side a b) s) h (rw (side-left a b s) l))
-    (rw (weights (side a b) t s)
-    (sum3-le _ _ _ _ _ _ (i .qr) (i .rp) (i .pq) (rw (side-turn a b (t .p)) (o .at-p)) (rw (side-turn a b (t .q)) (o .at-q)) (rw (side-turn a b (t .r)) (o .at-r))))
+    form-out (side a b) t s h i (rw (side-turn a b (t .p)) (o .at-p)) (rw (side-turn a b (t .q)) (o .at-q)) (rw (side-turn a b (t .r)) (o .at-r)) (rw (side-left a b s) l)
 
 parted-out : (s t : Shape) → pos 0 <ℤ area t → (m : Point) → Inside s m → Inside t m → PartedBy s t → ⊥
 parted-out s t h m i j (by-pq o) = none-left-out (s .p) (s .q) t m h o j (i .pq)

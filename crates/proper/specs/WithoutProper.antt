@@ -3,10 +3,10 @@
 -- before, and a node that goes with weight tells its pair. Assumes nothing.
 use mathlib.Core.Bool.{true, false}
 use mathlib.Core.List.{List, [], _∷_, List·Memᴰ}
-use mathlib.Core.Path.{_≡_, refl, sym, ap, subst, subst⁻¹, _∙_}
-use Prim.Native.Nat.{ℕ, zero, suc, min, max, _+_, _*_, _-_, _≤_, _<_}
+use mathlib.Core.Path.{_≡_, refl, sym, ap, subst, _∙_}
+use Prim.Native.Nat.{ℕ, zero, suc, _+_, _*_, _-_, _≤_, _<_}
 use native.Mathlib.Omega.{arith}
-use native.Mathlib.Decide.{decLe, ℕ-discrete}
+use native.Mathlib.Decide.{decLe}
 use lib.IntN.{ℤ, pos, _+ℤ_, _*ℤ_}
 use Rattle.lists.specs.Lists.{joined, All}
 use Rattle.lists.specs.ListsLaw.{clash, All-imp, All-both, All-at, All-map, any-at}
@@ -19,37 +19,26 @@ use Rattle.meaning.specs.Lawful.{Lawful}
 use Rattle.meaning.specs.Good.{Middle, Brothers, father, span}
 use Rattle.meaning.specs.Coarsen.{fate, renumber, renamed, taken, without, coarsened}
 use Rattle.meaning.specs.Proper.{Proper}
+use Rattle.laws.specs.Area.{ends-sum}
 use Rattle.laws.specs.Edges.{holds-p, holds-q, holds-r}
 use Rattle.laws.specs.Star.{Pair}
 use Rattle.laws.specs.CoarsenRows.{Takeable, touched, brood, newest-of, broods, after-all}
 use Rattle.laws.specs.Without.{Sound, rows-sound, without-at, without-lawful}
 use Rattle.laws.specs.Coarsen.{takeable}
+use Rattle.laws.specs.RowMean.{CornerOf, is-p, is-q, is-r}
 use Rattle.proper.specs.Sums.{Sum, Mix, mix, level, SamePoint, SameSum, Meant, point-from, Faithful}
 use Rattle.proper.specs.ProperFaithful.{proper-faithful}
-use Rattle.proper.specs.Corners.{IsCorner, is-p, is-q, is-r, weightOf, same-weight, corner-of-weight, weight-p}
+use Rattle.proper.specs.Corners.{weightOf, same-weight, corner-of-weight, weight-p}
 use Rattle.proper.specs.FaithfulProper.{faithful-proper}
 
 -- the two ends of an edge, in either order
-ends-sum : (φ : ℕ → ℤ) (a b c d : ℕ) → edge a b ≡ edge c d → φ a +ℤ φ b ≡ φ c +ℤ φ d
-ends-sum φ a b c d e = go (ℕ-discrete a c)
-  where
-    lo : min a b ≡ min c d
-    lo = ap (λ x. x .lo) e
+edge-sum : (φ : ℕ → ℤ) (a b c d : ℕ) → edge a b ≡ edge c d → φ a +ℤ φ b ≡ φ c +ℤ φ d
+edge-sum φ a b c d e = sym (ends-sum φ a b) ∙ ap (λ x. φ (x .lo) +ℤ φ (x .hi)) e ∙ ends-sum φ c d
 
-    hi : max a b ≡ max c d
-    hi = ap (λ x. x .hi) e
-
-    go : Dec (a ≡ c) → φ a +ℤ φ b ≡ φ c +ℤ φ d
-    go (yes p) = let q : b ≡ d = omega (arith, lo, hi) in λ i. φ (p i) +ℤ φ (q i)
-    go (no p) =
-        let q : a ≡ d = omega (arith, lo, hi) in
-        let r : b ≡ c = omega (arith, lo, hi) in
-        (λ i. φ (q i) +ℤ φ (r i)) ∙ ring2 (λ x y. (x :+ y, y :+ x)) (φ d) (φ c) tt
-
-holds-corner : {k : ℕ} (t : Tri) → IsCorner k t → holdsNode k t ≡ true
-holds-corner t (is-p e) = subst⁻¹ (λ k. holdsNode k t ≡ true) e (holds-p t)
-holds-corner t (is-q e) = subst⁻¹ (λ k. holdsNode k t ≡ true) e (holds-q t)
-holds-corner t (is-r e) = subst⁻¹ (λ k. holdsNode k t ≡ true) e (holds-r t)
+holds-corner : {k : ℕ} (t : Tri) → CornerOf t k → holdsNode k t ≡ true
+holds-corner t is-p = holds-p t
+holds-corner t is-q = holds-q t
+holds-corner t is-r = holds-r t
 
 -- ---- two sides with a term each, by a weight n
 
@@ -74,14 +63,14 @@ module _ (m : Mesh) (zs : List ℕ) (law : Lawful m) (ok : Takeable m zs) where
     c : ℕ
     middle : 0 < half → Middle (at m z) (at m b) (at m c)
     goes : 0 < half → List·Memᴰ z zs × (edge b c ≡ span m z) × (weightOf child z ≡ 2 * half)
-    met : (y : ℕ) → List·Memᴰ y zs → IsCorner y (child .row) → (y ≡ z) × (edge b c ≡ span m z) × (weightOf child z ≡ 2 * half)
+    met : (y : ℕ) → List·Memᴰ y zs → CornerOf (child .row) y → (y ≡ z) × (edge b c ≡ span m z) × (weightOf child z ≡ 2 * half)
     sum : (φ : ℕ → ℤ) → F φ +ℤ pos (2 * half) *ℤ φ z ≡ level child φ +ℤ pos half *ℤ (φ b +ℤ φ c)
 
   -- each sum of the corners of row t
   abbrev Downs : Tri → Type 0
   Downs t = (α β γ : ℕ) → Down (level (mix t α β γ))
 
-  newest : {t : Tri} → List·Memᴰ t (m .tris) → (y : ℕ) → List·Memᴰ y zs → IsCorner y t → t .p ≡ y
+  newest : {t : Tri} → List·Memᴰ t (m .tris) → (y : ℕ) → List·Memᴰ y zs → CornerOf t y → t .p ≡ y
   newest {t} i y j h = newest-of m zs law ok y t j i (holds-corner t h)
 
   -- ---- a row that stays
@@ -100,53 +89,46 @@ module _ (m : Mesh) (zs : List ℕ) (law : Lawful m) (ok : Takeable m zs) where
     sum = λ φ. ring2 (λ f z. (f :+ K (pos 0) :* z, f :+ K (pos 0) :* (z :+ z))) (level (mix t α β γ) φ) (φ 0) tt;
   }
     where
-      none : (y : ℕ) → List·Memᴰ y zs → IsCorner y t → ⊥
+      none : (y : ℕ) → List·Memᴰ y zs → CornerOf t y → ⊥
       none y j h = clash (sym (any-at (λ z. holdsNode z t) (holds-corner t h) j) ∙ n)
 
   -- ---- a father
 
   module _ {br : Brothers} (z : ℕ) (j : List·Memᴰ z zs) (pair : Pair m z br) where
-    left-down : (α β γ : ℕ) → γ ≤ β → Down (level (mix (father br) α β γ))
-    left-down α β γ le = record {
-      child = mix (br .left) (2 * γ) α (β - γ);
-      is-row = pair .left-row;
-      half = γ;
+    -- by a child u that has z first
+    by-child : {F : Sum} (u : Tri) → List·Memᴰ u (m .tris) → u .p ≡ z → (half α β : ℕ) →
+        ((φ : ℕ → ℤ) → F φ +ℤ pos (2 * half) *ℤ φ z ≡ level (mix u (2 * half) α β) φ +ℤ pos half *ℤ (φ (br .left .r) +ℤ φ (br .right .q))) → Down F
+    by-child u i e half α β sum = record {
+      child = mix u (2 * half) α β;
+      is-row = i;
+      half = half;
       z = z;
       b = br .left .r;
       c = br .right .q;
       middle = λ h. pair .middle;
       goes = λ h. (j, pair .ends, z-weight);
-      met = λ y k h. (sym (newest (pair .left-row) y k h) ∙ pair .left-p, pair .ends, z-weight);
-      sum = λ φ.
-          (let e : β ≡ (β - γ) + γ = omega arith in
-          (λ i. pos α *ℤ φ (br .left .q) +ℤ pos (e i) *ℤ φ (br .left .r) +ℤ pos γ *ℤ φ (br .right .q) +ℤ pos (2 * γ) *ℤ φ (sym (pair .left-p) i))
-          ∙ solve (pos α ∷ pos (β - γ) ∷ pos γ ∷ φ (br .left .p) ∷ φ (br .left .q) ∷ φ (br .left .r) ∷ φ (br .right .q) ∷ [])
-          (X 0 :* X 4 :+ (X 1 :+ X 2) :* X 5 :+ X 2 :* X 6 :+ K (pos 2) :* X 2 :* X 3) (K (pos 2) :* X 2 :* X 3 :+ X 0 :* X 4 :+ X 1 :* X 5 :+ X 2 :* (X 5 :+ X 6)) tt);
+      met = λ y k h. (sym (newest i y k h) ∙ e, pair .ends, z-weight);
+      sum = sum;
     }
       where
-        z-weight : weightOf (mix (br .left) (2 * γ) α (β - γ)) z ≡ 2 * γ
-        z-weight = subst (λ k. weightOf (mix (br .left) (2 * γ) α (β - γ)) k ≡ 2 * γ) (pair .left-p) (weight-p (br .left) (All-at (law .named) (pair .left-row)) (2 * γ) α (β - γ))
+        z-weight : weightOf (mix u (2 * half) α β) z ≡ 2 * half
+        z-weight = subst (λ k. weightOf (mix u (2 * half) α β) k ≡ 2 * half) e (weight-p u (All-at (law .named) i) (2 * half) α β)
+
+    left-down : (α β γ : ℕ) → γ ≤ β → Down (level (mix (father br) α β γ))
+    left-down α β γ le = by-child (br .left) (pair .left-row) (pair .left-p) γ α (β - γ)
+        (λ φ.
+        (let e : β ≡ (β - γ) + γ = omega arith in
+        (λ i. pos α *ℤ φ (br .left .q) +ℤ pos (e i) *ℤ φ (br .left .r) +ℤ pos γ *ℤ φ (br .right .q) +ℤ pos (2 * γ) *ℤ φ (sym (pair .left-p) i))
+        ∙ solve (pos α ∷ pos (β - γ) ∷ pos γ ∷ φ (br .left .p) ∷ φ (br .left .q) ∷ φ (br .left .r) ∷ φ (br .right .q) ∷ [])
+        (X 0 :* X 4 :+ (X 1 :+ X 2) :* X 5 :+ X 2 :* X 6 :+ K (pos 2) :* X 2 :* X 3) (K (pos 2) :* X 2 :* X 3 :+ X 0 :* X 4 :+ X 1 :* X 5 :+ X 2 :* (X 5 :+ X 6)) tt))
 
     right-down : (α β γ : ℕ) → β ≤ γ → Down (level (mix (father br) α β γ))
-    right-down α β γ le = record {
-      child = mix (br .right) (2 * β) (γ - β) α;
-      is-row = pair .right-row;
-      half = β;
-      z = z;
-      b = br .left .r;
-      c = br .right .q;
-      middle = λ h. pair .middle;
-      goes = λ h. (j, pair .ends, z-weight);
-      met = λ y k h. (sym (newest (pair .right-row) y k h) ∙ pair .right-p, pair .ends, z-weight);
-      sum = λ φ.
-          (let e : γ ≡ (γ - β) + β = omega arith in
-          (λ i. pos α *ℤ φ (sym (pair .joint) i) +ℤ pos β *ℤ φ (br .left .r) +ℤ pos (e i) *ℤ φ (br .right .q) +ℤ pos (2 * β) *ℤ φ (sym (pair .right-p) i))
-          ∙ solve (pos α ∷ pos (γ - β) ∷ pos β ∷ φ (br .right .p) ∷ φ (br .right .q) ∷ φ (br .right .r) ∷ φ (br .left .r) ∷ [])
-          (X 0 :* X 5 :+ X 2 :* X 6 :+ (X 1 :+ X 2) :* X 4 :+ K (pos 2) :* X 2 :* X 3) (K (pos 2) :* X 2 :* X 3 :+ X 1 :* X 4 :+ X 0 :* X 5 :+ X 2 :* (X 6 :+ X 4)) tt);
-    }
-      where
-        z-weight : weightOf (mix (br .right) (2 * β) (γ - β) α) z ≡ 2 * β
-        z-weight = subst (λ k. weightOf (mix (br .right) (2 * β) (γ - β) α) k ≡ 2 * β) (pair .right-p) (weight-p (br .right) (All-at (law .named) (pair .right-row)) (2 * β) (γ - β) α)
+    right-down α β γ le = by-child (br .right) (pair .right-row) (pair .right-p) β (γ - β) α
+        (λ φ.
+        (let e : γ ≡ (γ - β) + β = omega arith in
+        (λ i. pos α *ℤ φ (sym (pair .joint) i) +ℤ pos β *ℤ φ (br .left .r) +ℤ pos (e i) *ℤ φ (br .right .q) +ℤ pos (2 * β) *ℤ φ (sym (pair .right-p) i))
+        ∙ solve (pos α ∷ pos (γ - β) ∷ pos β ∷ φ (br .right .p) ∷ φ (br .right .q) ∷ φ (br .right .r) ∷ φ (br .left .r) ∷ [])
+        (X 0 :* X 5 :+ X 2 :* X 6 :+ (X 1 :+ X 2) :* X 4 :+ K (pos 2) :* X 2 :* X 3) (K (pos 2) :* X 2 :* X 3 :+ X 1 :* X 4 :+ X 0 :* X 5 :+ X 2 :* (X 6 :+ X 4)) tt))
 
     father-down : Downs (father br)
     father-down α β γ = go (decLe γ β)
@@ -183,7 +165,7 @@ module _ (m : Mesh) (zs : List ℕ) (law : Lawful m) (ok : Takeable m zs) where
       let o = E .met (D .z) (g .0) (corner-of-weight (E .child) (D .z) (omega (arith, g .2, w))) in
       let w′ : weightOf (E .child) (D .z) ≡ weightOf (E .child) (E .z) = ap (weightOf (E .child)) (o .0) in
       let n : D .half ≡ E .half = omega (arith, g .2, o .2, w, w′) in
-      let pair = ends-sum φ (D .b) (D .c) (E .b) (E .c) (g .1 ∙ ap (span m) (o .0) ∙ sym (o .1)) in
+      let pair = edge-sum φ (D .b) (D .c) (E .b) (E .c) (g .1 ∙ ap (span m) (o .0) ∙ sym (o .1)) in
       cancel (F φ) (G φ) (pos (2 * D .half) *ℤ φ (D .z))
       (D .sum φ ∙ (λ i. e φ i +ℤ pos (n i) *ℤ pair i) ∙ sym (E .sum φ) ∙ (λ i. G φ +ℤ pos (2 * sym n i) *ℤ φ (sym (o .0) i)))
 

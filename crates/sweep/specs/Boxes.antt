@@ -1,109 +1,94 @@
 -- W7: two rows of which one has all its corners below those of the other, along x or along y, have nothing to do with each other. P gives the
 -- place of each node. Assumes nothing.
 use mathlib.Core.Bool.{Bool, true, false}
-use mathlib.Core.Logic.{inl, inr}
-use mathlib.Core.Path.{_≡_, refl}
+use mathlib.Core.Logic.{_⊎_, inl, inr}
+use mathlib.Core.Path.{_≡_, refl, _∙_}
 use Prim.Native.Nat.{ℕ, _≤_, _<_}
 use native.Mathlib.Omega.{arith}
-use lib.IntN.{ℤ, pos, natAbs, _+ℤ_, _-ℤ_, _*ℤ_}
+use lib.IntN.{ℤ, pos, negsuc, negℤ, natAbs, _+ℤ_, _-ℤ_, _*ℤ_}
 use lib.Signed.{_≤ℤ_, _<ℤ_}
 use Rattle.lists.specs.Lists.{cases, All, nil, cons}
 use Rattle.lists.specs.ListsLaw.{All·head, All·tail, All-at, All-imp, All-both}
-use Rattle.whole.specs.Diff.{onℤ, sumℤ, subℤ, mulℤ}
+use Rattle.whole.specs.Diff.{onℤ, sumℤ, subℤ}
 use Rattle.whole.specs.Bound.{absℤ}
-use Rattle.whole.specs.Ring.{Expr, _:+_, _:-_, _:*_, ring10}
-use Rattle.whole.specs.Order.{positive-times, times-le}
+use Rattle.whole.specs.Ring.{K, _:+_, _:-_, _:*_, neg, ring2, ring4}
+use Rattle.whole.specs.Order.{lt-or-le}
 use Rattle.meaning.specs.declared.Place.{Place}
 use Rattle.meaning.specs.declared.Tri.{Tri}
 use Rattle.meaning.specs.Mesh.{arrows}
 use Rattle.meaning.specs.Lawful.{InRange}
-use Rattle.meaning.specs.Proper.{Shape, Point, left, area, Inside, Share}
-use Rattle.laws.specs.Area.{Turn}
-use Rattle.proper.specs.OnLine.{above-of-mul}
+use Rattle.meaning.specs.Proper.{Point, area, Inside, Share}
+use Rattle.proper.specs.Convex.{Form, val, spot}
+use Rattle.proper.specs.Segment.{form-straight, not-over}
+use Rattle.proper.specs.Sharing.{form-out}
 use Rattle.proper.specs.Tested.{share-exact}
 use Rattle.pairs.specs.Pair.{shapeBy, corners, grave}
 use Rattle.columns.specs.Columns.{shifted, low, high}
-use Rattle.sweep.specs.Between.{coord, not-above, not-below}
-use Rattle.sweep.specs.Touch.{Touching, touches-is}
+use Rattle.sweep.specs.Touch.{Touching, touches-is, side-long}
 use Rattle.sweep.specs.Gravest.{GraveIs, touch, overlap, clear, grave-is}
 
--- ---- a point inside a triangle is a sum of its corners
-
--- a coordinate of a point, times its W
-abbrev across : Bool → Point → ℤ
-across y s = cases y (s .Y) (s .X)
-
-abbrev Left : Expr → Expr → Expr → Expr → Expr → Expr → Expr → Expr
-Left ax ay bx by x y w = (bx :- ax) :* (y :- ay :* w) :- (x :- ax :* w) :* (by :- ay)
-
-weights : (y : Bool) (t : Shape) (s : Point) (v : ℤ) →
-    area t *ℤ (across y s -ℤ v *ℤ s .W) ≡
-    left (t .q) (t .r) s *ℤ (coord y (t .p) -ℤ v) +ℤ left (t .r) (t .p) s *ℤ (coord y (t .q) -ℤ v) +ℤ left (t .p) (t .q) s *ℤ (coord y (t .r) -ℤ v)
-weights true t s v = ring10 (λ a b c d e f x y w v.
-    (Turn a b c d e f :* (y :- v :* w), Left c d e f x y w :* (b :- v) :+ Left e f a b x y w :* (d :- v) :+ Left a b c d x y w :* (f :- v)))
-    (t .p .x) (t .p .y) (t .q .x) (t .q .y) (t .r .x) (t .r .y) (s .X) (s .Y) (s .W) v tt
-weights false t s v = ring10 (λ a b c d e f x y w v.
-    (Turn a b c d e f :* (x :- v :* w), Left c d e f x y w :* (a :- v) :+ Left e f a b x y w :* (c :- v) :+ Left a b c d x y w :* (e :- v)))
-    (t .p .x) (t .p .y) (t .q .x) (t .q .y) (t .r .x) (t .r .y) (s .X) (s .Y) (s .W) v tt
-
-module _ (y : Bool) (t : Shape) (s : Point) (v : ℤ) (h : pos 0 <ℤ area t) (i : Inside t s) where
-  -- how far a corner, and the point, is beyond v
-  abbrev past : Place → ℤ
-  past A = coord y A -ℤ v
-
-  abbrev past-point : ℤ
-  past-point = across y s -ℤ v *ℤ s .W
-
-  point-below : coord y (t .p) ≤ℤ v → coord y (t .q) ≤ℤ v → coord y (t .r) ≤ℤ v → pos 0 <ℤ past-point → ⊥
-  point-below p q r k = sum _ _ _ (weights y t s v) (term (i .qr) (t .p) p) (term (i .rp) (t .q) q) (term (i .pq) (t .r) r) (positive-times (area t) past-point h k)
-    where
-      term : {w : ℤ} → pos 0 <ℤ w → (A : Place) → coord y A ≤ℤ v → (w *ℤ past A) ≤ℤ pos 0
-      term {w} k A l = omega (arith, onℤ, mulℤ w (pos 0), times-le w (past A) (pos 0) (omega (arith, onℤ)) (omega (arith, onℤ, subℤ (coord y A) v)))
-
-      sum : (a b c : ℤ) {d : ℤ} → d ≡ a +ℤ b +ℤ c → a ≤ℤ pos 0 → b ≤ℤ pos 0 → c ≤ℤ pos 0 → pos 0 <ℤ d → ⊥
-      sum a b c e k l n o = omega (arith, onℤ, sumℤ a b, sumℤ (a +ℤ b) c)
-
-  point-above : v <ℤ coord y (t .p) → v <ℤ coord y (t .q) → v <ℤ coord y (t .r) → pos 0 <ℤ past-point
-  point-above p q r = above-of-mul (area t) past-point h (sum _ _ _ (weights y t s v) (term (i .qr) (t .p) p) (term (i .rp) (t .q) q) (term (i .pq) (t .r) r))
-    where
-      term : {w : ℤ} → pos 0 <ℤ w → (A : Place) → v <ℤ coord y A → pos 0 <ℤ (w *ℤ past A)
-      term {w} k A l = positive-times w (past A) k (omega (arith, onℤ, subℤ (coord y A) v))
-
-      sum : (a b c : ℤ) {d : ℤ} → d ≡ a +ℤ b +ℤ c → pos 0 <ℤ a → pos 0 <ℤ b → pos 0 <ℤ c → pos 0 <ℤ d
-      sum a b c e k l n = omega (arith, onℤ, sumℤ a b, sumℤ (a +ℤ b) c)
-
--- ---- two rows
-
--- all corners of t at most v, all of u above it
-record Parted (y : Bool) (v : ℤ) (P : ℕ → Place) (t u : Tri) : Type 0 where
-  lower : All (λ k. coord y (P k) ≤ℤ v) (corners t)
-  upper : All (λ k. v <ℤ coord y (P k)) (corners u)
+-- ---- a line that parts two rows
 
 -- what holds of the corners holds of the ends of the sides
 ends-too : {Q : ℕ → Type 0} (t : Tri) → All Q (corners t) → All (λ e. Q (e .from) × Q (e .to)) (arrows t)
 ends-too t (cons p (cons q (cons r nil))) = cons (p, q) (cons (q, r) (cons (r, p) nil))
 
-module _ (y : Bool) (v : ℤ) (P : ℕ → Place) (t u : Tri) (h : Parted y v P t u) where
-  low-side : Touching P t u → ⊥
-  low-side T =
-      let e = All-at (ends-too t (h .lower)) (T .side-of) in
-      let a = not-above y (P (T .side .from)) (P (T .side .to)) (P (T .corner)) v (T .on .on-line) (T .on .within) (e .0) (e .1) in
-      let b = All-at (h .upper) (T .corner-of) in
-      omega (arith, onℤ)
+-- a form above 0 at no corner of t, and at all corners of u
+module _ (f : Form) (P : ℕ → Place) (t u : Tri) (a : pos 0 <ℤ area (shapeBy P t)) (under : All (λ k. val f (spot (P k)) ≤ℤ pos 0) (corners t)) where
+  untouched : All (λ k. pos 0 <ℤ val f (spot (P k))) (corners u) → Touching P t u → ⊥
+  untouched over T =
+      let e = All-at (ends-too t under) (T .side-of) in
+      not-over (P (T .side .from)) (P (T .side .to)) (P (T .corner)) (T .on .on-line) (T .on .within) (side-long P t a (T .side-of)) (λ Q. val f (spot Q)) (form-straight f)
+      (e .0) (e .1) (All-at over (T .corner-of))
 
-  high-side : Touching P u t → ⊥
-  high-side T =
-      let e = All-at (ends-too u (h .upper)) (T .side-of) in
-      let a = not-below y (P (T .side .from)) (P (T .side .to)) (P (T .corner)) v (T .on .on-line) (T .on .within) (e .0) (e .1) in
-      let b = All-at (h .lower) (T .corner-of) in
-      omega (arith, onℤ)
+  not-past : (s : Point) → Inside (shapeBy P t) s → val f s ≤ℤ pos 0
+  not-past s i = go (lt-or-le (pos 0) (val f s))
+    where
+      go : (pos 0 <ℤ val f s) ⊎ (val f s ≤ℤ pos 0) → val f s ≤ℤ pos 0
+      go (inl h) = absurd (form-out f (shapeBy P t) s a i (All·head under) (All·head (All·tail under)) (All·head (All·tail (All·tail under))) h)
+      go (inr h) = h
 
-  unshared : pos 0 <ℤ area (shapeBy P t) → pos 0 <ℤ area (shapeBy P u) → ¬ Share (shapeBy P t) (shapeBy P u)
-  unshared a b s =
-      let l = h .lower in
-      let g = h .upper in
-      point-below y (shapeBy P t) (s .point) v a (s .in-first) (All·head l) (All·head (All·tail l)) (All·head (All·tail (All·tail l)))
-      (point-above y (shapeBy P u) (s .point) v b (s .in-second) (All·head g) (All·head (All·tail g)) (All·head (All·tail (All·tail g))))
+-- ---- lines across, between two neighbouring whole numbers
+
+-- y, or x, of a point, times its W
+abbrev across : Bool → Point → ℤ
+across y s = cases y (s .Y) (s .X)
+
+abbrev coord : Bool → Place → ℤ
+coord y a = across y (spot a)
+
+-- how far y, or x, is past v, and how far it is short of v + 1
+past : Bool → ℤ → Form
+past true v = record { a = pos 0; b = pos 1; c = negℤ v }
+past false v = record { a = pos 1; b = pos 0; c = negℤ v }
+
+short : Bool → ℤ → Form
+short true v = record { a = pos 0; b = negsuc 0; c = v +ℤ pos 1 }
+short false v = record { a = negsuc 0; b = pos 0; c = v +ℤ pos 1 }
+
+past-is : (y : Bool) (v : ℤ) (s : Point) → val (past y v) s ≡ across y s -ℤ v *ℤ s .W
+unfolding val past
+past-is true v s = ring4 (λ x y w v. (K (pos 0) :* x :+ K (pos 1) :* y :+ neg v :* w, y :- v :* w)) (s .X) (s .Y) (s .W) v tt
+past-is false v s = ring4 (λ x y w v. (K (pos 1) :* x :+ K (pos 0) :* y :+ neg v :* w, x :- v :* w)) (s .X) (s .Y) (s .W) v tt
+
+short-is : (y : Bool) (v : ℤ) (s : Point) → val (short y v) s ≡ (v *ℤ s .W +ℤ s .W) -ℤ across y s
+unfolding val short
+short-is true v s = ring4 (λ x y w v. (K (pos 0) :* x :+ K (negsuc 0) :* y :+ (v :+ K (pos 1)) :* w, (v :* w :+ w) :- y)) (s .X) (s .Y) (s .W) v tt
+short-is false v s = ring4 (λ x y w v. (K (negsuc 0) :* x :+ K (pos 0) :* y :+ (v :+ K (pos 1)) :* w, (v :* w :+ w) :- x)) (s .X) (s .Y) (s .W) v tt
+
+-- their signs, up to v and beyond it
+module _ (y : Bool) (v : ℤ) (A : Place) where
+  past-at : val (past y v) (spot A) ≡ coord y A -ℤ v
+  past-at = past-is y v (spot A) ∙ ring2 (λ z v. (z :- v :* K (pos 1), z :- v)) (coord y A) v tt
+
+  short-at : val (short y v) (spot A) ≡ (v +ℤ pos 1) -ℤ coord y A
+  short-at = short-is y v (spot A) ∙ ring2 (λ z v. ((v :* K (pos 1) :+ K (pos 1)) :- z, (v :+ K (pos 1)) :- z)) (coord y A) v tt
+
+  up-to : coord y A ≤ℤ v → (val (past y v) (spot A) ≤ℤ pos 0) × (pos 0 <ℤ val (short y v) (spot A))
+  up-to h = (rw past-at (omega (arith, onℤ, subℤ (coord y A) v)), rw short-at (omega (arith, onℤ, sumℤ v (pos 1), subℤ (v +ℤ pos 1) (coord y A))))
+
+  beyond : v <ℤ coord y A → (pos 0 <ℤ val (past y v) (spot A)) × (val (short y v) (spot A) ≤ℤ pos 0)
+  beyond h = (rw past-at (omega (arith, onℤ, subℤ (coord y A) v)), rw short-at (omega (arith, onℤ, sumℤ v (pos 1), subℤ (v +ℤ pos 1) (coord y A))))
 
 -- ---- coordinates in range
 
@@ -123,21 +108,33 @@ pub record Solid (P : ℕ → Place) (t : Tri) : Type 0 where
   pub area-above : pos 0 <ℤ area (shapeBy P t)
 
 module _ (y : Bool) (P : ℕ → Place) (t u : Tri) (a : Solid P t) (b : Solid P u) (h : high y P t < low y P u) where
-  parted : Parted y (pos (high y P t) -ℤ pos 1_048_576) P t u
-  parted = record {
-    lower = All-imp (λ k c. at-most (coord y (P k)) (high y P t) (near y (P k) (c .0)) (c .1)) (All-both (a .ranges) (cons (omega arith) (cons (omega arith) (cons (omega arith) nil))));
-    upper = All-imp (λ k c. above (coord y (P k)) (high y P t) (near y (P k) (c .0)) (c .1)) (All-both (b .ranges) (cons (omega arith) (cons (omega arith) (cons (omega arith) nil))));
-  }
+  v : ℤ
+  v = pos (high y P t) -ℤ pos 1_048_576
+
+  lower : All (λ k. (val (past y v) (spot (P k)) ≤ℤ pos 0) × (pos 0 <ℤ val (short y v) (spot (P k)))) (corners t)
+  unfolding v
+  lower = All-imp (λ k c. up-to y _ (P k) (at-most (coord y (P k)) (high y P t) (near y (P k) (c .0)) (c .1))) (All-both (a .ranges) (cons (omega arith) (cons (omega arith) (cons (omega arith) nil))))
+
+  upper : All (λ k. (pos 0 <ℤ val (past y v) (spot (P k))) × (val (short y v) (spot (P k)) ≤ℤ pos 0)) (corners u)
+  unfolding v
+  upper = All-imp (λ k c. beyond y _ (P k) (above (coord y (P k)) (high y P t) (near y (P k) (c .0)) (c .1))) (All-both (b .ranges) (cons (omega arith) (cons (omega arith) (cons (omega arith) nil))))
+
+  unshared : ¬ Share (shapeBy P t) (shapeBy P u)
+  unshared s =
+      let p = not-past (past y v) P t u (a .area-above) (All-imp (λ k c. c .0) lower) (s .point) (s .in-first) in
+      let q = not-past (short y v) P u t (b .area-above) (All-imp (λ k c. c .1) upper) (s .point) (s .in-second) in
+      let z = across y (s .point) in
+      let w = s .point .W in
+      let e = past-is y v (s .point) in
+      let f = short-is y v (s .point) in
+      omega (arith, onℤ, s .weight, subℤ z (v *ℤ w), sumℤ (v *ℤ w) w, subℤ (v *ℤ w +ℤ w) z)
 
   -- ROWS WITH ALL CORNERS OF ONE BELOW THOSE OF THE OTHER HAVE NOTHING TO DO WITH EACH OTHER
   pub boxes-clear : grave P t u ≡ 0
   boxes-clear = go (grave-is P t u)
     where
-      v : ℤ
-      v = pos (high y P t) -ℤ pos 1_048_576
-
       go : {k : ℕ} → GraveIs P t u k → k ≡ 0
-      go (touch (inl e)) = absurd (low-side y v P t u parted (touches-is P t u e))
-      go (touch (inr e)) = absurd (high-side y v P t u parted (touches-is P u t e))
-      go (overlap e) = absurd (unshared y v P t u parted (a .area-above) (b .area-above) (share-exact (shapeBy P t) (shapeBy P u) (a .area-above) (b .area-above) .0 e))
+      go (touch (inl e)) = absurd (untouched (past y v) P t u (a .area-above) (All-imp (λ k c. c .0) lower) (All-imp (λ k c. c .0) upper) (touches-is P t u e))
+      go (touch (inr e)) = absurd (untouched (short y v) P u t (b .area-above) (All-imp (λ k c. c .1) upper) (All-imp (λ k c. c .1) lower) (touches-is P u t e))
+      go (overlap e) = absurd (unshared (share-exact (shapeBy P t) (shapeBy P u) (a .area-above) (b .area-above) .0 e))
       go clear = refl

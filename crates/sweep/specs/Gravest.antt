@@ -12,22 +12,28 @@ use lib.ListN.{length}
 use lib.Signed.{_≤ℤ_, _<ℤ_}
 use Rattle.lists.specs.Lists.{cases, nil, cons}
 use Rattle.lists.specs.ListsLaw.{clash, or-left, or-right, All-at}
-use Rattle.lists.specs.MembersLaw.{mem-at, at-mem, count-some}
+use Rattle.lists.specs.MembersLaw.{mem-at, at-mem}
 use Rattle.whole.specs.Diff.{onℤ}
 use Rattle.whole.specs.Order.{le-of-eq, le-antisymm, lt-or-le}
-use Rattle.whole.specs.Ring.{Expr, K, _:+_, _:-_, _:*_, ring4}
+use Rattle.whole.specs.Ring.{K, ring4}
 use Rattle.meaning.specs.declared.Place.{Place}
 use Rattle.meaning.specs.declared.Tri.{Tri}
-use Rattle.meaning.specs.Mesh.{Mesh, Arrow, tri, arrows, holdsNode, at, turn, twiceArea}
+use Rattle.meaning.specs.Mesh.{Mesh, Arrow, tri, arrows, at, turn}
 use Rattle.meaning.specs.Lawful.{Lawful, rowOf}
-use Rattle.meaning.specs.Proper.{Shape, shape, area, facing, Share, Crowded, at-one-place, inside-edge, Overlaps, with-lower, apart, uncrowded, disjoint}
-use Rattle.laws.specs.Area.{Turn, turn-from}
+use Rattle.meaning.specs.Proper.{shape, facing, Share, Crowded, at-one-place, inside-edge, Overlaps, with-lower, apart, uncrowded, disjoint}
+use Rattle.laws.specs.Area.{turn-from}
+use Rattle.proper.specs.Check.{SomeCrowded}
+use Rattle.proper.specs.Corners.{RowEdge, row-edge, above-pqr}
+use Rattle.proper.specs.FaithfulProper.{node-row}
+use Rattle.proper.specs.OnLine.{len, Facing, len-same}
+use Rattle.proper.specs.Segment.{at-end}
 use Rattle.proper.specs.ProperLaw.{uncrowded-exact, disjoint-exact}
+use Rattle.proper.specs.Sharing.{share-back}
 use Rattle.proper.specs.Tested.{share-exact}
 use Rattle.pairs.specs.Pair.{shapeBy, corners, touches, grave}
-use Rattle.sweep.specs.Between.{at-end}
-use Rattle.sweep.specs.Touch.{On, Touching, touches-is, is-touches, across, own-corner, holds-corner, corner-side}
-use Rattle.sweep.specs.Severity.{severity, Met, none, of-rows, Gravest}
+use Rattle.pairs.specs.OnSide.{On}
+use Rattle.sweep.specs.Touch.{Touching, touches-is, is-touches, own-corner, corner-in, corner-side}
+use Rattle.sweep.specs.Severity.{severity, graveOf, SomeTwo, none, two, Gravest}
 
 -- ---- two rows
 
@@ -67,59 +73,38 @@ module _ (P : ℕ → Place) (t u : Tri) where
       go true = omega arith
       go false = omega arith
 
-share-back : {s t : Shape} → Share s t → Share t s
-share-back h = record { point = h .point; weight = h .weight; in-first = h .in-second; in-second = h .in-first }
-
 -- ---- an end is on its own line
-
-abbrev Dot : Expr → Expr → Expr → Expr → Expr → Expr → Expr
-Dot ax ay bx by px py = (ax :- px) :* (bx :- px) :+ (ay :- py) :* (by :- py)
 
 module _ (A B : Place) where
   facing-from : facing A B A ≡ pos 0
-  facing-from = ring4 (λ a b c d. (Dot a b c d a b, K (pos 0))) (A .x) (A .y) (B .x) (B .y) tt
+  facing-from = ring4 (λ a b c d. (Facing a b c d a b, K (pos 0))) (A .x) (A .y) (B .x) (B .y) tt
 
   facing-to : facing A B B ≡ pos 0
-  facing-to = ring4 (λ a b c d. (Dot a b c d c d, K (pos 0))) (A .x) (A .y) (B .x) (B .y) tt
-
-  turn-same : turn A A B ≡ pos 0
-  turn-same = ring4 (λ a b c d. (Turn a b a b c d, K (pos 0))) (A .x) (A .y) (B .x) (B .y) tt
+  facing-to = ring4 (λ a b c d. (Facing a b c d c d, K (pos 0))) (A .x) (A .y) (B .x) (B .y) tt
 
 -- ---- a mesh
 
 module _ (m : Mesh) (law : Lawful m) where
-  above : {t : Tri} → List·Memᴰ t (m .tris) → pos 0 <ℤ area (shape m t)
-  unfolding twiceArea
-  above i = All-at (law .positive) i
-
   -- a row that has node k
   row-with : (k : ℕ) → k < length (m .nodes) → (t : Tri) × List·Memᴰ t (m .tris) × List·Memᴰ k (corners t)
-  row-with k h = let r = count-some (holdsNode k) (m .tris) (law .used k h) in (r .0, r .1, holds-corner k (r .0) (r .2))
+  row-with k h = let r = node-row m law k h in (r .0, r .1, corner-in (r .2))
 
   -- a node is on a side of a row
   abbrev Sided : ℕ → Type 0
-  Sided k = (t : Tri) × List·Memᴰ t (m .tris) × ((e : Arrow) × List·Memᴰ e (arrows t) × On (at m) e k)
-
-  -- the ends of a side are at two places
-  ends-differ : {t : Tri} → List·Memᴰ t (m .tris) → {e : Arrow} → List·Memᴰ e (arrows t) → at m (e .from) ≢ at m (e .to)
-  ends-differ {t} i {e} j q =
-      let a = All-at (across (at m) t) j in
-      let h = above i in
-      let z : pos 0 ≡ area (shape m t) = sym (turn-same (at m (e .from)) (at m (a .apex))) ∙ ap (λ B. turn (at m (e .from)) B (at m (a .apex))) q ∙ a .area-is in
-      omega (arith, onℤ)
+  Sided k = (t : Tri) × List·Memᴰ t (m .tris) × ((e : Arrow) × List·Memᴰ e (arrows t) × On (at m) (e .from) (e .to) k)
 
   sided : (k : ℕ) → k < length (m .nodes) → Crowded m k → Sided k
   sided k h (at-one-place j l q) =
       let r = row-with j (omega arith) in
       let s = All-at (corner-side (r .0)) (r .2) in
-      (r .0, r .1, (s .0, s .1, twin (s .0) (s .2) (ends-differ (r .1) (s .1))))
+      (r .0, r .1, (s .0, s .1, twin (s .0) (s .2) (row-edge m law (r .1) (s .1) .long)))
     where
-      twin : (e : Arrow) → e .from ≡ j → at m (e .from) ≢ at m (e .to) → On (at m) e k
+      twin : (e : Arrow) → e .from ≡ j → pos 0 <ℤ len (at m (e .from)) (at m (e .to)) → On (at m) (e .from) (e .to) k
       twin e f d =
           let p : at m k ≡ at m (e .from) = sym q ∙ ap (at m) (sym f) in
           record {
             not-from = λ n. omega arith;
-            not-to = λ n. d (sym p ∙ ap (at m) n);
+            not-to = λ n. len-same (at m (e .from)) (at m (e .to)) (sym p ∙ ap (at m) n) d;
             on-line = ap (λ X. turn (at m (e .from)) (at m (e .to)) X) p ∙ turn-from (at m (e .from)) (at m (e .to));
             within = le-of-eq (ap (λ X. facing (at m (e .from)) (at m (e .to)) X) p ∙ facing-from (at m (e .from)) (at m (e .to)));
           }
@@ -145,26 +130,22 @@ module _ (m : Mesh) (law : Lawful m) where
       let b = mem-at (tri 0 0 0) (r .1) in
       let e = s .2 in
       let touch = is-touches (at m) (s .0) (r .0) (record { side = e .0; side-of = e .1; corner = k; corner-of = r .2; on = e .2 }) in
-      let other : s .0 ≢ r .0 = λ q. own-corner (at m) (s .0) (above (s .1)) (e .1) (subst (λ u. List·Memᴰ k (corners u)) (sym q) (r .2)) (e .2) in
+      let other : s .0 ≢ r .0 = λ q. own-corner (at m) (s .0) (above-pqr m law (s .1)) (e .1) (subst (λ u. List·Memᴰ k (corners u)) (sym q) (r .2)) (e .2) in
       (a .0, b .0, a .1, b .1, λ q. other (sym (a .2) ∙ ap (rowOf (m .tris)) q ∙ b .2), rw (a .2, b .2) touch)
 
   -- the places of two nodes are one, so the higher is crowded
-  twins-crowded : (j k : ℕ) → j < length (m .nodes) → k < length (m .nodes) → j ≢ k → at m j ≡ at m k → (x : ℕ) × (x < length (m .nodes)) × Crowded m x
+  twins-crowded : (j k : ℕ) → j < length (m .nodes) → k < length (m .nodes) → j ≢ k → at m j ≡ at m k → SomeCrowded m
   twins-crowded j k h l n e = go (decLt j k)
     where
-      go : Dec (j < k) → (x : ℕ) × (x < length (m .nodes)) × Crowded m x
+      go : Dec (j < k) → SomeCrowded m
       go (yes b) = (k, l, at-one-place j b e)
       go (no b) = (j, h, at-one-place k (omega arith) (sym e))
 
   named-corner : {t : Tri} → List·Memᴰ t (m .tris) → {k : ℕ} → List·Memᴰ k (corners t) → k < length (m .nodes)
   named-corner i j = let N = All-at (law .named) i in All-at {P = λ k. k < length (m .nodes)} (cons (N .p-below) (cons (N .q-below) (cons (N .r-below) nil))) j
 
-  named-side : {t : Tri} → List·Memᴰ t (m .tris) → {e : Arrow} → List·Memᴰ e (arrows t) → (e .from < length (m .nodes)) × (e .to < length (m .nodes))
-  named-side i j = let N = All-at (law .named) i in
-      All-at {P = λ e. (e .from < length (m .nodes)) × (e .to < length (m .nodes))} (cons (N .p-below, N .q-below) (cons (N .q-below, N .r-below) (cons (N .r-below, N .p-below) nil))) j
-
   -- SUCH A CORNER IS CROWDED, OR ITS TWIN IS
-  touches-crowded : {t u : Tri} → List·Memᴰ t (m .tris) → List·Memᴰ u (m .tris) → touches (at m) t u ≡ true → (x : ℕ) × (x < length (m .nodes)) × Crowded m x
+  touches-crowded : {t u : Tri} → List·Memᴰ t (m .tris) → List·Memᴰ u (m .tris) → touches (at m) t u ≡ true → SomeCrowded m
   touches-crowded {t} {u} i j h = go (lt-or-le (facing A B C) (pos 0))
     where
       T : Touching (at m) t u
@@ -179,16 +160,16 @@ module _ (m : Mesh) (law : Lawful m) where
       C : Place
       C = at m (T .corner)
 
-      below : (T .side .from < length (m .nodes)) × (T .side .to < length (m .nodes))
-      below = named-side i (T .side-of)
+      E : RowEdge m t (T .side .from) (T .side .to)
+      E = row-edge m law i (T .side-of)
 
-      at-twin : (C ≡ A) ⊎ (C ≡ B) → (x : ℕ) × (x < length (m .nodes)) × Crowded m x
-      at-twin (inl e) = twins-crowded (T .corner) (T .side .from) (named-corner j (T .corner-of)) (below .0) (T .on .not-from) e
-      at-twin (inr e) = twins-crowded (T .corner) (T .side .to) (named-corner j (T .corner-of)) (below .1) (T .on .not-to) e
+      at-twin : (C ≡ A) ⊎ (C ≡ B) → SomeCrowded m
+      at-twin (inl e) = twins-crowded (T .corner) (T .side .from) (named-corner j (T .corner-of)) (E .from-below) (T .on .not-from) e
+      at-twin (inr e) = twins-crowded (T .corner) (T .side .to) (named-corner j (T .corner-of)) (E .to-below) (T .on .not-to) e
 
-      go : (facing A B C <ℤ pos 0) ⊎ (pos 0 ≤ℤ facing A B C) → (x : ℕ) × (x < length (m .nodes)) × Crowded m x
+      go : (facing A B C <ℤ pos 0) ⊎ (pos 0 ≤ℤ facing A B C) → SomeCrowded m
       go (inl l) = (T .corner, named-corner j (T .corner-of), inside-edge t i (T .side) (T .side-of) (record { on-line = T .on .on-line; between = l }))
-      go (inr l) = at-twin (at-end A B C (T .on .on-line) (le-antisymm (T .on .within) l))
+      go (inr l) = at-twin (at-end A B C (T .on .on-line) (T .on .within) (E .long) (le-antisymm (T .on .within) l))
 
   -- ---- the gravest
 
@@ -199,9 +180,9 @@ module _ (m : Mesh) (law : Lawful m) where
     r-most : r ≤ 2
     r-most = go (g .met)
       where
-        go : Met m r → r ≤ 2
+        go : SomeTwo (graveOf m) (length (m .tris)) r → r ≤ 2
         go (none e) = omega arith
-        go (of-rows i j h l n e) = rw (sym e) (grave-most (at m) (rowOf (m .tris) i) (rowOf (m .tris) j))
+        go (two i j h l n e) = rw (sym e) (grave-most (at m) (rowOf (m .tris) i) (rowOf (m .tris) j))
 
     -- below 2 none is crowded
     none-crowded : r < 2 → uncrowded m ≡ true
@@ -221,17 +202,17 @@ module _ (m : Mesh) (law : Lawful m) where
       where
         found : (i : ℕ) → i < length (m .tris) → Overlaps m i → ⊥
         found i l (with-lower j b s) =
-            let e = share-exact (shape m (rowOf (m .tris) j)) (shape m (rowOf (m .tris) i)) (above (row-in j (omega arith))) (above (row-in i l)) .1 s in
+            let e = share-exact (shape m (rowOf (m .tris) j)) (shape m (rowOf (m .tris) i)) (above-pqr m law (row-in j (omega arith))) (above-pqr m law (row-in i l)) .1 s in
             omega (arith, g .most j i b l, grave-overlap (at m) (rowOf (m .tris) j) (rowOf (m .tris) i) e)
 
     r-touch : uncrowded m ≡ true → r ≤ 1
     r-touch u = go (g .met)
       where
-        go : Met m r → r ≤ 1
+        go : SomeTwo (graveOf m) (length (m .tris)) r → r ≤ 1
         go (none e) = omega arith
-        go (of-rows i j h l n e) = at-most (grave-is (at m) (rowOf (m .tris) i) (rowOf (m .tris) j)) e
+        go (two i j h l n e) = at-most (grave-is (at m) (rowOf (m .tris) i) (rowOf (m .tris) j)) e
           where
-            out : {X : Type 0} → (x : ℕ) × (x < length (m .nodes)) × Crowded m x → X
+            out : {X : Type 0} → SomeCrowded m → X
             out c = absurd (uncrowded-exact m .0 u (c .0) (c .1) (c .2))
 
             at-most : {k : ℕ} → GraveIs (at m) (rowOf (m .tris) i) (rowOf (m .tris) j) k → k ≡ r → r ≤ 1
@@ -243,9 +224,9 @@ module _ (m : Mesh) (law : Lawful m) where
     r-none : uncrowded m ≡ true → disjoint m ≡ true → r ≡ 0
     r-none u d = go (g .met)
       where
-        go : Met m r → r ≡ 0
+        go : SomeTwo (graveOf m) (length (m .tris)) r → r ≡ 0
         go (none e) = e
-        go (of-rows i j h l n e) = by (grave-is (at m) (rowOf (m .tris) i) (rowOf (m .tris) j)) e
+        go (two i j h l n e) = by (grave-is (at m) (rowOf (m .tris) i) (rowOf (m .tris) j)) e
           where
             unshared : (a b : ℕ) → a < b → b < length (m .tris) → ¬ Share (shape m (rowOf (m .tris) a)) (shape m (rowOf (m .tris) b))
             unshared a b x y s = disjoint-exact m law .0 d b y (with-lower a x s)
@@ -256,7 +237,7 @@ module _ (m : Mesh) (law : Lawful m) where
 
             by : {k : ℕ} → GraveIs (at m) (rowOf (m .tris) i) (rowOf (m .tris) j) k → k ≡ r → r ≡ 0
             by (touch t) e = let z = r-touch u in absurd (omega arith)
-            by (overlap t) e = absurd (neither (decLt i j) (share-exact (shape m (rowOf (m .tris) i)) (shape m (rowOf (m .tris) j)) (above (row-in i h)) (above (row-in j l)) .0 t))
+            by (overlap t) e = absurd (neither (decLt i j) (share-exact (shape m (rowOf (m .tris) i)) (shape m (rowOf (m .tris) j)) (above-pqr m law (row-in i h)) (above-pqr m law (row-in j l)) .0 t))
             by clear e = sym e
 
     -- THE GRAVEST OF ANY TWO ROWS IS THE SEVERITY

@@ -1,4 +1,3 @@
-pub mod Between
 pub mod Touch
 pub mod Severity
 pub mod Gravest

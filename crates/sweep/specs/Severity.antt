@@ -18,15 +18,15 @@ severity m = cases (uncrowded m) (cases (disjoint m) 0 1) 2
 abbrev pub graveOf : Mesh → ℕ → ℕ → ℕ
 graveOf m i j = grave (at m) (rowOf (m .tris) i) (rowOf (m .tris) j)
 
--- r is 0, or how grave it is of some two rows
-pub data Met (m : Mesh) (r : ℕ) : Type 0 where
-  none : r ≡ 0 → Met m r
-  of-rows : (i j : ℕ) → i < length (m .tris) → j < length (m .tris) → i ≢ j → graveOf m i j ≡ r → Met m r
+-- r is 0, or what g gives of some two of t
+pub data SomeTwo (g : ℕ → ℕ → ℕ) (t r : ℕ) : Type 0 where
+  none : r ≡ 0 → SomeTwo g t r
+  two : (i j : ℕ) → i < t → j < t → i ≢ j → g i j ≡ r → SomeTwo g t r
 
 -- r is the gravest of any two rows
 pub record Gravest (m : Mesh) (r : ℕ) : Type 0 where
   pub most : (i j : ℕ) → i < j → j < length (m .tris) → graveOf m i j ≤ r
-  pub met : Met m r
+  pub met : SomeTwo (graveOf m) (length (m .tris)) r
 
 -- what each number tells
 pub data SeverityIs (m : Mesh) : ℕ → Type 0 where

@@ -16,24 +16,18 @@ use Rattle.pairs.specs.Pair.{grave, graveAt}
 use Rattle.pairs.specs.Turned.{grave-sym}
 use Rattle.columns.specs.declared.Scale.{Scale}
 use Rattle.columns.specs.declared.Boxed.{Boxed}
-use Rattle.columns.specs.Columns.{low, high, column, home, before, rank, boxAt, boxOf, Ordered}
-use Rattle.columns.specs.Rank.{before-most, before-mono, rank-below, rank-most, rank-apart, column-mono, column-below}
+use Rattle.columns.specs.Columns.{low, high, column, home, rank, boxAt, boxOf, Ordered}
+use Rattle.columns.specs.Rank.{rank-most, rank-apart, column-below}
+use Rattle.columns.specs.Ends.{end-most, end-past}
+use Rattle.sweep.specs.Severity.{SomeTwo, none, two}
 use Rattle.sweep.specs.Boxes.{Solid, boxes-clear}
 use Rattle.sweep.specs.Highest.{HighestIs, of-none, of, highest-most, highest-is}
 use Rattle.sweep.specs.Sweep.{meeting, compared, visited, reach, sweptPlace, swept}
 
--- some two rows are as grave as r, or r is 0
-pub data SomeTwo (P : ℕ → Place) (rows : List ℕ) (t r : ℕ) : Type 0 where
-  none : r ≡ 0 → SomeTwo P rows t r
-  two : (i j : ℕ) → i < t → j < t → i ≢ j → grave P (rowAt rows i) (rowAt rows j) ≡ r → SomeTwo P rows t r
-
 module _ (s : Scale) (P : ℕ → Place) (rows scratch : List ℕ) (t : ℕ) (o : Ordered s P rows scratch t) (some : 0 < s .count) where
-  reach-is : (i : ℕ) → reach s P rows scratch i ≡ before (home s P rows) t (column s (high (s .tall) P (rowAt rows i)) + 1)
-  unfolding reach
-  reach-is i = o .ends (column s (high (s .tall) P (rowAt rows i))) (column-below s (high (s .tall) P (rowAt rows i)) some)
-
   pub reach-most : (i : ℕ) → reach s P rows scratch i ≤ t
-  reach-most i = rw (reach-is i) (before-most (home s P rows) t (column s (high (s .tall) P (rowAt rows i)) + 1))
+  unfolding reach
+  reach-most i = let v = high (s .tall) P (rowAt rows i) in end-most s P rows scratch t o some (column s v) (column-below s v some)
 
 module _ (s : Scale) (P : ℕ → Place) (rows scratch : List ℕ) (t : ℕ) (o : Ordered s P rows scratch t) (some : 0 < s .count) where
   abbrev box : ℕ → Boxed
@@ -64,13 +58,8 @@ module _ (s : Scale) (P : ℕ → Place) (rows scratch : List ℕ) (t : ℕ) (o 
 
     -- row j begins in a column that row i reaches
     in-reach : (i j : ℕ) → i < t → j < t → 0 < graveOf i j → at j < reach s P rows scratch i
-    unfolding home
-    in-reach i j a b g =
-        let c = column-mono s (low (s .tall) P (rowAt rows j)) (high (s .tall) P (rowAt rows i)) wide (reaches (s .tall) i j a b g) in
-        rw (reach-is s P rows scratch t o some i) (before-last c)
-      where
-        before-last : column s (low (s .tall) P (rowAt rows j)) ≤ column s (high (s .tall) P (rowAt rows i)) → at j < before h t (column s (high (s .tall) P (rowAt rows i)) + 1)
-        before-last c = omega (arith, rank-below h t j b, before-mono h t (column s (low (s .tall) P (rowAt rows j)) + 1) (column s (high (s .tall) P (rowAt rows i)) + 1) (omega arith))
+    unfolding reach
+    in-reach i j a b g = end-past s P rows scratch t o some wide j (high (s .tall) P (rowAt rows i)) b (reaches (s .tall) i j a b g)
 
     visit-is : (i j : ℕ) → i < t → j < t → i ≢ j → 0 < graveOf i j → visited P rows scratch (s .count) (box (at i)) (at j) ≡ graveOf i j
     unfolding compared boxOf graveAt
@@ -105,27 +94,27 @@ module _ (s : Scale) (P : ℕ → Place) (rows scratch : List ℕ) (t : ℕ) (o 
 
   -- ---- some two rows are as grave
 
-  visit-met : (p q r : ℕ) → p < t → q < t → visited P rows scratch (s .count) (box p) q ≡ r → SomeTwo P rows t r
+  visit-met : (p q r : ℕ) → p < t → q < t → visited P rows scratch (s .count) (box p) q ≡ r → SomeTwo graveOf t r
   unfolding compared graveAt
   visit-met p q r a b e = go (meeting (box p) (box q)) (eqb (box p .row) (box q .row)) refl e
     where
-      go : (c d : Bool) → eqb (box p .row) (box q .row) ≡ d → cases c (cases d 0 (graveOf (box p .row) (box q .row))) 0 ≡ r → SomeTwo P rows t r
+      go : (c d : Bool) → eqb (box p .row) (box q .row) ≡ d → cases c (cases d 0 (graveOf (box p .row) (box q .row))) 0 ≡ r → SomeTwo graveOf t r
       go false d n e = none (sym e)
       go true true n e = none (sym e)
       go true false n e = two (box p .row) (box q .row) (o .naming p a) (o .naming q b) (eqb-false (box p .row) (box q .row) n) e
 
-  place-met : (p r : ℕ) → p < t → sweptPlace s P rows scratch p ≡ r → SomeTwo P rows t r
+  place-met : (p r : ℕ) → p < t → sweptPlace s P rows scratch p ≡ r → SomeTwo graveOf t r
   unfolding sweptPlace
   place-met p r a e = go (highest-is (visited P rows scratch (s .count) (box p)) (p + 1) (reach s P rows scratch (box p .row))) e
     where
-      go : {w : ℕ} → HighestIs (visited P rows scratch (s .count) (box p)) (p + 1) (reach s P rows scratch (box p .row)) w → w ≡ r → SomeTwo P rows t r
+      go : {w : ℕ} → HighestIs (visited P rows scratch (s .count) (box p)) (p + 1) (reach s P rows scratch (box p .row)) w → w ≡ r → SomeTwo graveOf t r
       go of-none e = none (sym e)
       go (of q l u) e = let m = reach-most s P rows scratch t o some (box p .row) in visit-met p q r a (omega arith) e
 
-  pub swept-met : SomeTwo P rows t (swept s P rows scratch t)
+  pub swept-met : SomeTwo graveOf t (swept s P rows scratch t)
   unfolding swept
   swept-met = go (highest-is (sweptPlace s P rows scratch) 0 t)
     where
-      go : {w : ℕ} → HighestIs (sweptPlace s P rows scratch) 0 t w → SomeTwo P rows t w
+      go : {w : ℕ} → HighestIs (sweptPlace s P rows scratch) 0 t w → SomeTwo graveOf t w
       go of-none = none refl
       go (of p l u) = place-met p (sweptPlace s P rows scratch p) u refl

@@ -20,11 +20,11 @@ use Rattle.pairs.specs.SeenLaw.{seen-same}
 use Rattle.columns.specs.declared.Scale.{Scale}
 use Rattle.columns.specs.Columns.{Ordered}
 use Rattle.sweep.specs.Boxes.{Solid}
-use Rattle.sweep.specs.Severity.{severity, graveOf, Met, Gravest}
+use Rattle.sweep.specs.Severity.{severity, graveOf, SomeTwo, none, two, Gravest}
 use Rattle.sweep.specs.Gravest.{gravest-is}
 use Rattle.sweep.specs.Sweep.{swept}
 use Rattle.sweep.specs.Lined.{Lined}
-use Rattle.sweep.specs.Swept.{SomeTwo, swept-most, swept-met}
+use Rattle.sweep.specs.Swept.{swept-most, swept-met}
 
 -- the corners of a row are at the same places
 record Agreeing (P Q : ℕ → Place) (t : Tri) : Type 0 where
@@ -76,9 +76,9 @@ module _ (nodes : List ℤ) (rows : List ℕ) (n t : ℕ) (law : Lawful (meshAt 
       met = go (swept-met s (placeAt nodes) rows scratch t o some);
     }
       where
-        go : {r : ℕ} → SomeTwo (placeAt nodes) rows t r → Met m r
-        go (SomeTwo.none e) = Met.none e
-        go (SomeTwo.two i j a b n e) = Met.of-rows i j (rw count-rows a) (rw count-rows b) n (grave-is i j a b ∙ e)
+        go : {r : ℕ} → SomeTwo (λ i j. grave (placeAt nodes) (rowAt rows i) (rowAt rows j)) t r → SomeTwo (graveOf m) (length (m .tris)) r
+        go (none e) = none e
+        go (two i j a b n e) = two i j (rw count-rows a) (rw count-rows b) n (grave-is i j a b ∙ e)
 
     -- THE SWEEP GIVES THE SEVERITY
     pub swept-is : swept s (placeAt nodes) rows scratch t ≡ severity m
@@ -88,7 +88,7 @@ module _ (nodes : List ℤ) (rows : List ℕ) (n t : ℕ) (law : Lawful (meshAt 
 
   -- no rows, nothing grave
   pub severity-none : t ≡ 0 → 0 ≡ severity m
-  severity-none z = gravest-is m law 0 (record { most = λ i j l h. (let e = count-rows in absurd (omega arith)); met = Met.none refl })
+  severity-none z = gravest-is m law 0 (record { most = λ i j l h. (let e = count-rows in absurd (omega arith)); met = none refl })
 
   pub some-node : (t ≡ 0 → ⊥) → 0 < n
   some-node some = let N = row-named nodes rows n t law 0 (omega arith) in omega (arith, N .p-below)

@@ -1,81 +1,44 @@
 -- W7: a corner of one row on a side of another, by the test and as facts. P gives the place of each node. Assumes nothing.
-use mathlib.Core.Bool.{Bool, true, false, not, _&&_, _||_}
+use mathlib.Core.Bool.{true}
 use mathlib.Core.List.{List·Memᴰ, List·Memᴰ·head, List·Memᴰ·tail}
 use mathlib.Core.Logic.{_≢_}
 use mathlib.Core.Path.{_≡_, refl, sym, ap, _∙_}
 use Prim.Native.Nat.{ℕ}
 use native.Mathlib.Omega.{arith}
-use lib.Dec.{eqb}
 use lib.IntN.{pos}
-use lib.Signed.{leZ, _≤ℤ_, _<ℤ_}
-use borrow.Author.Tests.{eqb-true, eqb-false, ne-eqb, not-true}
+use lib.Signed.{_<ℤ_}
 use Rattle.lists.specs.Lists.{any, All, nil, cons}
-use Rattle.lists.specs.ListsLaw.{clash, and-both, and-left, and-right, or-no, All-at, any-at, any-row}
+use Rattle.lists.specs.ListsLaw.{All-at, any-at, any-row}
 use Rattle.whole.specs.Diff.{onℤ}
-use Rattle.whole.specs.Tests.{leZ-true, le-leZ}
 use Rattle.meaning.specs.declared.Place.{Place}
 use Rattle.meaning.specs.declared.Tri.{Tri}
-use Rattle.meaning.specs.Mesh.{Arrow, arrow, arrows, turn, holdsNode}
-use Rattle.meaning.specs.Good.{sameZ}
-use Rattle.meaning.specs.Proper.{area, facing}
+use Rattle.meaning.specs.Mesh.{Arrow, arrow, arrows, turn}
+use Rattle.meaning.specs.Proper.{area}
 use Rattle.laws.specs.Area.{turn-cycle}
-use Rattle.laws.specs.Star.{sameZ-eq, eq-sameZ}
+use Rattle.laws.specs.RowMean.{CornerOf, is-p, is-q, is-r}
+use Rattle.proper.specs.OnLine.{len, len-above}
 use Rattle.pairs.specs.Pair.{shapeBy, corners, onSide, touches}
+use Rattle.pairs.specs.OnSide.{On, on-is, is-on}
 
 module _ (P : ℕ → Place) where
-  -- node k is no end of e, and on its line and not beyond an end
-  pub record On (e : Arrow) (k : ℕ) : Type 0 where
-    pub not-from : k ≢ e .from
-    pub not-to : k ≢ e .to
-    pub on-line : turn (P (e .from)) (P (e .to)) (P k) ≡ pos 0
-    pub within : facing (P (e .from)) (P (e .to)) (P k) ≤ℤ pos 0
-
-  on-is : (e : Arrow) (k : ℕ) → onSide P e k ≡ true → On e k
-  on-is e k t =
-      let ends = and-left end line pair in
-      let n = or-no (eqb k (e .from)) (eqb k (e .to)) (not-true (eqb k (e .from) || eqb k (e .to)) ends) in
-      record {
-        not-from = eqb-false k (e .from) (n .0);
-        not-to = eqb-false k (e .to) (n .1);
-        on-line = sameZ-eq (turn (P (e .from)) (P (e .to)) (P k)) (pos 0) (and-right end line pair);
-        within = leZ-true (facing (P (e .from)) (P (e .to)) (P k)) (pos 0) (and-right (end && line) near t);
-      }
-    where
-      end : Bool
-      end = not (eqb k (e .from) || eqb k (e .to))
-
-      line : Bool
-      line = sameZ (turn (P (e .from)) (P (e .to)) (P k)) (pos 0)
-
-      near : Bool
-      near = leZ (facing (P (e .from)) (P (e .to)) (P k)) (pos 0)
-
-      pair : end && line ≡ true
-      pair = and-left (end && line) near t
-
-  is-on : (e : Arrow) (k : ℕ) → On e k → onSide P e k ≡ true
-  is-on e k h =
-      let ends : not (eqb k (e .from) || eqb k (e .to)) ≡ true = rw (ne-eqb k (e .from) (h .not-from), ne-eqb k (e .to) (h .not-to)) refl in
-      and-both (and-both ends (eq-sameZ _ (pos 0) (h .on-line))) (le-leZ _ (pos 0) (h .within))
-
   -- a corner of u is on a side of t
   pub record Touching (t u : Tri) : Type 0 where
     pub side : Arrow
     pub side-of : List·Memᴰ side (arrows t)
     pub corner : ℕ
     pub corner-of : List·Memᴰ corner (corners u)
-    pub on : On side corner
+    pub on : On P (side .from) (side .to) corner
 
   pub touches-is : (t u : Tri) → touches P t u ≡ true → Touching t u
   unfolding touches
   touches-is t u h =
       let r = any-row (λ e. any (onSide P e) (corners u)) (arrows t) h in
       let s = any-row (onSide P (r .0)) (corners u) (r .2) in
-      record { side = r .0; side-of = r .1; corner = s .0; corner-of = s .1; on = on-is (r .0) (s .0) (s .2) }
+      record { side = r .0; side-of = r .1; corner = s .0; corner-of = s .1; on = on-is P (r .0 .from) (r .0 .to) (s .0) (s .2) }
 
   pub is-touches : (t u : Tri) → Touching t u → touches P t u ≡ true
   unfolding touches
-  is-touches t u h = any-at (λ e. any (onSide P e) (corners u)) (any-at (onSide P (h .side)) (is-on (h .side) (h .corner) (h .on)) (h .corner-of)) (h .side-of)
+  is-touches t u h = any-at (λ e. any (onSide P e) (corners u)) (any-at (onSide P (h .side)) (is-on P (h .side .from) (h .side .to) (h .corner) (h .on)) (h .corner-of)) (h .side-of)
 
   -- ---- a side of a row, and the corner across
 
@@ -99,23 +62,23 @@ module _ (P : ℕ → Place) where
     only = cons (λ n m. absurd (m refl)) (cons (λ n m. refl) (cons (λ n m. absurd (n refl)) nil));
   }) nil))
 
+  -- the ends of a side of a row with an area are apart
+  pub side-long : (t : Tri) → pos 0 <ℤ area (shapeBy P t) → {e : Arrow} → List·Memᴰ e (arrows t) → pos 0 <ℤ len (P (e .from)) (P (e .to))
+  side-long t h {e} i = let a = All-at (across t) i in len-above (P (e .from)) (P (e .to)) (P (a .apex)) (rw (a .area-is) h)
+
   -- a corner of a row with an area is on no side of its own
-  pub own-corner : (t : Tri) → pos 0 <ℤ area (shapeBy P t) → {e : Arrow} → List·Memᴰ e (arrows t) → {k : ℕ} → List·Memᴰ k (corners t) → On e k → ⊥
+  pub own-corner : (t : Tri) → pos 0 <ℤ area (shapeBy P t) → {e : Arrow} → List·Memᴰ e (arrows t) → {k : ℕ} → List·Memᴰ k (corners t) → On P (e .from) (e .to) k → ⊥
   own-corner t h {e} i {k} j o =
       let a = All-at (across t) i in
       let q : k ≡ a .apex = All-at (a .only) j (o .not-from) (o .not-to) in
       let z : pos 0 ≡ area (shapeBy P t) = sym (o .on-line) ∙ ap (λ n. turn (P (e .from)) (P (e .to)) (P n)) q ∙ a .area-is in
       omega (arith, onℤ)
 
--- a row that holds a node has it as a corner, and a side that begins there
-pub holds-corner : (k : ℕ) (t : Tri) → holdsNode k t ≡ true → List·Memᴰ k (corners t)
-holds-corner k t h = go (eqb (t .p) k) refl (eqb (t .q) k) refl (eqb (t .r) k) refl h
-  where
-    go : (a : Bool) → eqb (t .p) k ≡ a → (b : Bool) → eqb (t .q) k ≡ b → (c : Bool) → eqb (t .r) k ≡ c → a || b || c ≡ true → List·Memᴰ k (corners t)
-    go true e b f c g h = List·Memᴰ·head (sym (eqb-true (t .p) k e))
-    go false e true f c g h = List·Memᴰ·tail (List·Memᴰ·head (sym (eqb-true (t .q) k f)))
-    go false e false f true g h = List·Memᴰ·tail (List·Memᴰ·tail (List·Memᴰ·head (sym (eqb-true (t .r) k g))))
-    go false e false f false g h = clash (sym h)
+-- a corner of a row, and a side that begins there
+pub corner-in : {t : Tri} {k : ℕ} → CornerOf t k → List·Memᴰ k (corners t)
+corner-in is-p = List·Memᴰ·head refl
+corner-in is-q = List·Memᴰ·tail (List·Memᴰ·head refl)
+corner-in is-r = List·Memᴰ·tail (List·Memᴰ·tail (List·Memᴰ·head refl))
 
 pub corner-side : (t : Tri) → All (λ k. (e : Arrow) × List·Memᴰ e (arrows t) × (e .from ≡ k)) (corners t)
 corner-side t = cons (arrow (t .p) (t .q), List·Memᴰ·head refl, refl)

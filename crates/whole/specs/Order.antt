@@ -45,6 +45,11 @@ pub nonneg-square : (a : ℤ) → pos 0 ≤ℤ (a *ℤ a)
 nonneg-square (pos a) = omega (arith, onℤ)
 nonneg-square (negsuc a) = omega (arith, onℤ)
 
+pub square-none : (a : ℤ) → (a *ℤ a) ≤ℤ pos 0 → a ≡ pos 0
+square-none (pos zero) h = refl
+square-none (pos (suc a)) h = absurd (omega (arith, onℤ))
+square-none (negsuc a) h = absurd (omega (arith, onℤ))
+
 difference : (a b d : ℤ) → b *ℤ d -ℤ a *ℤ d ≡ (b -ℤ a) *ℤ d
 difference a b d = ring3 (λ a b d. (b :* d :- a :* d, (b :- a) :* d)) a b d tt
 
@@ -65,6 +70,9 @@ scale-lt d a b h l =
     let p = positive-times (b -ℤ a) d (omega (arith, onℤ, subℤ b a)) h in
     let q : pos 0 <ℤ (b *ℤ d -ℤ a *ℤ d) = rw (difference a b d) p in
     omega (arith, onℤ, subℤ (b *ℤ d) (a *ℤ d))
+
+pub negative-times : (d a : ℤ) → pos 0 <ℤ d → a <ℤ pos 0 → (d *ℤ a) <ℤ pos 0
+negative-times d a h l = rw (*ℤ-comm d a) (omega (arith, onℤ, mulℤ (pos 0) d, scale-lt d a (pos 0) h l))
 
 -- what is above 0 cancels
 pub unscale-le : (d a b : ℤ) → pos 0 <ℤ d → (a *ℤ d) ≤ℤ (b *ℤ d) → a ≤ℤ b

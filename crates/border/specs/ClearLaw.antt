@@ -1,5 +1,5 @@
 -- What `clear` says of a lawful mesh's border: no arrow of it meets another, and no row lies just right of one. Assumes nothing.
-use mathlib.Core.Bool.{Bool, true, false, not, _&&_, _||_}
+use mathlib.Core.Bool.{Bool, true, false, not, _&&_}
 use mathlib.Core.List.{List, List·Memᴰ}
 use mathlib.Core.Logic.{_≢_, _⊎_, inl, inr}
 use mathlib.Core.Path.{_≡_, refl, sym, ap, ap₂, _∙_}
@@ -8,11 +8,11 @@ use native.Mathlib.Omega.{arith}
 use native.Mathlib.Decide.{ℕ-discrete}
 use lib.IntN.{ℤ, pos, negℤ, _+ℤ_, _-ℤ_}
 use lib.Signed.{ltZ, _≤ℤ_}
-use borrow.Author.Tests.{not-true, ne-eqb}
+use borrow.Author.Tests.{not-true}
 use Rattle.whole.specs.Diff.{onℤ, sumℤ}
 use Rattle.whole.specs.Order.{le-of-eq}
 use Rattle.whole.specs.Ring.{K, _:+_, ring4}
-use Rattle.whole.specs.Tests.{lt-ltZ, le-leZ}
+use Rattle.whole.specs.Tests.{lt-ltZ}
 use Rattle.lists.specs.Lists.{any, All}
 use Rattle.lists.specs.ListsLaw.{clash, and-both, and-left, and-right, or-left, or-right, or-no, All-at, All-of, all-yes, any-none}
 use Rattle.meaning.specs.declared.Place.{Place}
@@ -22,6 +22,7 @@ use Rattle.meaning.specs.Proper.{StrictlyInside, facing, left}
 use Rattle.pairs.specs.Pair.{onSide}
 use Rattle.laws.specs.Area.{turn-from, turn-to}
 use Rattle.laws.specs.Star.{sameZ-eq}
+use Rattle.pairs.specs.OnSide.{is-on}
 use Rattle.border.specs.Places.{apart-of-turn, facing-from, facing-to}
 use Rattle.border.specs.Signs.{zero-of-equal, not-lt, lt-zero}
 use Rattle.border.specs.Sums.{one}
@@ -64,12 +65,6 @@ module _ (P : ℕ → Place) (es : List Arrow) (c : clear P es ≡ true) {e : Ar
 
   clear-right : underMiddle P es e ≡ one (ltZ (key steep (P (e .to))) (key steep (P (e .from))))
   clear-right = sameZ-eq (underMiddle P es e) (one (ltZ (key steep (P (e .to))) (key steep (P (e .from))))) (and-right (not (any (meets P e) es)) (rightFree P es e) both-tests)
-
--- a node on the edge, as `onSide` says
-side-yes : (m : Mesh) (e : Arrow) (k : ℕ) → k ≢ e .from → k ≢ e .to → turn (at m (e .from)) (at m (e .to)) (at m k) ≡ pos 0 →
-    facing (at m (e .from)) (at m (e .to)) (at m k) ≤ℤ pos 0 → onSide (at m) e k ≡ true
-side-yes m e k f g t h =
-    and-both (and-both (ap₂ (λ a b. not (a || b)) (ne-eqb k (e .from) f) (ne-eqb k (e .to) g)) (and-both (le-leZ _ _ (le-of-eq t)) (le-leZ _ _ (le-of-eq (sym t))))) (le-leZ _ _ h)
 
 -- an arrow does not run under its own middle
 pub own-middle : (f : Form) (A B : Place) → under f A B (middle A B) ≡ pos 0
@@ -116,7 +111,7 @@ module _ (m : Mesh) (law : Lawful m) (c : clear (at m) (border (m .tris)) ≡ tr
         go : Dec (g .from ≡ e .from) → Dec (g .from ≡ e .to) → (g .from ≡ e .from) ⊎ (g .from ≡ e .to)
         go (yes p) q = inl p
         go (no p) (yes q) = inr q
-        go (no p) (no q) = clash (sym (side-yes m e (g .from) p q t h) ∙ clear-untouched (at m) (border (m .tris)) c i j)
+        go (no p) (no q) = clash (sym (is-on (at m) (e .from) (e .to) (g .from) (record { not-from = p; not-to = q; on-line = t; within = h })) ∙ clear-untouched (at m) (border (m .tris)) c i j)
 
     -- at the place of an end it is that end
     at-place : (P : Place) → at m (g .from) ≡ P → turn A B P ≡ pos 0 → facing A B P ≡ pos 0 → (g .from ≡ e .from) ⊎ (g .from ≡ e .to)

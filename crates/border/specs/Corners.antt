@@ -19,7 +19,8 @@ use Rattle.meaning.specs.Asking.{HoldsPoint}
 use Rattle.meaning.specs.Proper.{Point, Inside, StrictlyInside, facing, shape}
 use Rattle.laws.specs.Area.{Turn}
 use Rattle.laws.specs.RowMean.{CornerOf, is-p, is-q, is-r}
-use Rattle.border.specs.Places.{apart-of-turn, facing-from, facing-to, Facing}
+use Rattle.proper.specs.OnLine.{Facing}
+use Rattle.border.specs.Places.{apart-of-turn, facing-from, facing-to}
 use Rattle.border.specs.Signs.{minus-above}
 use Rattle.border.specs.Nudge.{Upright, upright-round}
 
@@ -107,20 +108,15 @@ turned-holds m P from-p h = h
 turned-holds m P from-q h = record { off-qr = h .off-pq; off-rp = h .off-qr; off-pq = h .off-rp }
 turned-holds m P from-r h = record { off-qr = h .off-rp; off-rp = h .off-pq; off-pq = h .off-qr }
 
+corner-round : {t : Tri} {k : ℕ} → CornerOf t k → CornerOf (tri (t .q) (t .r) (t .p)) k
+corner-round is-p = is-r
+corner-round is-q = is-p
+corner-round is-r = is-q
+
 pub turned-corner : {t : Tri} {x y z : ℕ} → Turned t x y z → (k : ℕ) → CornerOf t k → CornerOf (tri x y z) k
 turned-corner from-p k c = c
-turned-corner from-q k c = on c
-  where
-    on : {t : Tri} {j : ℕ} → CornerOf t j → CornerOf (tri (t .q) (t .r) (t .p)) j
-    on is-p = is-r
-    on is-q = is-p
-    on is-r = is-q
-turned-corner from-r k c = on c
-  where
-    on : {t : Tri} {j : ℕ} → CornerOf t j → CornerOf (tri (t .r) (t .p) (t .q)) j
-    on is-p = is-q
-    on is-q = is-r
-    on is-r = is-p
+turned-corner from-q k c = corner-round c
+turned-corner from-r k c = corner-round (corner-round c)
 
 -- ---- a node strictly inside an edge of a row
 

@@ -61,8 +61,8 @@ abbrev AsAt : Mesh → ℕ → Point → Arrow → Type 0
 AsAt m k s e = ends k (e .from) (e .to) ≡ false → underArrow steep m s e ≡ rising m k e
 
 -- the point is close to k, as far as the arrows opposite it tell
-abbrev Near : Mesh → ℕ → Point → Type 0
-Near m k s = All (λ t. holdsNode k t ≡ true → All (AsAt m k s) (arrows t)) (m .tris)
+abbrev CloseTo : Mesh → ℕ → Point → Type 0
+CloseTo m k s = All (λ t. holdsNode k t ≡ true → All (AsAt m k s) (arrows t)) (m .tris)
 
 -- the rows at k that the point is inside
 abbrev fan : Mesh → ℕ → Point → ℕ
@@ -131,7 +131,7 @@ module _ (m : Mesh) (law : Lawful m) (k : ℕ) (inner : Inner m k) where
       arrives = count-none (λ (e : Arrow). eqb (e .to) k) (sym (leave-arrive k (m .tris) (law .noTwice)) ∙ inner)
 
   -- so many of them a close point is inside, whatever point it is
-  fan-number : (s : Point) → OffRows steep m s → Near m k s → pos (fan m k s) ≡ around m k
+  fan-number : (s : Point) → OffRows steep m s → CloseTo m k s → pos (fan m k s) ≡ around m k
   unfolding twiceArea
   fan-number s off near =
       sym (added-count (λ t. holdsNode k t && inside (shape m t) s) (m .tris)) ∙
@@ -175,7 +175,7 @@ module _ (m : Mesh) (law : Lawful m) (k : ℕ) {t : Shape} (u : Upright t) where
       (λ w. apart-of-turn (at m y) (at m k) (at m x) (subst (λ w. pos 0 <ℤ w) (turn-cycle (at m x) (at m y) (at m k)) here) (steep-apart b in-k w))
       here
 
-  close-near : Near m k (close (at m k) t)
+  close-near : CloseTo m k (close (at m k) t)
   close-near = All-of (m .tris) (λ v i holds.
       let r = row-upright m law i in
       cons (λ e. side-near (v .p) (v .q) (v .r) (r .p-in) (r .q-in) (r .pqr) (eqb-true (v .r) k (last-left (eqb (v .p) k) (eqb (v .q) k) (eqb (v .r) k) holds e)))

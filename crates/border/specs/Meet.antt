@@ -13,6 +13,7 @@ use Rattle.meaning.specs.declared.Place.{Place}
 use Rattle.meaning.specs.Mesh.{turn}
 use Rattle.meaning.specs.Proper.{Point, StrictlyInside, facing, left}
 use Rattle.laws.specs.Area.{turn-cycle, turn-mirror, turn-back}
+use Rattle.proper.specs.OnLine.{len}
 use Rattle.border.specs.Places.{place-eq, inside-back}
 use Rattle.border.specs.Signs.{zero-swapped, minus-above, zero-of-minus, unscale-above, zero-of-equal, above-not, below-of-minus, equal-of-zero, sum-above, cancel, lt-le, minus-below, difference-above, zero-or-not, sign-product}
 use Rattle.border.specs.Under.{Form, key, keyAt, ahead}
@@ -27,13 +28,9 @@ square-above x n = go (lt-or-le (pos 0) (x *ℤ x))
     go (inl h) = h
     go (inr h) = absurd (sign-product x x n n .1 (le-antisymm h (nonneg-square x)))
 
--- the square of the distance
-abbrev pub norm : Place → Place → ℤ
-norm A B = (B .x -ℤ A .x) *ℤ (B .x -ℤ A .x) +ℤ (B .y -ℤ A .y) *ℤ (B .y -ℤ A .y)
-
 -- places with different keys are apart
-pub norm-above : (f : Form) (A B : Place) → rise f A B ≢ pos 0 → pos 0 <ℤ norm A B
-norm-above f A B n = go (B .x -ℤ A .x) (B .y -ℤ A .y) (λ e. n (rise-vector f A B ∙ e))
+pub len-above : (f : Form) (A B : Place) → rise f A B ≢ pos 0 → pos 0 <ℤ len A B
+len-above f A B n = go (B .x -ℤ A .x) (B .y -ℤ A .y) (λ e. n (rise-vector f A B ∙ e))
   where
     go : (x y : ℤ) → f .along *ℤ x +ℤ f .across *ℤ y ≢ pos 0 → pos 0 <ℤ (x *ℤ x +ℤ y *ℤ y)
     go x y n = step (zero-or-not x) (zero-or-not y)
@@ -84,7 +81,7 @@ module _ (f : Form) (A B : Place) where
 
   -- of a place of the line: rise² · facing = −(rise from A)(rise to B) |AB|²
   facing-key : (P : Place) → turn A B P ≡ pos 0 →
-      (rise f A B *ℤ rise f A B) *ℤ facing A B P ≡ negℤ ((rise f A P *ℤ rise f P B) *ℤ norm A B)
+      (rise f A B *ℤ rise f A B) *ℤ facing A B P ≡ negℤ ((rise f A P *ℤ rise f P B) *ℤ len A B)
   facing-key P e =
       combine₁ (cofactor (f .along) (f .across) (B .x -ℤ A .x) (B .y -ℤ A .y) (P .x -ℤ A .x) (P .y -ℤ A .y)) e
       (ring8 (λ f g a b c d x y. (
@@ -104,29 +101,13 @@ module _ (f : Form) (A B : Place) where
       square : pos 0 <ℤ (rise f A B *ℤ rise f A B)
       square = positive-times (rise f A B) (rise f A B) whole whole
 
-      product : pos 0 <ℤ ((rise f A P *ℤ rise f P B) *ℤ norm A B)
+      product : pos 0 <ℤ ((rise f A P *ℤ rise f P B) *ℤ len A B)
       product =
-          positive-times (rise f A P *ℤ rise f P B) (norm A B) (positive-times (rise f A P) (rise f P B) h i)
-          (norm-above f A B (above-not whole))
+          positive-times (rise f A P *ℤ rise f P B) (len A B) (positive-times (rise f A P) (rise f P B) h i)
+          (len-above f A B (above-not whole))
 
       negative : (a x : ℤ) → pos 0 <ℤ a → (a *ℤ x) <ℤ pos 0 → x <ℤ pos 0
       negative a x h l = below-of-minus x (unscale-above (negℤ x) a h (subst (λ k. pos 0 <ℤ k) (ring2 (λ a x. (neg (a :* x), neg x :* a)) a x tt) (minus-above (a *ℤ x) l)))
-
-  -- on the line, and the ends are seen from it neither the same way nor opposite ways: it is one of them
-  pub one-of-ends : (P : Place) → rise f A B ≢ pos 0 → turn A B P ≡ pos 0 → facing A B P ≡ pos 0 → (P ≡ A) ⊎ (P ≡ B)
-  one-of-ends P n e z = go (zero-or-not (rise f A P))
-    where
-      product : norm A B *ℤ (rise f A P *ℤ rise f P B) ≡ pos 0
-      product =
-          ring2 (λ k r. (k :* r, r :* k)) (norm A B) (rise f A P *ℤ rise f P B) tt ∙
-          zero-of-minus ((rise f A P *ℤ rise f P B) *ℤ norm A B) (sym (facing-key P e) ∙ ap (λ k. (rise f A B *ℤ rise f A B) *ℤ k) z ∙ ring2 (λ r k. (r :* K (pos 0), K (pos 0))) (rise f A B *ℤ rise f A B) (pos 0) tt)
-
-      go : (rise f A P ≡ pos 0) ⊎ (rise f A P ≢ pos 0) → (P ≡ A) ⊎ (P ≡ B)
-      go (inl q) = inl (sym (same-place f A B P n q e))
-      go (inr q) =
-          let both = cancel (norm A B) (rise f A P *ℤ rise f P B) (above-not (norm-above f A B n)) product in
-          let level = cancel (rise f A P) (rise f P B) q both in
-          inr (sym (same-place f B A P (λ h. n (zero-swapped (key f A) (key f B) h)) (zero-swapped (key f B) (key f P) level) (turn-back A B P e)))
 
 -- ---- two segments
 

@@ -5,10 +5,11 @@ use native.Mathlib.Omega.{arith}
 use lib.IntN.{pos}
 use lib.Signed.{_<ℤ_}
 use Rattle.whole.specs.Diff.{onℤ}
-use Rattle.whole.specs.Ring.{Expr, K, _:+_, _:-_, _:*_, ring4, ring6}
+use Rattle.whole.specs.Ring.{K, ring4, ring6}
 use Rattle.meaning.specs.declared.Place.{Place}
 use Rattle.meaning.specs.Mesh.{turn}
 use Rattle.meaning.specs.Proper.{StrictlyInside, facing}
+use Rattle.proper.specs.OnLine.{Facing}
 use Rattle.laws.specs.Area.{turn-cycle, turn-from, turn-back}
 
 pub place-eq : {A B : Place} → A .x ≡ B .x → A .y ≡ B .y → A ≡ B
@@ -17,10 +18,6 @@ place-eq e f = λ i. record { x = e i; y = f i }
 -- places that make an area are two
 pub apart-of-turn : (A B C : Place) → pos 0 <ℤ turn A B C → A ≢ B
 apart-of-turn A B C h e = let f : turn A B C ≡ pos 0 = ap (λ P. turn A P C) (sym e) ∙ turn-cycle A A C ∙ turn-from A C in omega (arith, onℤ)
-
--- facing, as an expression of the solver
-abbrev pub Facing : Expr → Expr → Expr → Expr → Expr → Expr → Expr
-Facing ax ay bx by px py = (ax :- px) :* (bx :- px) :+ (ay :- py) :* (by :- py)
 
 pub facing-from : (A B : Place) → facing A B A ≡ pos 0
 facing-from A B = ring4 (λ a b c d. (Facing a b c d a b, K (pos 0))) (A .x) (A .y) (B .x) (B .y) tt

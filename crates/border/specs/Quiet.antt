@@ -21,6 +21,7 @@ use Rattle.laws.specs.Area.{turn-cycle}
 use Rattle.whole.specs.Diff.{onℤ, sumℤ, subℤ, mulℤ, negℤ-ud}
 use Rattle.whole.specs.Ring.{K, _:+_, _:-_, _:*_, neg, ring2, ring3, ring6, ring8, combine₁, combine₂}
 use mathlib.Core.Logic.{_≢_}
+use Rattle.proper.specs.OnLine.{len}
 use Rattle.border.specs.Places.{apart-of-turn, place-eq}
 use Rattle.border.specs.Keys.{place-range, steep-doubles}
 use Rattle.border.specs.Clear.{steep}
@@ -32,7 +33,7 @@ use Rattle.border.specs.Cancel.{Once, reverse, arrowsOf, border, leave-a
 use Rattle.border.specs.Segment.{rise}
 use Rattle.border.specs.Beside.{ClearArrow, others}
 use Rattle.border.specs.Nearest.{upward, lowEnd, highEnd, Slanted, low-high, Lone, middleOf}
-use Rattle.border.specs.Meet.{norm, Cross, Missed, missed-back, missed-first, apart-missed, norm-above}
+use Rattle.border.specs.Meet.{Cross, Missed, missed-back, missed-first, apart-missed, len-above}
 
 -- node k is not strictly inside e, and stands at an end's place only if it is that end
 pub record NoTouch (m : Mesh) (e : Arrow) (k : ℕ) : Type 0 where
@@ -127,7 +128,7 @@ four-facing a b v e =
     combine₁ ((v +ℤ v) -ℤ (a +ℤ b)) e (ring3 (λ a b v. (K (pos 4) :* ((a :- v) :* (b :- v)) :- neg ((b :- a) :* (b :- a)), ((v :+ v) :- (a :+ b)) :* ((v :+ v) :- (a :+ b)))) a b v tt)
 
 middle-inside : (f : Form) (A B M : Place) → rise f A B ≢ pos 0 → M .x +ℤ M .x ≡ A .x +ℤ B .x → M .y +ℤ M .y ≡ A .y +ℤ B .y → StrictlyInside A B M
-middle-inside f A B M n e g = record { on-line = half (turn A B M) on-line; between = below (facing A B M) (norm A B) (norm-above f A B n) four }
+middle-inside f A B M n e g = record { on-line = half (turn A B M) on-line; between = below (facing A B M) (len A B) (len-above f A B n) four }
   where
     half : (z : ℤ) → z +ℤ z ≡ pos 0 → z ≡ pos 0
     half z h = omega (arith, onℤ, sumℤ z z)
@@ -140,7 +141,7 @@ middle-inside f A B M n e g = record { on-line = half (turn A B M) on-line; betw
           neg (d :- b) :* ((x :+ x) :- (a :+ c)) :+ (c :- a) :* ((y :+ y) :- (b :+ d)),
         )) (A .x) (A .y) (B .x) (B .y) (M .x) (M .y) tt)
 
-    four : pos 4 *ℤ facing A B M ≡ negℤ (norm A B)
+    four : pos 4 *ℤ facing A B M ≡ negℤ (len A B)
     four =
         ring2 (λ p q. (K (pos 4) :* (p :+ q), K (pos 4) :* p :+ K (pos 4) :* q)) ((A .x -ℤ M .x) *ℤ (B .x -ℤ M .x)) ((A .y -ℤ M .y) *ℤ (B .y -ℤ M .y)) tt ∙
         ap₂ _+ℤ_ (four-facing (A .x) (B .x) (M .x) e) (four-facing (A .y) (B .y) (M .y) g) ∙

@@ -8,7 +8,7 @@ use lib.Signed.{ltZ, _≤ℤ_, _<ℤ_}
 use Rattle.whole.specs.Diff.{onℤ, sumℤ}
 use Rattle.whole.specs.Ring.{Expr, K, _:+_, _:-_, _:*_, neg, ring2, ring4, ring6, ring8, ring9, ring10, combine₁}
 use Rattle.whole.specs.Tests.{ltZ-true}
-use Rattle.whole.specs.Order.{positive-times, nonneg-times, nonpos-times}
+use Rattle.whole.specs.Order.{positive-times, nonneg-times, nonpos-times, negative-times}
 use Rattle.meaning.specs.declared.Place.{Place}
 use Rattle.meaning.specs.Mesh.{turn}
 use Rattle.meaning.specs.Proper.{Point, left}
@@ -229,17 +229,12 @@ pub record Spans (f : Form) (A B : Place) (s : Point) : Type 0 where
   pub past-low : pos 0 <ℤ ahead f A s
   pub before-high : ahead f B s <ℤ pos 0
 
-times-below : (a x : ℤ) → pos 0 <ℤ a → x <ℤ pos 0 → (a *ℤ x) <ℤ pos 0
-times-below a x h l =
-    let p = positive-times a (negℤ x) h (minus-above x l) in
-    below-of-minus (a *ℤ x) (subst (λ k. pos 0 <ℤ k) (ring2 (λ a x. (a :* neg x, neg (a :* x))) a x tt) p)
-
 pub spot-strictly : (f : Form) (A B : Place) (s : Point) → pos 0 <ℤ rise f A B → Spans f A B s → Strictly f A B (spot f A B s)
 spot-strictly f A B s r h = record {
   weight = subst (λ k. pos 0 <ℤ k) (sym (spot-weight f A B s)) (positive-times (rise f A B) (s .W) r (h .weight));
   on-line = spot-line f A B s;
   past-low = subst (λ k. pos 0 <ℤ k) (sym (spot-ahead f A B s A)) (positive-times (rise f A B) (ahead f A s) r (h .past-low));
-  before-high = subst (λ k. k <ℤ pos 0) (sym (spot-ahead f A B s B)) (times-below (rise f A B) (ahead f B s) r (h .before-high));
+  before-high = subst (λ k. k <ℤ pos 0) (sym (spot-ahead f A B s B)) (negative-times (rise f A B) (ahead f B s) r (h .before-high));
 }
 
 pub spot-within : (f : Form) (A B : Place) (s : Point) → pos 0 <ℤ rise f A B → (C D : Place) → Within f C D s → Within f C D (spot f A B s)

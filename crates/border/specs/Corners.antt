@@ -9,8 +9,8 @@ use native.Mathlib.Omega.{arith}
 use lib.IntN.{ℤ, pos, negℤ, _+ℤ_, _-ℤ_, _*ℤ_, *ℤ-comm}
 use lib.Signed.{ltZ, _≤ℤ_, _<ℤ_}
 use Rattle.whole.specs.Diff.{onℤ, sumℤ, subℤ, mulℤ}
-use Rattle.whole.specs.Order.{scale-le, positive-times, nonneg-square}
-use Rattle.whole.specs.Ring.{Expr, K, _:+_, _:-_, _:*_, neg, combine₁, ring8}
+use Rattle.whole.specs.Order.{scale-le, positive-times}
+use Rattle.whole.specs.Ring.{K, _:+_, _:-_, _:*_, neg, combine₁, ring8}
 use Rattle.whole.specs.Tests.{ltZ-true, ltZ-false}
 use Rattle.meaning.specs.declared.Place.{Place}
 use Rattle.meaning.specs.declared.Tri.{Tri}
@@ -19,19 +19,12 @@ use Rattle.meaning.specs.Asking.{HoldsPoint}
 use Rattle.meaning.specs.Proper.{Point, Inside, StrictlyInside, facing, shape}
 use Rattle.laws.specs.Area.{Turn}
 use Rattle.laws.specs.RowMean.{CornerOf, is-p, is-q, is-r}
-use Rattle.proper.specs.OnLine.{Facing}
+use Rattle.proper.specs.OnLine.{along, len, Along, Facing, len-nonneg}
 use Rattle.border.specs.Places.{apart-of-turn, facing-from, facing-to}
 use Rattle.border.specs.Signs.{minus-above}
 use Rattle.border.specs.Nudge.{Upright, upright-round}
 
 -- ---- a place strictly inside an edge
-
--- (P − A)·(Q − A)
-abbrev dot : Place → Place → Place → ℤ
-dot A P Q = (P .x -ℤ A .x) *ℤ (Q .x -ℤ A .x) +ℤ (P .y -ℤ A .y) *ℤ (Q .y -ℤ A .y)
-
-abbrev Dot : Expr → Expr → Expr → Expr → Expr → Expr → Expr
-Dot ax ay px py qx qy = (px :- ax) :* (qx :- ax) :+ (py :- ay) :* (qy :- ay)
 
 -- a factor of what is above 0, the other not being below it
 factor : (x y : ℤ) → (x ≤ℤ pos 0 → pos 0 ≤ℤ y) → pos 0 <ℤ (x *ℤ y) → pos 0 <ℤ x
@@ -51,11 +44,11 @@ both-above a b d e h i =
 
 module _ (A B C P : Place) where
   -- with P on the line of A and B
-  product : turn A B P ≡ pos 0 → (turn B C P *ℤ turn C A P) *ℤ dot A B B ≡ (turn A B C *ℤ turn A B C) *ℤ negℤ (facing A B P)
-  product e = combine₁ (turn A B C *ℤ (dot A P C -ℤ dot A B C) +ℤ turn C A P *ℤ (dot A B C -ℤ dot A B B)) e
+  product : turn A B P ≡ pos 0 → (turn B C P *ℤ turn C A P) *ℤ len A B ≡ (turn A B C *ℤ turn A B C) *ℤ negℤ (facing A B P)
+  product e = combine₁ (turn A B C *ℤ (along A C P -ℤ along A C B) +ℤ turn C A P *ℤ (along A C B -ℤ len A B)) e
       (ring8 (λ a b c d e f x y. (
-        (Turn c d e f x y :* Turn e f a b x y) :* Dot a b c d c d :- (Turn a b c d e f :* Turn a b c d e f) :* neg (Facing a b c d x y),
-        (Turn a b c d e f :* (Dot a b x y e f :- Dot a b c d e f) :+ Turn e f a b x y :* (Dot a b c d e f :- Dot a b c d c d)) :* (Turn a b c d x y :- K (pos 0)),
+        (Turn c d e f x y :* Turn e f a b x y) :* Along a b c d c d :- (Turn a b c d e f :* Turn a b c d e f) :* neg (Facing a b c d x y),
+        (Turn a b c d e f :* (Along a b e f x y :- Along a b e f c d) :+ Turn e f a b x y :* (Along a b e f c d :- Along a b c d c d)) :* (Turn a b c d x y :- K (pos 0)),
       ))
       (A .x) (A .y) (B .x) (B .y) (C .x) (C .y) (P .x) (P .y) tt)
 
@@ -65,18 +58,12 @@ module _ (A B C P : Place) where
   pub beside : pos 0 <ℤ turn A B C → StrictlyInside A B P → (pos 0 <ℤ turn B C P) × (pos 0 <ℤ turn C A P)
   beside h s =
       both-above (turn B C P) (turn C A P) (turn A B C) (three-turns ∙ ap (λ k. turn A B C -ℤ k) (s .on-line) ∙ whole (turn A B C)) h
-      (factor (turn B C P *ℤ turn C A P) (dot A B B) (λ l. long)
+      (factor (turn B C P *ℤ turn C A P) (len A B) (λ l. len-nonneg A B)
       (subst (λ k. pos 0 <ℤ k) (sym (product (s .on-line)))
       (positive-times (turn A B C *ℤ turn A B C) (negℤ (facing A B P)) (positive-times (turn A B C) (turn A B C) h h) (minus-above (facing A B P) (s .between)))))
     where
       whole : (k : ℤ) → k -ℤ pos 0 ≡ k
       whole k = omega (arith, onℤ, subℤ k (pos 0))
-
-      long : pos 0 ≤ℤ dot A B B
-      long =
-          let u = B .x -ℤ A .x in
-          let v = B .y -ℤ A .y in
-          omega (arith, onℤ, nonneg-square u, nonneg-square v, sumℤ (u *ℤ u) (v *ℤ v))
 
 -- ---- the corners of a row in turn
 

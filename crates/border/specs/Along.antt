@@ -41,7 +41,8 @@ behind-later f v s t hs ht h e =
     let p = positive-times (ahead f v s) (t .W) (ltZ-true (pos 0) (ahead f v s) e) ht in
     let q : ahead f v t *ℤ s .W ≡ ahead f v s *ℤ t .W +ℤ (keyAt f t *ℤ s .W -ℤ keyAt f s *ℤ t .W) =
     ring6 (λ k l w z v n. ((l :- v :* z) :* w, (k :- v :* w) :* z :+ (l :* w :- k :* z))) (keyAt f s) (keyAt f t) (s .W) (t .W) (key f v) (pos 0) tt in
-    lt-ltZ (pos 0) (ahead f v t) (unscale-above (ahead f v t) (s .W) hs (subst (λ k. pos 0 <ℤ k) (sym q) (sum-above (ahead f v s *ℤ t .W) (keyAt f t *ℤ s .W -ℤ keyAt f s *ℤ t .W) p (lt-le (difference-above (keyAt f t *ℤ s .W) (keyAt f s *ℤ t .W) h)))))
+    lt-ltZ (pos 0) (ahead f v t) (unscale-above (ahead f v t) (s .W) hs (subst (λ k. pos 0 <ℤ k) (sym q)
+    (sum-above (ahead f v s *ℤ t .W) (keyAt f t *ℤ s .W -ℤ keyAt f s *ℤ t .W) p (lt-le (difference-above (keyAt f t *ℤ s .W) (keyAt f s *ℤ t .W) h)))))
 
 -- a rising arrow: 1 between its ends' keys, above it
 pub under-rising : (f : Form) (C D : Place) (s : Point) → pos 0 <ℤ rise f C D → pos 0 <ℤ s .W → ahead f D s ≢ pos 0 →

@@ -1,4 +1,4 @@
--- When two segments do not meet, by signs: no end strictly inside the other, no crossing, not the same ends. Assumes nothing.
+-- When two segments do not meet, by signs: no end strictly inside the other, no crossing, not the same ends. Places on a line, by their keys. Assumes nothing.
 use mathlib.Core.Bool.{Bool, true, false}
 use mathlib.Core.Logic.{_≢_, _⊎_, inl, inr}
 use mathlib.Core.Path.{_≡_, refl, sym, ap, ap₂, subst, _∙_}

@@ -1,4 +1,4 @@
--- Points near a point: close enough it stays inside what it is inside, and is off every line and every key. Assumes nothing.
+-- Points near a point, in a direction along no side of a row: near enough, signs stay, and the point is off every line and every key. Assumes nothing.
 use mathlib.Core.List.{List}
 use mathlib.Core.Logic.{_≢_}
 use mathlib.Core.Path.{_≡_, refl, sym, subst, _∙_}
@@ -127,7 +127,8 @@ tilt-line A B k = ring3 (λ x y k. (x :* k :- K (pos 1) :* y, k :* x :+ neg y)) 
 
 side-tilted : (P Q R : Place) → pos 0 <ℤ turn P Q R → Eventually (λ k. tilt P Q (pos 1) (pos k) ≢ pos 0)
 side-tilted P Q R h =
-    imply-from (λ k n e. n (sym (tilt-line P Q k) ∙ e)) (line-not (Q .x -ℤ P .x) (negℤ (Q .y -ℤ P .y)) (λ e g. apart-of-turn P Q R h (place-eq (sym (equal-of-zero (Q .x) (P .x) e)) (sym (equal-of-zero (Q .y) (P .y) (zero-of-minus (Q .y -ℤ P .y) g))))))
+    imply-from (λ k n e. n (sym (tilt-line P Q k) ∙ e)) (line-not (Q .x -ℤ P .x) (negℤ (Q .y -ℤ P .y)) (λ e g. apart-of-turn P Q R h
+    (place-eq (sym (equal-of-zero (Q .x) (P .x) e)) (sym (equal-of-zero (Q .y) (P .y) (zero-of-minus (Q .y -ℤ P .y) g))))))
 
 pub tilted-from : (t : Shape) → pos 0 <ℤ area t → Eventually (λ k. Tilted t (pos 1) (pos k))
 tilted-from t h =

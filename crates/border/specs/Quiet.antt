@@ -1,4 +1,5 @@
--- A border of which no start touches another arrow and no two arrows cross: no arrow meets another. Assumes nothing.
+-- A quiet border: no arrow of it begins on another, but in a node of both, and no two cross. Then each arrow is alone: no other meets it between its ends, nor has
+-- an end with the key of its middle. Assumes nothing.
 use mathlib.Core.Bool.{Bool, true, false, not}
 use mathlib.Core.List.{List, List·Memᴰ}
 use mathlib.Core.Path.{_≡_, refl, sym, ap, subst, _∙_, ap₂}

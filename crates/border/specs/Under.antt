@@ -1,4 +1,4 @@
--- One arrow under a point, and one triangle: the arrows of a triangle under a point come to 1 inside it and to 0 outside. Assumes nothing.
+-- One arrow under a point, and one triangle: of a point off its lines and keys, the arrows of a triangle under it come to 1 inside and to 0 outside. Assumes nothing.
 use mathlib.Core.Bool.{Bool, true, false, not, _&&_, _||_}
 use mathlib.Core.Logic.{_≢_}
 use mathlib.Core.Path.{_≡_, refl, sym, ap, subst, _∙_}

@@ -1,4 +1,4 @@
--- The tests of a border's arrows say no where no node touches an edge and no two edges cross. Assumes nothing.
+-- Where no node touches an edge and no two edges cross, the tests of a border's arrows say so. Assumes nothing.
 use mathlib.Core.Bool.{Bool, true, false, _&&_, _||_}
 use mathlib.Core.Logic.{_⊎_, inl, inr}
 use mathlib.Core.Path.{_≡_, refl}

@@ -17,7 +17,7 @@ use Rattle.border.specs.Segment.{Strictly, above, corner, rise, left-mix
 abbrev pub SameKey : Form → Point → Point → Type 0
 SameKey f s t = keyAt f s *ℤ t .W ≡ keyAt f t *ℤ s .W
 
-pub sign-scaled : (x y a b : ℤ) → pos 0 <ℤ a → pos 0 <ℤ b → x *ℤ a ≡ y *ℤ b → ltZ (pos 0) x ≡ ltZ (pos 0) y
+sign-scaled : (x y a b : ℤ) → pos 0 <ℤ a → pos 0 <ℤ b → x *ℤ a ≡ y *ℤ b → ltZ (pos 0) x ≡ ltZ (pos 0) y
 sign-scaled x y a b ha hb e =
     both-ways _ _ (λ h. lt-ltZ (pos 0) y (unscale-above y b hb (subst (λ k. pos 0 <ℤ k) e (positive-times x a (ltZ-true (pos 0) x h) ha))))
     (λ h. lt-ltZ (pos 0) x (unscale-above x a ha (subst (λ k. pos 0 <ℤ k) (sym e) (positive-times y b (ltZ-true (pos 0) y h) hb))))

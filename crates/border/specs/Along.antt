@@ -29,14 +29,14 @@ ahead-lower : (f : Form) (C D : Place) (s : Point) → ahead f C s ≡ ahead f D
 ahead-lower f C D s = ring4 (λ c d k w. (k :- c :* w, (k :- d :* w) :+ (d :- c) :* w)) (key f C) (key f D) (keyAt f s) (s .W) tt
 
 -- past the higher end, so past the lower
-pub behind-low : (f : Form) (C D : Place) (s : Point) → pos 0 <ℤ rise f C D → pos 0 <ℤ s .W → behind f D s ≡ true → behind f C s ≡ true
+behind-low : (f : Form) (C D : Place) (s : Point) → pos 0 <ℤ rise f C D → pos 0 <ℤ s .W → behind f D s ≡ true → behind f C s ≡ true
 behind-low f C D s r w e =
     let p = positive-times (rise f C D) (s .W) r w in
     let q = ltZ-true (pos 0) (ahead f D s) e in
     lt-ltZ (pos 0) (ahead f C s) (subst (λ k. pos 0 <ℤ k) (sym (ahead-lower f C D s)) (sum-above (ahead f D s) (rise f C D *ℤ s .W) q (lt-le p)))
 
 -- past it at a point, so past it later
-pub behind-later : (f : Form) (v : Place) (s t : Point) → pos 0 <ℤ s .W → pos 0 <ℤ t .W → Earlier f s t → behind f v s ≡ true → behind f v t ≡ true
+behind-later : (f : Form) (v : Place) (s t : Point) → pos 0 <ℤ s .W → pos 0 <ℤ t .W → Earlier f s t → behind f v s ≡ true → behind f v t ≡ true
 behind-later f v s t hs ht h e =
     let p = positive-times (ahead f v s) (t .W) (ltZ-true (pos 0) (ahead f v s) e) ht in
     let q : ahead f v t *ℤ s .W ≡ ahead f v s *ℤ t .W +ℤ (keyAt f t *ℤ s .W -ℤ keyAt f s *ℤ t .W) =

@@ -42,7 +42,7 @@ pub data Slant (f : Form) (C D : Place) : Type 0 where
   rising : pos 0 <ℤ rise f C D → Slant f C D
   falling : pos 0 <ℤ rise f D C → Slant f C D
 
-pub slant : (f : Form) (C D : Place) → rise f C D ≢ pos 0 → Slant f C D
+slant : (f : Form) (C D : Place) → rise f C D ≢ pos 0 → Slant f C D
 slant f C D n = go (ltZ (pos 0) (rise f C D)) refl
   where
     go : (b : Bool) → ltZ (pos 0) (rise f C D) ≡ b → Slant f C D
@@ -51,7 +51,7 @@ slant f C D n = go (ltZ (pos 0) (rise f C D)) refl
 
 module _ (f : Form) (A B : Place) (low-high : pos 0 <ℤ rise f A B) (s t : Point) (hs : Strictly f A B s) (ht : Strictly f A B t) (early : Earlier f s t) where
   -- an arrow that does not meet the segment
-  pub moved-any : (C D : Place) → Clear f A B C D → ahead f C s ≢ pos 0 → ahead f D s ≢ pos 0 → ahead f C t ≢ pos 0 → ahead f D t ≢ pos 0 →
+  moved-any : (C D : Place) → Clear f A B C D → ahead f C s ≢ pos 0 → ahead f D s ≢ pos 0 → ahead f C t ≢ pos 0 → ahead f D t ≢ pos 0 →
       under f C D t -ℤ under f C D s ≡ between f A B s t C -ℤ between f A B s t D
   moved-any C D h cs ds ct dt = go (slant f C D (h .slanted))
     where

@@ -38,7 +38,7 @@ alone es = only (λ e. not (any (sameArrow (reverse e)) es)) es
 abbrev pub border : List Tri → List Arrow
 border ts = only (λ e. not (any (holdsArrow (reverse e)) ts)) (arrowsOf ts)
 
-pub border-alone : (ts : List Tri) → border ts ≡ alone (arrowsOf ts)
+border-alone : (ts : List Tri) → border ts ≡ alone (arrowsOf ts)
 border-alone ts = sym (λ i. only (λ e. not (any-joined (sameArrow (reverse e)) arrows ts i)) (arrowsOf ts))
 
 reverse-back : (d e : Arrow) → sameArrow (reverse e) d ≡ true → sameArrow (reverse d) e ≡ true
@@ -75,7 +75,7 @@ module _ (φ : ℕ → ℕ → ℤ) (turned : (a b : ℕ) → φ b a ≡ negℤ 
           added-neg (λ d. when (any (sameArrow (reverse d)) es) (of d)) es ∙
           sym (ap negℤ (added-only of (λ e. any (sameArrow (reverse e)) es) es))
 
-  pub cancelled : (es : List Arrow) → Once es → added of es ≡ added of (alone es)
+  cancelled : (es : List Arrow) → Once es → added of es ≡ added of (alone es)
   cancelled es o =
       added-parts of (λ e. any (sameArrow (reverse e)) es) es ∙
       rw (both-cancel es o) (let k = added of (alone es) in omega (arith, onℤ, sumℤ (pos 0) k))

@@ -32,7 +32,7 @@ pub drop-zero : (a b c : ℤ) → a +ℤ (b +ℤ (c +ℤ pos 0)) ≡ a +ℤ (b +
 drop-zero a b c = let e : c +ℤ pos 0 ≡ c = omega (arith, onℤ, sumℤ c (pos 0)) in ap (λ k. a +ℤ (b +ℤ k)) e
 
 -- for any rows of positive area: all their arrows under the point
-pub depth-all : (f : Form) (m : Mesh) (s : Point) → All (λ t. pos 0 <ℤ area (shape m t)) (m .tris) → OffRows f m s → pos (depth m s) ≡ added (underArrow f m s) (arrowsOf (m .tris))
+depth-all : (f : Form) (m : Mesh) (s : Point) → All (λ t. pos 0 <ℤ area (shape m t)) (m .tris) → OffRows f m s → pos (depth m s) ≡ added (underArrow f m s) (arrowsOf (m .tris))
 depth-all f m s h o = sym (added-count (λ t. inside (shape m t) s) (m .tris)) ∙ rows h o ∙ sym (added-joined (underArrow f m s) arrows (m .tris))
   where
     row-sum : (t : Tri) → pos 0 <ℤ area (shape m t) → Off f (shape m t) s → added (underArrow f m s) (arrows t) ≡ one (inside (shape m t) s)

@@ -92,7 +92,7 @@ module _ (f : Form) (A B : Place) where
       (f .along) (f .across) (A .x) (A .y) (B .x) (B .y) (P .x) (P .y) tt)
 
   -- strictly between the ends by its key, so strictly inside
-  pub key-inside : (P : Place) → pos 0 <ℤ rise f A P → pos 0 <ℤ rise f P B → turn A B P ≡ pos 0 → StrictlyInside A B P
+  key-inside : (P : Place) → pos 0 <ℤ rise f A P → pos 0 <ℤ rise f P B → turn A B P ≡ pos 0 → StrictlyInside A B P
   key-inside P h i e = record { on-line = e; between = negative (rise f A B *ℤ rise f A B) (facing A B P) square (subst (λ k. k <ℤ pos 0) (sym (facing-key P e)) (minus-below _ product)) }
     where
       whole : pos 0 <ℤ rise f A B
@@ -157,7 +157,7 @@ missed-back {A} {B} {C} {D} h = record {
   not-turned = h .not-same;
 }
 
-pub missed-over : {A B C D : Place} → Missed A B C D → Missed C D A B
+missed-over : {A B C D : Place} → Missed A B C D → Missed C D A B
 missed-over h = record {
   c-out = h .a-out;
   d-out = h .b-out;

@@ -26,7 +26,7 @@ pub record Eventually (P : ℕ → Type 0) : Type 0 where
   pub start : ℕ
   pub holds : (n : ℕ) → start ≤ n → P n
 
-pub from-now : {P : ℕ → Type 0} → ((n : ℕ) → P n) → Eventually P
+from-now : {P : ℕ → Type 0} → ((n : ℕ) → P n) → Eventually P
 from-now h = record { start = 0; holds = λ n _. h n }
 
 pub both-from : {P Q : ℕ → Type 0} → Eventually P → Eventually Q → Eventually (λ n. P n × Q n)
@@ -105,10 +105,10 @@ module _ (s : Point) (u v : ℤ) where
       sum n (pos c) d h i = omega (arith, onℤ, sumℤ (pos n *ℤ pos c) d)
       sum n (negsuc c) d h i = absurd (omega (arith, onℤ))
 
-  pub left-off : (A B : Place) → tilt A B u v ≢ pos 0 → Eventually (λ n. left A B (near s u v n) ≢ pos 0)
+  left-off : (A B : Place) → tilt A B u v ≢ pos 0 → Eventually (λ n. left A B (near s u v n) ≢ pos 0)
   left-off A B i = imply-from (λ n l e. l (sym (left-near A B s u v n) ∙ e)) (line-not (left A B s) (tilt A B u v) (λ _. i))
 
-  pub ahead-off : (f : Form) (A : Place) → growth f u v ≢ pos 0 → Eventually (λ n. ahead f A (near s u v n) ≢ pos 0)
+  ahead-off : (f : Form) (A : Place) → growth f u v ≢ pos 0 → Eventually (λ n. ahead f A (near s u v n) ≢ pos 0)
   ahead-off f A g = imply-from (λ n l e. l (sym (ahead-near f A s u v n) ∙ e)) (line-not (ahead f A s) (growth f u v) (λ _. g))
 
   pub weight-stays : pos 0 <ℤ s .W → Eventually (λ n. pos 0 <ℤ near s u v n .W)
@@ -130,7 +130,7 @@ side-tilted P Q R h =
     imply-from (λ k n e. n (sym (tilt-line P Q k) ∙ e)) (line-not (Q .x -ℤ P .x) (negℤ (Q .y -ℤ P .y)) (λ e g. apart-of-turn P Q R h
     (place-eq (sym (equal-of-zero (Q .x) (P .x) e)) (sym (equal-of-zero (Q .y) (P .y) (zero-of-minus (Q .y -ℤ P .y) g))))))
 
-pub tilted-from : (t : Shape) → pos 0 <ℤ area t → Eventually (λ k. Tilted t (pos 1) (pos k))
+tilted-from : (t : Shape) → pos 0 <ℤ area t → Eventually (λ k. Tilted t (pos 1) (pos k))
 tilted-from t h =
     imply-from (λ k (a, (b, c)). record { tilt-pq = a; tilt-qr = b; tilt-rp = c })
     (both-from (side-tilted (t .p) (t .q) (t .r) h) (both-from (side-tilted (t .q) (t .r) (t .p) (subst (λ k. pos 0 <ℤ k) (turn-cycle (t .p) (t .q) (t .r)) h))
@@ -173,7 +173,7 @@ off-near f t s u v w h g =
     keyed : (n : ℕ) (A : Place) → ahead f A (near s u v n) ≢ pos 0 → key f A *ℤ near s u v n .W ≢ keyAt f (near s u v n)
     keyed n A l e = l (zero-of-equal (keyAt f (near s u v n)) (key f A *ℤ near s u v n .W) (sym e))
 
-pub off-rows-near : (f : Form) (m : Mesh) (s : Point) (u v : ℤ) → pos 0 <ℤ s .W → Direction f m u v → Eventually (λ n. OffRows f m (near s u v n))
+off-rows-near : (f : Form) (m : Mesh) (s : Point) (u v : ℤ) → pos 0 <ℤ s .W → Direction f m u v → Eventually (λ n. OffRows f m (near s u v n))
 off-rows-near f m s u v w d = all-from (All-imp (λ t g. off-near f (shape m t) s u v w g (d .grows)) (d .tilted))
 
 -- in a direction there is a point of which all holds that holds near enough

@@ -64,7 +64,7 @@ module _ (f : Form) (m : Mesh) (e : Arrow) where
       go true h = ltZ-true (pos 0) (rise f (at m (e .from)) (at m (e .to))) h
       go false h = above-swapped (key f (at m (e .from))) (key f (at m (e .to))) (below-zero (rise f (at m (e .from)) (at m (e .to))) n h)
 
-  pub arrow-ends : Ends m e (lowEnd f m e) (highEnd f m e)
+  arrow-ends : Ends m e (lowEnd f m e) (highEnd f m e)
   arrow-ends = go (upward f m e)
     where
       go : (b : Bool) → Ends m e (cases b (at m (e .from)) (at m (e .to))) (cases b (at m (e .to)) (at m (e .from)))
@@ -287,7 +287,7 @@ module _ (f : Form) (m : Mesh) (ts : List Tri) (no-twice : Once (arrowsOf ts)) (
 -- ---- at most one row
 
 -- of a point off the rows no border arrow's end has the key
-pub free-border : (f : Form) (m : Mesh) (s : Point) → OffRows f m s → All (Free f m s) (border (m .tris))
+free-border : (f : Form) (m : Mesh) (s : Point) → OffRows f m s → All (Free f m s) (border (m .tris))
 free-border f m s off = only-keeps _ (All-joined arrows (All-imp row off))
   where
     row : (t : Tri) → Off f (shape m t) s → All (Free f m s) (arrows t)

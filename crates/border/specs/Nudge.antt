@@ -44,7 +44,7 @@ module _ (n : ℕ) (e : ℤ) (small : natAbs e < n) where
   still-below (pos k) h = absurd (omega (arith, onℤ))
   still-below (negsuc k) h = omega (arith, onℤ, absℤ e, mulℤ (pos n) (negsuc k), sumℤ (pos n *ℤ negsuc k) e)
 
-  pub never-zero : e ≢ pos 0 → (z : ℤ) → pos n *ℤ z +ℤ e ≢ pos 0
+  never-zero : e ≢ pos 0 → (z : ℤ) → pos n *ℤ z +ℤ e ≢ pos 0
   never-zero d (pos zero) h = d (omega (arith, onℤ, mulℤ (pos n) (pos 0), sumℤ (pos n *ℤ pos 0) e))
   never-zero d (pos (suc k)) h = let l = still-above (pos (suc k)) (omega (arith, onℤ)) in omega (arith, onℤ)
   never-zero d (negsuc k) h = let l = still-below (negsuc k) (omega (arith, onℤ)) in omega (arith, onℤ)
@@ -65,12 +65,12 @@ nudged s = record { X = pos 35_184_372_088_832 *ℤ s .X +ℤ pos 1; Y = pos 35_
 abbrev shifted : Place → Place → ℤ
 shifted A B = (B .x -ℤ A .x) *ℤ pos 4_194_304 -ℤ (B .y -ℤ A .y)
 
-pub left-nudged : (A B : Place) (s : Point) → left A B (nudged s) ≡ pos 35_184_372_088_832 *ℤ left A B s +ℤ shifted A B
+left-nudged : (A B : Place) (s : Point) → left A B (nudged s) ≡ pos 35_184_372_088_832 *ℤ left A B s +ℤ shifted A B
 left-nudged A B s =
     ring9 (λ a b c d X Y W n h. (Left a b c d (n :* X :+ K (pos 1)) (n :* Y :+ h) (n :* W), n :* Left a b c d X Y W :+ ((c :- a) :* h :- (d :- b))))
     (A .x) (A .y) (B .x) (B .y) (s .X) (s .Y) (s .W) (pos 35_184_372_088_832) (pos 4_194_304) tt
 
-pub ahead-nudged : (A : Place) (s : Point) → ahead steep A (nudged s) ≡ pos 35_184_372_088_832 *ℤ ahead steep A s +ℤ pos 12_582_912
+ahead-nudged : (A : Place) (s : Point) → ahead steep A (nudged s) ≡ pos 35_184_372_088_832 *ℤ ahead steep A s +ℤ pos 12_582_912
 ahead-nudged A s =
     ring8 (λ x y X Y W n f h. (
       (f :* (n :* X :+ K (pos 1)) :+ K (pos 1) :* (n :* Y :+ h)) :- (f :* x :+ K (pos 1) :* y) :* (n :* W),
@@ -105,7 +105,7 @@ module _ (A : Place) (s : Point) where
   pub nudged-behind : ahead steep A s <ℤ pos 0 → ahead steep A (nudged s) <ℤ pos 0
   nudged-behind h = subst (λ k. k <ℤ pos 0) (sym (ahead-nudged A s)) (still-below 35_184_372_088_832 (pos 12_582_912) small (ahead steep A s) h)
 
-  pub nudged-key : key steep A *ℤ nudged s .W ≢ keyAt steep (nudged s)
+  nudged-key : key steep A *ℤ nudged s .W ≢ keyAt steep (nudged s)
   nudged-key e =
       never-zero 35_184_372_088_832 (pos 12_582_912) small (λ w. omega (arith, onℤ)) (ahead steep A s) (sym (ahead-nudged A s) ∙ zero-of-equal (keyAt steep (nudged s)) (key steep A *ℤ nudged s .W) (sym e))
 
@@ -143,12 +143,12 @@ row-upright m law {t} i =
       rpq = subst (λ k. pos 0 <ℤ k) (turn-cycle P Q R ∙ turn-cycle Q R P) h;
     }
 
-pub nudged-weight : (s : Point) → pos 0 <ℤ s .W → pos 0 <ℤ nudged s .W
+nudged-weight : (s : Point) → pos 0 <ℤ s .W → pos 0 <ℤ nudged s .W
 nudged-weight s w = positive-times (pos 35_184_372_088_832) (s .W) (omega (arith, onℤ)) w
 
 -- a nudged point is off a row, and inside where the point was
 module _ {t : Shape} (u : Upright t) (s : Point) where
-  pub nudged-clear : pos 0 <ℤ s .W → Off steep t (nudged s)
+  nudged-clear : pos 0 <ℤ s .W → Off steep t (nudged s)
   nudged-clear w = record {
     weight = nudged-weight s w;
     off-pq = nudged-off (u .p-in) (u .q-in) s (apart-of-turn (t .p) (t .q) (t .r) (u .pqr));
@@ -177,7 +177,7 @@ module _ {A : Type 0} (f : A → Bool) (d : A) (l : List A) where
   count-two i j h k e g = omega (arith, two-places (λ x. bit (f x)) l d i j h k, count-tally f l, ap bit e, ap bit g)
 
   -- two different members that pass are two
-  pub count-different : {x y : A} → List·Memᴰ x l → List·Memᴰ y l → x ≢ y → f x ≡ true → f y ≡ true → 2 ≤ count f l
+  count-different : {x y : A} → List·Memᴰ x l → List·Memᴰ y l → x ≢ y → f x ≡ true → f y ≡ true → 2 ≤ count f l
   count-different {x} {y} i j n e g = go (mem-at d i) (mem-at d j)
     where
       go : (k : ℕ) × (k < length l) × (getD l k d ≡ x) → (k : ℕ) × (k < length l) × (getD l k d ≡ y) → 2 ≤ count f l

@@ -48,7 +48,7 @@ pub record Quiet (m : Mesh) : Type 0 where
   pub no-cross : (e d : Arrow) → List·Memᴰ e (border (m .tris)) → List·Memᴰ d (border (m .tris)) → ¬ Cross (at m (e .from)) (at m (e .to)) (at m (d .from)) (at m (d .to))
 
 -- the reverse of a border arrow is in no row
-pub not-reversed : (ts : List Tri) (e d : Arrow) → List·Memᴰ e (border ts) → List·Memᴰ d (arrowsOf ts) → sameArrow (reverse e) d ≡ true → ⊥
+not-reversed : (ts : List Tri) (e d : Arrow) → List·Memᴰ e (border ts) → List·Memᴰ d (arrowsOf ts) → sameArrow (reverse e) d ≡ true → ⊥
 not-reversed ts e d i j h =
     let a = All-at (only-passes (λ (d : Arrow). not (any (holdsArrow (reverse d)) ts)) (arrowsOf ts)) i in
     let b = any-at (sameArrow (reverse e)) h j in
@@ -56,7 +56,7 @@ not-reversed ts e d i j h =
 
 module _ (f : Form) (m : Mesh) (no-twice : Once (arrowsOf (m .tris))) (slanted : All (Slanted f m) (border (m .tris))) (quiet : Quiet m) where
   -- every border node is a border arrow's start, so starts are enough
-  pub any-end : (e d : Arrow) → List·Memᴰ e (border (m .tris)) → List·Memᴰ d (border (m .tris)) → NoTouch m e (d .to)
+  any-end : (e d : Arrow) → List·Memᴰ e (border (m .tris)) → List·Memᴰ d (border (m .tris)) → NoTouch m e (d .to)
   any-end e d i j =
       let c = any-count (λ (x : Arrow). eqb (x .to) (d .to)) (border (m .tris)) (any-at (λ (x : Arrow). eqb (x .to) (d .to)) (eq-eqb (d .to) (d .to) refl) j) in
       let (x, k, h) = count-some (λ (x : Arrow). eqb (x .from) (d .to)) (border (m .tris)) (let g = leave-arrive (d .to) (m .tris) no-twice in omega arith) in

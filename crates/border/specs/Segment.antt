@@ -52,7 +52,7 @@ ahead-joint f A s t =
     ring10 (λ f g ax ay x y w u v z. (Ahead f g ax ay (x :+ u) (y :+ v) (w :+ z), Ahead f g ax ay x y w :+ Ahead f g ax ay u v z))
     (f .along) (f .across) (A .x) (A .y) (s .X) (s .Y) (s .W) (t .X) (t .Y) (t .W) tt
 
-pub ahead-mix : (f : Form) (A : Place) (a b : ℤ) (s t : Point) → ahead f A (mix a s b t) ≡ a *ℤ ahead f A s +ℤ b *ℤ ahead f A t
+ahead-mix : (f : Form) (A : Place) (a b : ℤ) (s t : Point) → ahead f A (mix a s b t) ≡ a *ℤ ahead f A s +ℤ b *ℤ ahead f A t
 ahead-mix f A a b s t = ahead-joint f A (scaled a s) (scaled b t) ∙ ap₂ _+ℤ_ (ahead-scaled f A a s) (ahead-scaled f A b t)
 
 -- ---- on a segment; the key of A is the lower
@@ -103,7 +103,7 @@ mean-zero : (a b x y : ℤ) → x ≡ pos 0 → y ≡ pos 0 → a *ℤ x +ℤ b 
 mean-zero a b x y e g = rw (e, g) (ring2 (λ a b. (a :* K (pos 0) :+ b :* K (pos 0), K (pos 0))) a b tt)
 
 -- a mean of two points of the segment is one
-pub mix-strictly : (f : Form) (A B : Place) (a b : ℤ) (s t : Point) → pos 0 <ℤ a → pos 0 <ℤ b → Strictly f A B s → Strictly f A B t → Strictly f A B (mix a s b t)
+mix-strictly : (f : Form) (A B : Place) (a b : ℤ) (s t : Point) → pos 0 <ℤ a → pos 0 <ℤ b → Strictly f A B s → Strictly f A B t → Strictly f A B (mix a s b t)
 mix-strictly f A B a b s t ha hb hs ht = record {
   weight = mean-above a b (s .W) (t .W) ha hb (hs .weight) (ht .weight);
   on-line = left-mix A B a b s t ∙ mean-zero a b _ _ (hs .on-line) (ht .on-line);
@@ -111,7 +111,7 @@ mix-strictly f A B a b s t ha hb hs ht = record {
   before-high = subst (λ k. k <ℤ pos 0) (sym (ahead-mix f B a b s t)) (mean-below a b _ _ ha hb (hs .before-high) (ht .before-high));
 }
 
-pub mix-within : (f : Form) (C D : Place) (a b : ℤ) (s t : Point) → pos 0 <ℤ a → pos 0 <ℤ b → Within f C D s → Within f C D t → Within f C D (mix a s b t)
+mix-within : (f : Form) (C D : Place) (a b : ℤ) (s t : Point) → pos 0 <ℤ a → pos 0 <ℤ b → Within f C D s → Within f C D t → Within f C D (mix a s b t)
 mix-within f C D a b s t ha hb hs ht = record {
   from-low = subst (λ k. pos 0 ≤ℤ k) (sym (ahead-mix f C a b s t)) (mean-from a b _ _ ha hb (hs .from-low) (ht .from-low));
   to-high = subst (λ k. k ≤ℤ pos 0) (sym (ahead-mix f D a b s t)) (mean-to a b _ _ ha hb (hs .to-high) (ht .to-high));
@@ -175,10 +175,10 @@ rise-vector f P Q =
     ring6 (λ a b px py qx qy. ((a :* qx :+ b :* qy) :- (a :* px :+ b :* py), a :* (qx :- px) :+ b :* (qy :- py))) (f .along) (f .across) (P .x) (P .y) (Q .x) (Q .y) tt
 
 module _ (f : Form) (A B : Place) (s : Point) where
-  pub spot-line : left A B (spot f A B s) ≡ pos 0
+  spot-line : left A B (spot f A B s) ≡ pos 0
   spot-line = left-mix A B (negℤ (ahead f B s)) (ahead f A s) (corner A) (corner B) ∙ mean-zero (negℤ (ahead f B s)) (ahead f A s) (left A B (corner A)) (left A B (corner B)) (left-start A B) (left-end A B)
 
-  pub spot-weight : spot f A B s .W ≡ rise f A B *ℤ s .W
+  spot-weight : spot f A B s .W ≡ rise f A B *ℤ s .W
   spot-weight = ring4 (λ a b k w. (neg (k :- b :* w) :* K (pos 1) :+ (k :- a :* w) :* K (pos 1), (b :- a) :* w)) (key f A) (key f B) (keyAt f s) (s .W) tt
 
   pub spot-ahead : (C : Place) → ahead f C (spot f A B s) ≡ rise f A B *ℤ ahead f C s

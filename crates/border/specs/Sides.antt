@@ -38,7 +38,7 @@ sign-stays c d n = go (ltZ (pos 0) c) refl
         imply-from (λ n l. lt-not (below-of-minus (line c d n) (subst (λ k. pos 0 <ℤ k) (line-minus n c d) l))) (line-above (negℤ c) (negℤ d) (minus-above c (below-zero c n e)))
 
 module _ (f : Form) (s : Point) (u v : ℤ) where
-  pub behind-stays : (A : Place) → ahead f A s ≢ pos 0 → Eventually (λ n. behind f A (near s u v n) ≡ behind f A s)
+  behind-stays : (A : Place) → ahead f A s ≢ pos 0 → Eventually (λ n. behind f A (near s u v n) ≡ behind f A s)
   behind-stays A h = imply-from (λ n l. ap (ltZ (pos 0)) (ahead-near f A s u v n) ∙ l) (sign-stays (ahead f A s) (growth f u v) h)
 
   above-stays : (C D : Place) → left C D s ≢ pos 0 → Eventually (λ n. above C D (near s u v n) ≡ above C D s)
@@ -141,7 +141,7 @@ module _ (f : Form) (across : f .across ≢ pos 0) (m : Mesh) (positive : All (�
   some : Direction f m (pos 1) (pos (directions f across m positive .start))
   some = directions f across m positive .holds (directions f across m positive .start) (omega arith)
 
-  pub to-left : Toward (λ z. pos 0 <ℤ z)
+  to-left : Toward (λ z. pos 0 <ℤ z)
   to-left = go (ltZ (pos 0) (tilt (at m (e .from)) (at m (e .to)) (pos 1) (pos chosen))) refl
     where
       go : (b : Bool) → ltZ (pos 0) (tilt (at m (e .from)) (at m (e .to)) (pos 1) (pos chosen)) ≡ b → Toward (λ z. pos 0 <ℤ z)
@@ -154,7 +154,7 @@ module _ (f : Form) (across : f .across ≢ pos 0) (m : Mesh) (positive : All (�
             (minus-above _ (below-zero (tilt (at m (e .from)) (at m (e .to)) (pos 1) (pos chosen)) (All-at (tilt-arrows f m (pos 1) (pos chosen) some) here) h));
       }
 
-  pub to-right : Toward (λ z. z <ℤ pos 0)
+  to-right : Toward (λ z. z <ℤ pos 0)
   to-right =
       let l = to-left in
       record {

@@ -26,10 +26,10 @@ when-neg true k = refl
 when-neg false k = refl
 
 -- four numbers, two by two
-pub exchange : (a b c d : ℤ) → (a +ℤ b) +ℤ (c +ℤ d) ≡ (a +ℤ c) +ℤ (b +ℤ d)
+exchange : (a b c d : ℤ) → (a +ℤ b) +ℤ (c +ℤ d) ≡ (a +ℤ c) +ℤ (b +ℤ d)
 exchange a b c d = omega (arith, onℤ, sumℤ a b, sumℤ c d, sumℤ (a +ℤ b) (c +ℤ d), sumℤ a c, sumℤ b d, sumℤ (a +ℤ c) (b +ℤ d))
 
-pub regroup : (a b c : ℤ) → a +ℤ (b +ℤ c) ≡ (a +ℤ b) +ℤ c
+regroup : (a b c : ℤ) → a +ℤ (b +ℤ c) ≡ (a +ℤ b) +ℤ c
 regroup a b c = omega (arith, onℤ, sumℤ a b, sumℤ b c, sumℤ a (b +ℤ c), sumℤ (a +ℤ b) c)
 
 neg-sum : (a b : ℤ) → negℤ a +ℤ negℤ b ≡ negℤ (a +ℤ b)

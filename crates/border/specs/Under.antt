@@ -196,7 +196,7 @@ weighted f t s =
 -- ---- one triangle
 
 -- where neither end has the point's key and the point is not on the line, three signs say it all
-pub under-step : (f : Form) (A B : Place) (s : Point) → key f A *ℤ s .W ≢ keyAt f s → key f B *ℤ s .W ≢ keyAt f s → left A B s ≢ pos 0 →
+under-step : (f : Form) (A B : Place) (s : Point) → key f A *ℤ s .W ≢ keyAt f s → key f B *ℤ s .W ≢ keyAt f s → left A B s ≢ pos 0 →
     under f A B s ≡ step (ltZ (pos 0) (ahead f A s)) (ltZ (pos 0) (ahead f B s)) (ltZ (pos 0) (left A B s))
 unfolding under
 under-step f A B s a b l =

@@ -12,7 +12,7 @@ use Rattle.meaning.specs.Mesh.{turn}
 use Rattle.meaning.specs.Proper.{Point, Shape, Inside, Share, left}
 use Rattle.laws.specs.Area.{Turn, turn-cycle}
 use Rattle.border.specs.Signs.{minus-above}
-use Rattle.border.specs.Segment.{mix, corner, left-mix, left-corner, left-start, left-end}
+use Rattle.border.specs.Segment.{mix, mix-line, corner, left-mix, left-corner, left-start, left-end}
 use Rattle.border.specs.Near.{Eventually, both-from, imply-from, near, tilt, left-stays, left-turns, weight-stays}
 use Rattle.border.specs.Meet.{Opposite, down, upwards, Cross}
 
@@ -25,11 +25,6 @@ module _ (A B C : Place) (area : pos 0 <ℤ turn A B C) (a b : ℤ) (a-above : p
   -- the point of A–B by the weights a and b
   abbrev between : Point
   between = mix a (corner A) b (corner B)
-
-  on-line : left A B between ≡ pos 0
-  on-line =
-      left-mix A B a b (corner A) (corner B) ∙ ap₂ (λ x y. a *ℤ x +ℤ b *ℤ y) (left-start A B) (left-end A B) ∙
-      ring2 (λ a b. (a :* K (pos 0) :+ b :* K (pos 0), K (pos 0))) a b tt
 
   left-of-second : pos 0 <ℤ left B C between
   left-of-second =
@@ -47,7 +42,7 @@ module _ (A B C : Place) (area : pos 0 <ℤ turn A B C) (a b : ℤ) (a-above : p
   inside-beside : (u v : ℤ) → pos 0 <ℤ tilt A B u v → Eventually (λ n. Inside (triangle A B C) (near between u v n))
   inside-beside u v h =
       imply-from (λ n (p, (q, r)). record { pq = p; qr = q; rp = r })
-      (both-from (left-turns between u v A B (le-of-eq (sym on-line)) h)
+      (both-from (left-turns between u v A B (le-of-eq (sym (mix-line A B a b))) h)
       (both-from (left-stays between u v B C left-of-second) (left-stays between u v C A left-of-third)))
 
 -- ---- two sides that cross: C right of A→B and D left, A left of C→D and B right

@@ -20,7 +20,7 @@ module _ {A : Type 0} (num den : A → ℤ) (passes : A → Bool) where
 
   pub data Least (l : List A) : Type 0 where
     none-passes : All (λ y. passes y ≡ false) l → Least l
-    least : (x : A) → List·Memᴰ x l → passes x ≡ true → All (λ y. passes y ≡ true → (num x *ℤ den y) ≤ℤ (num y *ℤ den x)) l → Least l
+    least : (x : A) → List·Memᴰ x l → passes x ≡ true → All (λ y. passes y ≡ true → AtMost x y) l → Least l
 
   at-most-trans : (x y z : A) → pos 0 <ℤ den x → pos 0 <ℤ den y → pos 0 <ℤ den z → AtMost x y → AtMost y z → AtMost x z
   at-most-trans x y z hx hy hz p q =

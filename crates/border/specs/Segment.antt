@@ -167,6 +167,10 @@ left-start A B = ring4 (λ a b c d. (Left a b c d a b (K (pos 1)), K (pos 0))) (
 pub left-end : (A B : Place) → left A B (corner B) ≡ pos 0
 left-end A B = ring4 (λ a b c d. (Left a b c d c d (K (pos 1)), K (pos 0))) (A .x) (A .y) (B .x) (B .y) tt
 
+-- a mean of two places is on their line
+pub mix-line : (A B : Place) (a b : ℤ) → left A B (mix a (corner A) b (corner B)) ≡ pos 0
+mix-line A B a b = left-mix A B a b (corner A) (corner B) ∙ mean-zero a b (left A B (corner A)) (left A B (corner B)) (left-start A B) (left-end A B)
+
 pub ahead-corner : (f : Form) (A B : Place) → ahead f A (corner B) ≡ rise f A B
 ahead-corner f A B = ring2 (λ a b. (b :- a :* K (pos 1), b :- a)) (key f A) (key f B) tt
 
@@ -176,7 +180,7 @@ rise-vector f P Q =
 
 module _ (f : Form) (A B : Place) (s : Point) where
   spot-line : left A B (spot f A B s) ≡ pos 0
-  spot-line = left-mix A B (negℤ (ahead f B s)) (ahead f A s) (corner A) (corner B) ∙ mean-zero (negℤ (ahead f B s)) (ahead f A s) (left A B (corner A)) (left A B (corner B)) (left-start A B) (left-end A B)
+  spot-line = mix-line A B (negℤ (ahead f B s)) (ahead f A s)
 
   spot-weight : spot f A B s .W ≡ rise f A B *ℤ s .W
   spot-weight = ring4 (λ a b k w. (neg (k :- b :* w) :* K (pos 1) :+ (k :- a :* w) :* K (pos 1), (b :- a) :* w)) (key f A) (key f B) (keyAt f s) (s .W) tt

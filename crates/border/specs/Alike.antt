@@ -1,27 +1,26 @@
 -- Two points of a segment that have one key are one point: every arrow counts the same under both. Assumes nothing.
-use mathlib.Core.Bool.{Bool, _&&_}
-use mathlib.Core.Path.{_≡_, refl, sym, ap, ap₂, subst, _∙_}
-use native.Mathlib.Omega.{arith}
+use mathlib.Core.Bool.{_&&_}
+use mathlib.Core.Path.{_≡_, sym, ap, subst, _∙_}
 use lib.IntN.{ℤ, pos, negℤ, _+ℤ_, _-ℤ_, _*ℤ_}
 use lib.Signed.{ltZ, _<ℤ_}
-use Rattle.whole.specs.Diff.{onℤ, subℤ, negℤ-ud}
-use Rattle.whole.specs.Ring.{Expr, K, _:+_, _:-_, _:*_, neg, ring2, ring4, ring6, ring8, combine₁, combine₂}
+use Rattle.whole.specs.Ring.{K, _:+_, _:-_, _:*_, neg, ring2, ring4, ring6, ring8, combine₁, combine₂}
 use Rattle.whole.specs.Tests.{ltZ-true, lt-ltZ}
+use Rattle.whole.specs.Order.{positive-times}
 use Rattle.lists.specs.ListsLaw.{both-ways}
 use Rattle.meaning.specs.declared.Place.{Place}
 use Rattle.meaning.specs.Proper.{Point, left}
+use Rattle.border.specs.Signs.{unscale-above, lt-zero}
 use Rattle.border.specs.Sums.{one}
-use Rattle.border.specs.Under.{Form, key, keyAt, past, before, under, ahead, times-above, lt-zero, left-swapped}
-use Rattle.border.specs.Segment.{Strictly, above, corner, spot, rise, left-mix, left-spot}
-use Rattle.border.specs.Along.{unscale-above}
+use Rattle.border.specs.Under.{Form, key, keyAt, past, before, under, ahead}
+use Rattle.border.specs.Segment.{Strictly, above, corner, rise, left-mix, left-spot}
 
 abbrev pub SameKey : Form → Point → Point → Type 0
 SameKey f s t = keyAt f s *ℤ t .W ≡ keyAt f t *ℤ s .W
 
-pub sign-scaled : (x y a b : ℤ) → pos 0 <ℤ a → pos 0 <ℤ b → x *ℤ a ≡ y *ℤ b → ltZ (pos 0) x ≡ ltZ (pos 0) y
+sign-scaled : (x y a b : ℤ) → pos 0 <ℤ a → pos 0 <ℤ b → x *ℤ a ≡ y *ℤ b → ltZ (pos 0) x ≡ ltZ (pos 0) y
 sign-scaled x y a b ha hb e =
-    both-ways _ _ (λ h. lt-ltZ (pos 0) y (unscale-above y b hb (subst (λ k. pos 0 <ℤ k) e (times-above x a (ltZ-true (pos 0) x h) ha))))
-    (λ h. lt-ltZ (pos 0) x (unscale-above x a ha (subst (λ k. pos 0 <ℤ k) (sym e) (times-above y b (ltZ-true (pos 0) y h) hb))))
+    both-ways _ _ (λ h. lt-ltZ (pos 0) y (unscale-above y b hb (subst (λ k. pos 0 <ℤ k) e (positive-times x a (ltZ-true (pos 0) x h) ha))))
+    (λ h. lt-ltZ (pos 0) x (unscale-above x a ha (subst (λ k. pos 0 <ℤ k) (sym e) (positive-times y b (ltZ-true (pos 0) y h) hb))))
 
 module _ (f : Form) (A B : Place) (low-high : pos 0 <ℤ rise f A B) (s t : Point) (hs : Strictly f A B s) (ht : Strictly f A B t) (same : SameKey f s t) where
   ahead-alike : (C : Place) → ahead f C s *ℤ t .W ≡ ahead f C t *ℤ s .W
@@ -51,7 +50,7 @@ module _ (f : Form) (A B : Place) (low-high : pos 0 <ℤ rise f A B) (s t : Poin
 
   above-alike : (C D : Place) → above C D s ≡ above C D t
   above-alike C D =
-      sign-scaled (left C D s) (left C D t) (rise f A B *ℤ t .W) (rise f A B *ℤ s .W) (times-above (rise f A B) (t .W) low-high (ht .weight)) (times-above (rise f A B) (s .W) low-high (hs .weight))
+      sign-scaled (left C D s) (left C D t) (rise f A B *ℤ t .W) (rise f A B *ℤ s .W) (positive-times (rise f A B) (t .W) low-high (ht .weight)) (positive-times (rise f A B) (s .W) low-high (hs .weight))
       (move (left C D s) (rise f A B) (t .W) ∙ ap (λ k. k *ℤ t .W) (on-spot C D s hs) ∙
       combine₂ (negℤ (left C D (corner A))) (left C D (corner B)) (ahead-alike B) (ahead-alike A)
       (ring8 (λ b d a c w z x y. (((neg b :* x :+ a :* y) :* z) :- ((neg d :* x :+ c :* y) :* w), neg x :* (b :* z :- d :* w) :+ y :* (a :* z :- c :* w)))

@@ -3,18 +3,19 @@ use mathlib.Core.Bool.{Bool, true, false, not, _&&_}
 use mathlib.Core.Logic.{_≢_}
 use mathlib.Core.Path.{_≡_, refl, sym, ap, ap₂, subst, _∙_}
 use native.Mathlib.Omega.{arith}
-use lib.IntN.{ℤ, pos, negsuc, negℤ, _+ℤ_, _-ℤ_, _*ℤ_}
+use lib.IntN.{ℤ, pos, negℤ, _+ℤ_, _-ℤ_, _*ℤ_}
 use lib.Signed.{ltZ, _≤ℤ_, _<ℤ_}
-use Rattle.whole.specs.Diff.{onℤ, sumℤ, subℤ, negℤ-ud}
-use Rattle.whole.specs.Ring.{Expr, K, _:+_, _:-_, _:*_, neg, ring2, ring3, ring4, ring6}
+use Rattle.whole.specs.Diff.{onℤ, subℤ}
+use Rattle.whole.specs.Ring.{K, _:+_, _:-_, _:*_, neg, ring3, ring4, ring6}
 use Rattle.whole.specs.Tests.{ltZ-true, ltZ-false, lt-ltZ, le-ltZ}
-use Rattle.whole.specs.Order.{unscale-lt}
+use Rattle.whole.specs.Order.{positive-times}
 use Rattle.lists.specs.ListsLaw.{clash, both-ways}
 use Rattle.meaning.specs.declared.Place.{Place}
 use Rattle.meaning.specs.Proper.{Point, left}
+use Rattle.border.specs.Signs.{minus-above, unscale-above, zero-of-equal, below-of-minus, sum-above, not-lt, lt-zero, lt-le, difference-above, below-swapped, lt-of-difference}
 use Rattle.border.specs.Sums.{one}
-use Rattle.border.specs.Under.{Form, key, keyAt, past, before, under, ahead, times-above, below-zero, not-lt, lt-zero}
-use Rattle.border.specs.Segment.{Strictly, Within, Spans, Apart, above, corner, spot, rise, one-side, left-start, left-end, left-spot, ahead-corner, strictly-spans, spot-strictly, spot-within, times-below}
+use Rattle.border.specs.Under.{Form, key, keyAt, before, under, ahead}
+use Rattle.border.specs.Segment.{Strictly, Within, Spans, Apart, above, corner, spot, rise, one-side, left-start, left-end, left-spot, ahead-corner, spot-strictly, spot-within}
 
 -- the key of v is below that of s
 abbrev pub behind : Form → Place → Point → Bool
@@ -24,32 +25,24 @@ behind f v s = ltZ (pos 0) (ahead f v s)
 abbrev pub Earlier : Form → Point → Point → Type 0
 Earlier f s t = (keyAt f s *ℤ t .W) <ℤ (keyAt f t *ℤ s .W)
 
-pub unscale-above : (a d : ℤ) → pos 0 <ℤ d → pos 0 <ℤ (a *ℤ d) → pos 0 <ℤ a
-unscale-above a d h l = unscale-lt d (pos 0) a h (subst (λ k. k <ℤ (a *ℤ d)) (ring2 (λ a d. (K (pos 0), K (pos 0) :* d)) a d tt) l)
-
 ahead-lower : (f : Form) (C D : Place) (s : Point) → ahead f C s ≡ ahead f D s +ℤ rise f C D *ℤ s .W
 ahead-lower f C D s = ring4 (λ c d k w. (k :- c :* w, (k :- d :* w) :+ (d :- c) :* w)) (key f C) (key f D) (keyAt f s) (s .W) tt
 
 -- past the higher end, so past the lower
-pub behind-low : (f : Form) (C D : Place) (s : Point) → pos 0 <ℤ rise f C D → pos 0 <ℤ s .W → behind f D s ≡ true → behind f C s ≡ true
+behind-low : (f : Form) (C D : Place) (s : Point) → pos 0 <ℤ rise f C D → pos 0 <ℤ s .W → behind f D s ≡ true → behind f C s ≡ true
 behind-low f C D s r w e =
-    let p = times-above (rise f C D) (s .W) r w in
+    let p = positive-times (rise f C D) (s .W) r w in
     let q = ltZ-true (pos 0) (ahead f D s) e in
-    lt-ltZ (pos 0) (ahead f C s) (subst (λ k. pos 0 <ℤ k) (sym (ahead-lower f C D s)) (both (ahead f D s) (rise f C D *ℤ s .W) q p))
-  where
-    both : (a b : ℤ) → pos 0 <ℤ a → pos 0 <ℤ b → pos 0 <ℤ (a +ℤ b)
-    both a b h i = omega (arith, onℤ, sumℤ a b)
+    lt-ltZ (pos 0) (ahead f C s) (subst (λ k. pos 0 <ℤ k) (sym (ahead-lower f C D s)) (sum-above (ahead f D s) (rise f C D *ℤ s .W) q (lt-le p)))
 
 -- past it at a point, so past it later
-pub behind-later : (f : Form) (v : Place) (s t : Point) → pos 0 <ℤ s .W → pos 0 <ℤ t .W → Earlier f s t → behind f v s ≡ true → behind f v t ≡ true
+behind-later : (f : Form) (v : Place) (s t : Point) → pos 0 <ℤ s .W → pos 0 <ℤ t .W → Earlier f s t → behind f v s ≡ true → behind f v t ≡ true
 behind-later f v s t hs ht h e =
-    let p = times-above (ahead f v s) (t .W) (ltZ-true (pos 0) (ahead f v s) e) ht in
+    let p = positive-times (ahead f v s) (t .W) (ltZ-true (pos 0) (ahead f v s) e) ht in
     let q : ahead f v t *ℤ s .W ≡ ahead f v s *ℤ t .W +ℤ (keyAt f t *ℤ s .W -ℤ keyAt f s *ℤ t .W) =
     ring6 (λ k l w z v n. ((l :- v :* z) :* w, (k :- v :* w) :* z :+ (l :* w :- k :* z))) (keyAt f s) (keyAt f t) (s .W) (t .W) (key f v) (pos 0) tt in
-    lt-ltZ (pos 0) (ahead f v t) (unscale-above (ahead f v t) (s .W) hs (subst (λ k. pos 0 <ℤ k) (sym q) (both (ahead f v s *ℤ t .W) (keyAt f t *ℤ s .W) (keyAt f s *ℤ t .W) p h)))
-  where
-    both : (a b c : ℤ) → pos 0 <ℤ a → c <ℤ b → pos 0 <ℤ (a +ℤ (b -ℤ c))
-    both a b c h i = omega (arith, onℤ, subℤ b c, sumℤ a (b -ℤ c))
+    lt-ltZ (pos 0) (ahead f v t) (unscale-above (ahead f v t) (s .W) hs (subst (λ k. pos 0 <ℤ k) (sym q)
+    (sum-above (ahead f v s *ℤ t .W) (keyAt f t *ℤ s .W -ℤ keyAt f s *ℤ t .W) p (lt-le (difference-above (keyAt f t *ℤ s .W) (keyAt f s *ℤ t .W) h)))))
 
 -- a rising arrow: 1 between its ends' keys, above it
 pub under-rising : (f : Form) (C D : Place) (s : Point) → pos 0 <ℤ rise f C D → pos 0 <ℤ s .W → ahead f D s ≢ pos 0 →
@@ -58,17 +51,11 @@ unfolding under
 under-rising f C D s r w n =
     let pC = lt-zero (key f C *ℤ s .W) (keyAt f s) in
     let pD = lt-zero (key f D *ℤ s .W) (keyAt f s) in
-    let bD = not-lt (key f D *ℤ s .W) (keyAt f s) (λ e. n (difference (keyAt f s) (key f D *ℤ s .W) e)) ∙ ap not pD in
+    let bD = not-lt (key f D *ℤ s .W) (keyAt f s) (λ e. n (zero-of-equal (keyAt f s) (key f D *ℤ s .W) (sym e))) ∙ ap not pD in
     (λ i. one (pC i && bD i && above C D s) -ℤ one (pD i && before f C s && above D C s)) ∙
     go (behind f C s) (behind f D s) (before f C s) (above C D s) (above D C s)
-    (λ e. le-ltZ (keyAt f s) (key f C *ℤ s .W) (upto (keyAt f s) (key f C *ℤ s .W) (ltZ-true (pos 0) (ahead f C s) (behind-low f C D s r w e))))
+    (λ e. le-ltZ (keyAt f s) (key f C *ℤ s .W) (lt-le (lt-of-difference (keyAt f s) (key f C *ℤ s .W) (ltZ-true (pos 0) (ahead f C s) (behind-low f C D s r w e)))))
   where
-    difference : (a b : ℤ) → b ≡ a → a -ℤ b ≡ pos 0
-    difference a b e = omega (arith, onℤ, subℤ a b)
-
-    upto : (a b : ℤ) → pos 0 <ℤ (a -ℤ b) → b ≤ℤ a
-    upto a b h = omega (arith, onℤ, subℤ a b)
-
     go : (a b c l k : Bool) → (b ≡ true → c ≡ false) → one (a && not b && l) -ℤ one (b && c && k) ≡ one (a && (not b && l))
     go true true true l k h = clash (h refl)
     go true true false l k h = refl
@@ -89,58 +76,43 @@ between f A B s t v = one (not (behind f v s) && (behind f v t && lower A B v))
 -- ---- from s to t, both strictly between A and B
 
 module _ (f : Form) (A B : Place) (low-high : pos 0 <ℤ rise f A B) (s t : Point) (hs : Strictly f A B s) (ht : Strictly f A B t) where
-  difference-above : (a b x y : ℤ) → a ≡ x -ℤ y → pos 0 <ℤ x → y ≤ℤ pos 0 → pos 0 <ℤ a
-  difference-above a b x y e h i = omega (arith, onℤ, subℤ x y)
+  from-difference : (a x y : ℤ) → a ≡ x -ℤ y → pos 0 <ℤ x → y ≤ℤ pos 0 → pos 0 <ℤ a
+  from-difference a x y e h i = omega (arith, onℤ, subℤ x y)
 
   -- such a key is between those of A and B
   corner-spans : (v : Place) → behind f v s ≡ false → behind f v t ≡ true → Spans f A B (corner v)
   corner-spans v e g = record {
     weight = omega (arith, onℤ);
     past-low = subst (λ k. pos 0 <ℤ k) (sym (ahead-corner f A v)) from-low;
-    before-high = subst (λ k. k <ℤ pos 0) (sym (ahead-corner f B v)) (swap (key f v) (key f B) to-high);
+    before-high = subst (λ k. k <ℤ pos 0) (sym (ahead-corner f B v)) (below-swapped (key f v) (key f B) to-high);
   }
     where
       from-low : pos 0 <ℤ rise f A v
       from-low =
           let q : rise f A v *ℤ s .W ≡ ahead f A s -ℤ ahead f v s = ring4 (λ a v k w. ((v :- a) :* w, (k :- a :* w) :- (k :- v :* w))) (key f A) (key f v) (keyAt f s) (s .W) tt in
-          unscale-above (rise f A v) (s .W) (hs .weight) (difference-above (rise f A v *ℤ s .W) (pos 0) (ahead f A s) (ahead f v s) q (hs .past-low) (ltZ-false (pos 0) (ahead f v s) e))
+          unscale-above (rise f A v) (s .W) (hs .weight) (from-difference (rise f A v *ℤ s .W) (ahead f A s) (ahead f v s) q (hs .past-low) (ltZ-false (pos 0) (ahead f v s) e))
 
       to-high : pos 0 <ℤ rise f v B
       to-high =
           let q : rise f v B *ℤ t .W ≡ ahead f v t -ℤ ahead f B t = ring4 (λ v b k w. ((b :- v) :* w, (k :- v :* w) :- (k :- b :* w))) (key f v) (key f B) (keyAt f t) (t .W) tt in
           unscale-above (rise f v B) (t .W) (ht .weight)
-          (difference-above (rise f v B *ℤ t .W) (pos 0) (ahead f v t) (ahead f B t) q (ltZ-true (pos 0) (ahead f v t) g) (let l = ht .before-high in weaker (ahead f B t) l))
-        where
-          weaker : (z : ℤ) → z <ℤ pos 0 → z ≤ℤ pos 0
-          weaker z h = omega (arith, onℤ)
-
-      swap : (a b : ℤ) → pos 0 <ℤ (b -ℤ a) → (a -ℤ b) <ℤ pos 0
-      swap a b h = omega (arith, onℤ, subℤ a b, subℤ b a)
+          (from-difference (rise f v B *ℤ t .W) (ahead f v t) (ahead f B t) q (ltZ-true (pos 0) (ahead f v t) g) (lt-le (ht .before-high)))
 
   module _ (C D : Place) (up : pos 0 <ℤ rise f C D) (apart : Apart f A B C D) where
     within-at : (p : Point) → behind f C p ≡ true → behind f D p ≡ false → Within f C D p
-    within-at p e g = record { from-low = weaker (ahead f C p) (ltZ-true (pos 0) (ahead f C p) e); to-high = ltZ-false (pos 0) (ahead f D p) g }
-      where
-        weaker : (z : ℤ) → pos 0 <ℤ z → pos 0 ≤ℤ z
-        weaker z h = omega (arith, onℤ)
+    within-at p e g = record { from-low = lt-le (ltZ-true (pos 0) (ahead f C p) e); to-high = ltZ-false (pos 0) (ahead f D p) g }
 
     within-start : Within f C D (corner C)
-    within-start = record { from-low = subst (λ k. pos 0 ≤ℤ k) (sym (ahead-corner f C C)) (own (key f C)); to-high = subst (λ k. k ≤ℤ pos 0) (sym (ahead-corner f D C)) (swap (key f C) (key f D) up) }
+    within-start = record { from-low = subst (λ k. pos 0 ≤ℤ k) (sym (ahead-corner f C C)) (own (key f C)); to-high = subst (λ k. k ≤ℤ pos 0) (sym (ahead-corner f D C)) (lt-le (below-swapped (key f C) (key f D) up)) }
       where
         own : (a : ℤ) → pos 0 ≤ℤ (a -ℤ a)
         own a = omega (arith, onℤ, subℤ a a)
 
-        swap : (a b : ℤ) → pos 0 <ℤ (b -ℤ a) → (a -ℤ b) ≤ℤ pos 0
-        swap a b h = omega (arith, onℤ, subℤ a b, subℤ b a)
-
     within-end : Within f C D (corner D)
-    within-end = record { from-low = subst (λ k. pos 0 ≤ℤ k) (sym (ahead-corner f C D)) (weaker (rise f C D) up); to-high = subst (λ k. k ≤ℤ pos 0) (sym (ahead-corner f D D)) (own (key f D)) }
+    within-end = record { from-low = subst (λ k. pos 0 ≤ℤ k) (sym (ahead-corner f C D)) (lt-le up); to-high = subst (λ k. k ≤ℤ pos 0) (sym (ahead-corner f D D)) (own (key f D)) }
       where
         own : (a : ℤ) → (a -ℤ a) ≤ℤ pos 0
         own a = omega (arith, onℤ, subℤ a a)
-
-        weaker : (z : ℤ) → pos 0 <ℤ z → pos 0 ≤ℤ z
-        weaker z h = omega (arith, onℤ)
 
     -- the point of the segment at an end's key is above C–D just if the end is right of A→B
     spot-side : (v : Place) → left C D (corner v) ≡ pos 0 → above C D (spot f A B (corner v)) ≡ lower A B v
@@ -150,14 +122,8 @@ module _ (f : Form) (A B : Place) (low-high : pos 0 <ℤ rise f A B) (s t : Poin
         side : (a r z : ℤ) → pos 0 <ℤ r → ltZ (pos 0) (a *ℤ pos 0 -ℤ r *ℤ z) ≡ ltZ z (pos 0)
         side a r z h =
             ap (ltZ (pos 0)) (ring3 (λ a r z. (a :* K (pos 0) :- r :* z, neg z :* r)) a r z tt) ∙
-            both-ways _ _ (λ e. lt-ltZ z (pos 0) (back z (unscale-above (negℤ z) r h (ltZ-true (pos 0) (negℤ z *ℤ r) e))))
-            (λ e. lt-ltZ (pos 0) (negℤ z *ℤ r) (times-above (negℤ z) r (forth z (ltZ-true z (pos 0) e)) h))
-          where
-            back : (z : ℤ) → pos 0 <ℤ negℤ z → z <ℤ pos 0
-            back z h = omega (arith, onℤ, negℤ-ud z)
-
-            forth : (z : ℤ) → z <ℤ pos 0 → pos 0 <ℤ negℤ z
-            forth z h = omega (arith, onℤ, negℤ-ud z)
+            both-ways _ _ (λ e. lt-ltZ z (pos 0) (below-of-minus z (unscale-above (negℤ z) r h (ltZ-true (pos 0) (negℤ z *ℤ r) e))))
+            (λ e. lt-ltZ (pos 0) (negℤ z *ℤ r) (positive-times (negℤ z) r (minus-above z (ltZ-true z (pos 0) e)) h))
 
     -- an arrow that rises and does not meet the segment
     pub moved : Earlier f s t → ahead f D s ≢ pos 0 → ahead f D t ≢ pos 0 → under f C D t -ℤ under f C D s ≡ between f A B s t C -ℤ between f A B s t D

@@ -1,27 +1,27 @@
 -- Beside a border arrow: what the other border arrows count is the same at all points of it that have no node's key. Assumes nothing.
 use mathlib.Core.Bool.{Bool, true, false, not, _&&_}
-use mathlib.Core.List.{List, [], _∷_, List·Memᴰ}
-use mathlib.Core.Logic.{_≢_, _⊎_, inl, inr}
+use mathlib.Core.List.{List, List·Memᴰ}
+use mathlib.Core.Logic.{_≢_}
 use mathlib.Core.Path.{_≡_, refl, sym, ap, ap₂, subst, _∙_}
 use Prim.Native.Nat.{ℕ, _≤_}
 use native.Mathlib.Omega.{arith}
-use lib.IntN.{ℤ, pos, negsuc, negℤ, _+ℤ_, _-ℤ_, _*ℤ_}
-use lib.Signed.{ltZ, _≤ℤ_, _<ℤ_}
-use borrow.Author.Tests.{eq-eqb}
+use lib.IntN.{ℤ, pos, negℤ, _+ℤ_, _-ℤ_, _*ℤ_}
+use lib.Signed.{ltZ, _<ℤ_}
 use Rattle.whole.specs.Diff.{onℤ, sumℤ, subℤ, negℤ-ud}
-use Rattle.whole.specs.Tests.{ltZ-true, ltZ-false, lt-ltZ, le-ltZ}
+use Rattle.whole.specs.Tests.{ltZ-true, ltZ-false, lt-ltZ}
 use Rattle.whole.specs.Order.{le-antisymm}
-use Rattle.whole.specs.Ring.{Expr, K, _:+_, _:-_, _:*_, neg, ring2, ring3, ring4, ring6}
-use Rattle.lists.specs.Lists.{any, only, count, consIf, sucIf, All}
-use Rattle.lists.specs.ListsLaw.{and-both, any-at, All-imp}
+use Rattle.lists.specs.Lists.{any, only, count, All}
+use Rattle.lists.specs.ListsLaw.{any-at, All-imp}
 use Rattle.lists.specs.MembersLaw.{only-passes}
+use Rattle.lists.specs.Tally.{only-le, count-tally, bit}
 use Rattle.meaning.specs.declared.Place.{Place}
 use Rattle.meaning.specs.declared.Tri.{Tri}
-use Rattle.meaning.specs.Mesh.{Mesh, Arrow, arrow, sameArrow, holdsArrow, at}
-use Rattle.meaning.specs.Proper.{Point, left}
-use Rattle.laws.specs.Edges.{sameArrow-eq}
+use Rattle.meaning.specs.Mesh.{Mesh, Arrow, sameArrow, holdsArrow, at}
+use Rattle.meaning.specs.Proper.{Point}
+use Rattle.laws.specs.Edges.{sameArrow-eq, eq-arrow}
+use Rattle.border.specs.Signs.{zero-swapped, lt-not, below-zero, zero-of-equal, above-swapped, equal-of-zero}
 use Rattle.border.specs.Sums.{when, one, added, added-eq, added-zero, added-sum, added-neg, added-only, added-any, added-parts}
-use Rattle.border.specs.Under.{Form, key, keyAt, under, ahead, under-swapped, below-zero}
+use Rattle.border.specs.Under.{Form, key, keyAt, under, ahead, under-swapped}
 use Rattle.border.specs.Cancel.{Once, reverse, arrowsOf, border, balance}
 use Rattle.border.specs.Count.{underArrow}
 use Rattle.border.specs.Segment.{Strictly, Apart, rise}
@@ -35,29 +35,23 @@ pub record Clear (f : Form) (A B C D : Place) : Type 0 where
   pub apart-back : Apart f A B D C
 
 pub clear-back : (f : Form) (A B C D : Place) → Clear f A B C D → Clear f A B D C
-clear-back f A B C D h = record { slanted = λ e. h .slanted (swap (key f C) (key f D) e); apart = h .apart-back; apart-back = h .apart }
-  where
-    swap : (a b : ℤ) → a -ℤ b ≡ pos 0 → b -ℤ a ≡ pos 0
-    swap a b e = omega (arith, onℤ, subℤ a b, subℤ b a)
+clear-back f A B C D h = record { slanted = λ e. h .slanted (zero-swapped (key f C) (key f D) e); apart = h .apart-back; apart-back = h .apart }
 
 -- one of two ends is the lower
 pub data Slant (f : Form) (C D : Place) : Type 0 where
   rising : pos 0 <ℤ rise f C D → Slant f C D
   falling : pos 0 <ℤ rise f D C → Slant f C D
 
-pub slant : (f : Form) (C D : Place) → rise f C D ≢ pos 0 → Slant f C D
+slant : (f : Form) (C D : Place) → rise f C D ≢ pos 0 → Slant f C D
 slant f C D n = go (ltZ (pos 0) (rise f C D)) refl
   where
-    swap : (a b : ℤ) → (b -ℤ a) <ℤ pos 0 → pos 0 <ℤ (a -ℤ b)
-    swap a b h = omega (arith, onℤ, subℤ a b, subℤ b a)
-
     go : (b : Bool) → ltZ (pos 0) (rise f C D) ≡ b → Slant f C D
     go true e = rising (ltZ-true (pos 0) (rise f C D) e)
-    go false e = falling (swap (key f C) (key f D) (below-zero (rise f C D) n e))
+    go false e = falling (above-swapped (key f C) (key f D) (below-zero (rise f C D) n e))
 
 module _ (f : Form) (A B : Place) (low-high : pos 0 <ℤ rise f A B) (s t : Point) (hs : Strictly f A B s) (ht : Strictly f A B t) (early : Earlier f s t) where
   -- an arrow that does not meet the segment
-  pub moved-any : (C D : Place) → Clear f A B C D → ahead f C s ≢ pos 0 → ahead f D s ≢ pos 0 → ahead f C t ≢ pos 0 → ahead f D t ≢ pos 0 →
+  moved-any : (C D : Place) → Clear f A B C D → ahead f C s ≢ pos 0 → ahead f D s ≢ pos 0 → ahead f C t ≢ pos 0 → ahead f D t ≢ pos 0 →
       under f C D t -ℤ under f C D s ≡ between f A B s t C -ℤ between f A B s t D
   moved-any C D h cs ds ct dt = go (slant f C D (h .slanted))
     where
@@ -76,31 +70,12 @@ module _ (f : Form) (A B : Place) (low-high : pos 0 <ℤ rise f A B) (s t : Poin
 abbrev pub others : Arrow → List Arrow → List Arrow
 others e es = only (λ d. not (sameArrow e d)) es
 
-sameArrow-refl : (e : Arrow) → sameArrow e e ≡ true
-sameArrow-refl e = and-both (eq-eqb (e .from) (e .from) refl) (eq-eqb (e .to) (e .to) refl)
-
-only-count : {X : Type 0} (p q : X → Bool) (l : List X) → count q (only p l) ≤ count q l
-only-count p q [] = omega arith
-only-count p q (x ∷ xs) = go (p x) (q x) (only-count p q xs)
-  where
-    go : (a b : Bool) → count q (only p xs) ≤ count q xs → count q (consIf a x (only p xs)) ≤ sucIf (q x) (count q xs)
-    go true b h = more (q x)
-      where
-        more : (c : Bool) → sucIf c (count q (only p xs)) ≤ sucIf c (count q xs)
-        more true = omega arith
-        more false = h
-    go false b h = more (q x)
-      where
-        more : (c : Bool) → count q (only p xs) ≤ sucIf c (count q xs)
-        more true = omega arith
-        more false = h
-
 -- an arrow of the border is there once
 module _ (ts : List Tri) (no-twice : Once (arrowsOf ts)) (e : Arrow) (here : List·Memᴰ e (border ts)) (φ : Arrow → ℤ) where
   own-sum : added φ (only (sameArrow e) (border ts)) ≡ φ e
   own-sum =
       added-only φ (sameArrow e) (border ts) ∙ (λ i. added (λ d. same d i) (border ts)) ∙
-      added-any (sameArrow e) (φ e) (border ts) once-there ∙ ap (λ b. when b (φ e)) (any-at (sameArrow e) (sameArrow-refl e) here)
+      added-any (sameArrow e) (φ e) (border ts) once-there ∙ ap (λ b. when b (φ e)) (any-at (sameArrow e) (eq-arrow e (e .from) (e .to) refl refl) here)
     where
       same : (d : Arrow) → when (sameArrow e d) (φ d) ≡ when (sameArrow e d) (φ e)
       same d = go (sameArrow e d) refl
@@ -110,7 +85,8 @@ module _ (ts : List Tri) (no-twice : Once (arrowsOf ts)) (e : Arrow) (here : Lis
           go false h = refl
 
       once-there : count (sameArrow e) (border ts) ≤ 1
-      once-there = let a = only-count (λ d. not (any (holdsArrow (reverse d)) ts)) (sameArrow e) (arrowsOf ts) in let b = no-twice e in omega arith
+      once-there =
+          omega (arith, only-le (λ d. bit (sameArrow e d)) (λ d. not (any (holdsArrow (reverse d)) ts)) (arrowsOf ts), count-tally (sameArrow e) (arrowsOf ts), count-tally (sameArrow e) (border ts), no-twice e)
 
   -- it and the others
   pub border-split : added φ (border ts) ≡ φ e +ℤ added φ (others e (border ts))
@@ -139,11 +115,8 @@ module _ (f : Form) (m : Mesh) (ts : List Tri) (no-twice : Once (arrowsOf ts)) (
       left-over : (a b : ℤ) → a +ℤ b ≡ pos 0 → a ≡ pos 0 → b ≡ pos 0
       left-over a b h i = omega (arith, onℤ, sumℤ a b)
 
-      cancel : (a b : ℤ) → a ≡ b → a -ℤ b ≡ pos 0
-      cancel a b h = omega (arith, onℤ, subℤ a b)
-
       own : (d : Arrow) → sameArrow e d ≡ true → g (d .from) -ℤ g (d .to) ≡ pos 0
-      own d h = subst (λ (x : Arrow). g (x .from) -ℤ g (x .to) ≡ pos 0) (sameArrow-eq e d h) (cancel (g (e .from)) (g (e .to)) same)
+      own d h = subst (λ (x : Arrow). g (x .from) -ℤ g (x .to) ≡ pos 0) (sameArrow-eq e d h) (zero-of-equal (g (e .from)) (g (e .to)) same)
 
   module _ (ends : Ends m e A B) (s t : Point) (hs : Strictly f A B s) (ht : Strictly f A B t) where
     -- the ends' keys are not between those of s and t
@@ -153,11 +126,8 @@ module _ (f : Form) (m : Mesh) (ts : List Tri) (no-twice : Once (arrowsOf ts)) (
 
     high-out : between f A B s t B ≡ pos 0
     unfolding between
-    high-out = ap (λ b. one (not (behind f B s) && (b && lower A B B))) (not-past (ahead f B t) (ht .before-high)) ∙ go (behind f B s)
+    high-out = ap (λ b. one (not (behind f B s) && (b && lower A B B))) (lt-not (ht .before-high)) ∙ go (behind f B s)
       where
-        not-past : (z : ℤ) → z <ℤ pos 0 → ltZ (pos 0) z ≡ false
-        not-past z h = le-ltZ (pos 0) z (omega (arith, onℤ))
-
         go : (b : Bool) → one (not b && false) ≡ pos 0
         go true = refl
         go false = refl
@@ -173,14 +143,11 @@ module _ (f : Form) (m : Mesh) (ts : List Tri) (no-twice : Once (arrowsOf ts)) (
     beside-later : Earlier f s t → All (λ d. ClearArrow f m A B d × Free f m s d × Free f m t d) (others e (border ts)) →
         added (underArrow f m t) (others e (border ts)) ≡ added (underArrow f m s) (others e (border ts))
     beside-later early h =
-        same _ _ (sym (ap (λ k. added (underArrow f m t) (others e (border ts)) +ℤ k) (added-neg (underArrow f m s) (others e (border ts)))) ∙
+        equal-of-zero _ _ (sym (ap (λ k. added (underArrow f m t) (others e (border ts)) +ℤ k) (added-neg (underArrow f m s) (others e (border ts)))) ∙
         sym (added-sum (underArrow f m t) (λ d. negℤ (underArrow f m s d)) (others e (border ts))) ∙
         added-eq (λ d. underArrow f m t d -ℤ underArrow f m s d) (λ d. between f A B s t (at m (d .from)) -ℤ between f A B s t (at m (d .to)))
         (All-imp (λ d (c, p, q). moved-any f A B low-high s t hs ht early (at m (d .from)) (at m (d .to)) c (p .from-free) (p .to-free) (q .from-free) (q .to-free)) h) ∙
         others-balance (λ k. between f A B s t (at m k)) ends-out)
-      where
-        same : (a b : ℤ) → a -ℤ b ≡ pos 0 → a ≡ b
-        same a b h = omega (arith, onℤ, subℤ a b)
 
   -- at any two points of e
   pub beside : Ends m e A B → (s t : Point) → Strictly f A B s → Strictly f A B t → All (λ d. ClearArrow f m A B d × Free f m s d × Free f m t d) (others e (border ts)) →

@@ -1,23 +1,22 @@
 -- Arrows that run both ways cancel: over rows in which no arrow occurs twice, what changes its sign with the arrow has the same sum over all arrows as
 -- over the border ones; and what is lost along the border is gained along it. Assumes nothing.
-use mathlib.Core.Bool.{Bool, true, false, not, _&&_, _||_}
-use mathlib.Core.List.{List, [], _∷_, _++_}
+use mathlib.Core.Bool.{Bool, true, false, not}
+use mathlib.Core.List.{List}
 use mathlib.Core.Path.{_≡_, refl, sym, ap, ap₂, _∙_}
 use Prim.Native.Nat.{ℕ, _≤_}
 use native.Mathlib.Omega.{arith}
 use lib.Dec.{eqb}
 use lib.IntN.{ℤ, pos, negℤ, _+ℤ_, _-ℤ_}
-use Rattle.whole.specs.Diff.{onℤ, sumℤ, subℤ, negℤ-ud}
+use Rattle.whole.specs.Diff.{onℤ, sumℤ, subℤ}
 use Rattle.whole.specs.Ring.{K, _:+_, _:-_, ring3}
-use Rattle.lists.specs.Lists.{any, only, count, joined, All}
+use Rattle.lists.specs.Lists.{any, only, count, joined}
 use Rattle.lists.specs.ListsLaw.{both-ways, All-of}
 use Rattle.lists.specs.AnyLaw.{any-joined}
 use Rattle.meaning.specs.declared.Tri.{Tri}
-use Rattle.meaning.specs.Mesh.{Mesh, Arrow, arrow, arrows, sameArrow, holdsArrow}
-use Rattle.meaning.specs.Lawful.{Lawful}
+use Rattle.meaning.specs.Mesh.{Arrow, arrow, arrows, sameArrow, holdsArrow}
 use Rattle.laws.specs.Edges.{arrow-eq, eq-arrow}
-use Rattle.border.specs.Sums.{when, one, when-neg, own-negative, added, added-only, added-parts, added-any, added-swap, added-neg, added-joined, added-zero, added-count, added-sum}
-use Rattle.border.specs.Under.{difference-swapped}
+use Rattle.border.specs.Signs.{own-negative, difference-swapped}
+use Rattle.border.specs.Sums.{when, one, when-neg, added, added-only, added-parts, added-any, added-swap, added-neg, added-joined, added-zero, added-count, added-sum}
 
 -- the other way round
 abbrev pub reverse : Arrow → Arrow
@@ -39,7 +38,7 @@ alone es = only (λ e. not (any (sameArrow (reverse e)) es)) es
 abbrev pub border : List Tri → List Arrow
 border ts = only (λ e. not (any (holdsArrow (reverse e)) ts)) (arrowsOf ts)
 
-pub border-alone : (ts : List Tri) → border ts ≡ alone (arrowsOf ts)
+border-alone : (ts : List Tri) → border ts ≡ alone (arrowsOf ts)
 border-alone ts = sym (λ i. only (λ e. not (any-joined (sameArrow (reverse e)) arrows ts i)) (arrowsOf ts))
 
 reverse-back : (d e : Arrow) → sameArrow (reverse e) d ≡ true → sameArrow (reverse d) e ≡ true
@@ -76,7 +75,7 @@ module _ (φ : ℕ → ℕ → ℤ) (turned : (a b : ℕ) → φ b a ≡ negℤ 
           added-neg (λ d. when (any (sameArrow (reverse d)) es) (of d)) es ∙
           sym (ap negℤ (added-only of (λ e. any (sameArrow (reverse e)) es) es))
 
-  pub cancelled : (es : List Arrow) → Once es → added of es ≡ added of (alone es)
+  cancelled : (es : List Arrow) → Once es → added of es ≡ added of (alone es)
   cancelled es o =
       added-parts of (λ e. any (sameArrow (reverse e)) es) es ∙
       rw (both-cancel es o) (let k = added of (alone es) in omega (arith, onℤ, sumℤ (pos 0) k))

@@ -1,10 +1,9 @@
 -- The border of the hand meshes: clear where they are proper, and not where they are not. Assumes nothing.
 use mathlib.Core.Bool.{Bool, true, false}
-use mathlib.Core.List.{List, [], _∷_, map}
+use mathlib.Core.List.{[], _∷_, map}
 use mathlib.Core.Path.{_≡_, refl}
 use Rattle.meaning.specs.Mesh.{Mesh, at}
-use Rattle.meaning.specs.HandMeshes.{S, R, after4}
-use Rattle.meaning.specs.ProperMeshes.{Case, properCases, cracked, doubled, pinched, across, starred}
+use Rattle.meaning.specs.ProperMeshes.{properCases}
 use Rattle.border.specs.Under.{under}
 use Rattle.border.specs.Cancel.{border}
 use Rattle.border.specs.Clear.{meets, underMiddle, clear}

@@ -8,7 +8,7 @@ use native.Mathlib.Omega.{arith}
 use lib.IntN.{ℤ, pos, natAbs, negℤ, _+ℤ_, _-ℤ_, _*ℤ_}
 use lib.Signed.{ltZ, _≤ℤ_, _<ℤ_}
 use Rattle.whole.specs.Diff.{onℤ, sumℤ, subℤ, mulℤ, negℤ-ud}
-use Rattle.whole.specs.Bound.{abs-add, abs-sub, abs-mul}
+use Rattle.whole.specs.Bound.{abs-add, abs-sub}
 use Rattle.whole.specs.Order.{le-antisymm}
 use Rattle.whole.specs.Ring.{K, _:+_, _:-_, _:*_, ring8, ring9, ring10}
 use Rattle.whole.specs.Tests.{ltZ-true, ltZ-false, lt-ltZ, le-ltZ}
@@ -16,11 +16,13 @@ use Rattle.meaning.specs.declared.Place.{Place}
 use Rattle.meaning.specs.Mesh.{turn}
 use Rattle.meaning.specs.Lawful.{InRange}
 use Rattle.meaning.specs.Proper.{Shape, Point, Inside, left}
-use Rattle.laws.specs.Area.{Turn}
+use Rattle.laws.specs.Area.{Turn, turn-from, turn-to}
+use Rattle.border.specs.Signs.{lt-of-difference, difference-above}
+use Rattle.border.specs.Keys.{turn-small, key-small}
 use Rattle.border.specs.Sums.{one}
 use Rattle.border.specs.Under.{Left, key, keyAt, past, before, ahead, under, left-swapped}
 use Rattle.border.specs.Clear.{steep}
-use Rattle.border.specs.Nudge.{Upright, nudged, flat-from, flat-to, still-above, still-below, near-x, near-y, nudged-above, nudged-ahead, nudged-behind, nudged-inside}
+use Rattle.border.specs.Nudge.{Upright, nudged, still-above, still-below, nudged-above, nudged-ahead, nudged-behind, nudged-inside}
 
 -- 2^46 times P, and each corner once
 abbrev pub toward : Place → Shape → Point
@@ -67,14 +69,6 @@ ahead-toward A P t =
     ))
     (A .x) (A .y) (t .p .x) (t .p .y) (t .q .x) (t .q .y) (t .r .x) (t .r .y) (pos 8_388_608) tt)
 
-small-turn : {A B C : Place} → InRange A → InRange B → InRange C → natAbs (turn A B C) ≤ 8_796_093_022_208
-small-turn {A} {B} {C} a b c =
-    abs-sub ((B .x -ℤ A .x) *ℤ (C .y -ℤ A .y)) ((C .x -ℤ A .x) *ℤ (B .y -ℤ A .y))
-    (abs-mul (B .x -ℤ A .x) (C .y -ℤ A .y) (near-x a b) (near-y a c)) (abs-mul (C .x -ℤ A .x) (B .y -ℤ A .y) (near-x a c) (near-y a b))
-
-small-key : {A : Place} → InRange A → natAbs (key steep A) ≤ 8_796_094_070_784
-small-key {A} a = abs-add (pos 8_388_608 *ℤ A .x) (pos 1 *ℤ A .y) (abs-mul (pos 8_388_608) (A .x) {m = 8_388_608} (omega arith) (a .x-near)) (abs-mul (pos 1) (A .y) {m = 1} (omega arith) (a .y-near))
-
 -- three small numbers are small
 three-small : (a b c : ℤ) → natAbs a ≤ 17_592_188_141_568 → natAbs b ≤ 17_592_188_141_568 → natAbs c ≤ 17_592_188_141_568 → natAbs (a +ℤ (b +ℤ c)) < 70_368_744_177_664
 three-small a b c h i j = omega (arith, abs-add a (b +ℤ c) h (abs-add b c i j))
@@ -94,9 +88,9 @@ module _ (P : Place) {t : Shape} (u : Upright t) where
   module _ {A B : Place} (a : InRange A) (b : InRange B) where
     corners-small : natAbs (corners-left A B t) < 70_368_744_177_664
     corners-small =
-        let p = small-turn a b (u .p-in) in
-        let q = small-turn a b (u .q-in) in
-        let r = small-turn a b (u .r-in) in
+        let p = turn-small a b (u .p-in) in
+        let q = turn-small a b (u .q-in) in
+        let r = turn-small a b (u .r-in) in
         three-small (turn A B (t .p)) (turn A B (t .q)) (turn A B (t .r)) (omega arith) (omega arith) (omega arith)
 
     pub close-above : pos 0 <ℤ turn A B P → pos 0 <ℤ left A B (close P t)
@@ -106,20 +100,14 @@ module _ (P : Place) {t : Shape} (u : Upright t) where
     keys-small : natAbs (corners-key A t) < 70_368_744_177_664
     keys-small =
         three-small (key steep (t .p) -ℤ key steep A) (key steep (t .q) -ℤ key steep A) (key steep (t .r) -ℤ key steep A)
-        (abs-sub (key steep (t .p)) (key steep A) (small-key (u .p-in)) (small-key a))
-        (abs-sub (key steep (t .q)) (key steep A) (small-key (u .q-in)) (small-key a))
-        (abs-sub (key steep (t .r)) (key steep A) (small-key (u .r-in)) (small-key a))
+        (abs-sub (key steep (t .p)) (key steep A) (key-small (u .p-in)) (key-small a))
+        (abs-sub (key steep (t .q)) (key steep A) (key-small (u .q-in)) (key-small a))
+        (abs-sub (key steep (t .r)) (key steep A) (key-small (u .r-in)) (key-small a))
 
     close-ahead : key steep A <ℤ key steep P → (key steep A *ℤ close P t .W) <ℤ keyAt steep (close P t)
-    close-ahead h = more (keyAt steep (close P t)) (key steep A *ℤ close P t .W)
+    close-ahead h = lt-of-difference (keyAt steep (close P t)) (key steep A *ℤ close P t .W)
         (nudged-ahead A (toward P t) (subst (λ k. pos 0 <ℤ k) (sym (ahead-toward A P t))
-        (still-above 70_368_744_177_664 (corners-key A t) keys-small (key steep P -ℤ key steep A) (less (key steep P) (key steep A) h))))
-      where
-        less : (x y : ℤ) → y <ℤ x → pos 0 <ℤ (x -ℤ y)
-        less x y h = omega (arith, onℤ, subℤ x y)
-
-        more : (x y : ℤ) → pos 0 <ℤ (x -ℤ y) → y <ℤ x
-        more x y h = omega (arith, onℤ, subℤ x y)
+        (still-above 70_368_744_177_664 (corners-key A t) keys-small (key steep P -ℤ key steep A) (difference-above (key steep P) (key steep A) h))))
 
     close-behind : key steep P <ℤ key steep A → keyAt steep (close P t) <ℤ (key steep A *ℤ close P t .W)
     close-behind h = less (keyAt steep (close P t)) (key steep A *ℤ close P t .W)
@@ -169,9 +157,9 @@ module _ (P : Place) {t : Shape} (u : Upright t) where
   -- A TRIANGLE THAT P IS IN, OR ON A SIDE OF, HAS THE POINT INSIDE.
   pub close-inside : pos 0 ≤ℤ turn (t .p) (t .q) P → pos 0 ≤ℤ turn (t .q) (t .r) P → pos 0 ≤ℤ turn (t .r) (t .p) P → Inside t (close P t)
   close-inside h i j = nudged-inside u (toward P t) (record {
-    pq = above (t .p) (t .q) h (subst (λ k. pos 0 <ℤ k) (sym (third _ _ _ (flat-from (t .p) (t .q)) (flat-to (t .p) (t .q)))) (u .pqr));
-    qr = above (t .q) (t .r) i (subst (λ k. pos 0 <ℤ k) (sym (first _ _ _ (flat-from (t .q) (t .r)) (flat-to (t .q) (t .r)))) (u .qrp));
-    rp = above (t .r) (t .p) j (subst (λ k. pos 0 <ℤ k) (sym (second _ _ _ (flat-from (t .r) (t .p)) (flat-to (t .r) (t .p)))) (u .rpq));
+    pq = above (t .p) (t .q) h (subst (λ k. pos 0 <ℤ k) (sym (third _ _ _ (turn-from (t .p) (t .q)) (turn-to (t .p) (t .q)))) (u .pqr));
+    qr = above (t .q) (t .r) i (subst (λ k. pos 0 <ℤ k) (sym (first _ _ _ (turn-from (t .q) (t .r)) (turn-to (t .q) (t .r)))) (u .qrp));
+    rp = above (t .r) (t .p) j (subst (λ k. pos 0 <ℤ k) (sym (second _ _ _ (turn-from (t .r) (t .p)) (turn-to (t .r) (t .p)))) (u .rpq));
   })
     where
       more : (z e : ℤ) → pos 0 ≤ℤ z → pos 0 <ℤ e → pos 0 <ℤ (pos 70_368_744_177_664 *ℤ z +ℤ e)

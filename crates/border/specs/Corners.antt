@@ -6,43 +6,25 @@ use mathlib.Core.Logic.{_≢_}
 use mathlib.Core.Path.{_≡_, refl, sym, subst, subst⁻¹, ap, _∙_}
 use Prim.Native.Nat.{ℕ}
 use native.Mathlib.Omega.{arith}
-use lib.IntN.{ℤ, pos, negsuc, negℤ, _+ℤ_, _-ℤ_, _*ℤ_, *ℤ-comm}
+use lib.IntN.{ℤ, pos, negℤ, _+ℤ_, _-ℤ_, _*ℤ_, *ℤ-comm}
 use lib.Signed.{ltZ, _≤ℤ_, _<ℤ_}
-use Rattle.whole.specs.Diff.{onℤ, sumℤ, subℤ, mulℤ, negℤ-ud}
-use Rattle.whole.specs.Order.{scale-le}
-use Rattle.whole.specs.Ring.{Expr, K, _:+_, _:-_, _:*_, neg, combine₁, ring4, ring6, ring8}
+use Rattle.whole.specs.Diff.{onℤ, sumℤ, subℤ, mulℤ}
+use Rattle.whole.specs.Order.{scale-le, positive-times}
+use Rattle.whole.specs.Ring.{K, _:+_, _:-_, _:*_, neg, combine₁, ring8}
 use Rattle.whole.specs.Tests.{ltZ-true, ltZ-false}
 use Rattle.meaning.specs.declared.Place.{Place}
 use Rattle.meaning.specs.declared.Tri.{Tri}
 use Rattle.meaning.specs.Mesh.{Mesh, Arrow, tri, arrows, at, turn}
 use Rattle.meaning.specs.Asking.{HoldsPoint}
 use Rattle.meaning.specs.Proper.{Point, Inside, StrictlyInside, facing, shape}
-use Rattle.laws.specs.Area.{Turn, turn-cycle, turn-mirror}
+use Rattle.laws.specs.Area.{Turn}
 use Rattle.laws.specs.RowMean.{CornerOf, is-p, is-q, is-r}
-use Rattle.border.specs.Under.{times-above}
-use Rattle.border.specs.Nudge.{Upright, upright-round, apart-of-turn}
+use Rattle.proper.specs.OnLine.{along, len, Along, Facing, len-nonneg}
+use Rattle.border.specs.Places.{apart-of-turn, facing-from, facing-to}
+use Rattle.border.specs.Signs.{minus-above}
+use Rattle.border.specs.Nudge.{Upright, upright-round}
 
 -- ---- a place strictly inside an edge
-
-abbrev Facing : Expr → Expr → Expr → Expr → Expr → Expr → Expr
-Facing ax ay bx by px py = (ax :- px) :* (bx :- px) :+ (ay :- py) :* (by :- py)
-
--- (P − A)·(Q − A)
-abbrev dot : Place → Place → Place → ℤ
-dot A P Q = (P .x -ℤ A .x) *ℤ (Q .x -ℤ A .x) +ℤ (P .y -ℤ A .y) *ℤ (Q .y -ℤ A .y)
-
-abbrev Dot : Expr → Expr → Expr → Expr → Expr → Expr → Expr
-Dot ax ay px py qx qy = (px :- ax) :* (qx :- ax) :+ (py :- ay) :* (qy :- ay)
-
-pub facing-from : (A B : Place) → facing A B A ≡ pos 0
-facing-from A B = ring4 (λ a b c d. (Facing a b c d a b, K (pos 0))) (A .x) (A .y) (B .x) (B .y) tt
-
-pub facing-to : (A B : Place) → facing A B B ≡ pos 0
-facing-to A B = ring4 (λ a b c d. (Facing a b c d c d, K (pos 0))) (A .x) (A .y) (B .x) (B .y) tt
-
-square-above : (z : ℤ) → pos 0 ≤ℤ (z *ℤ z)
-square-above (pos a) = omega (arith, onℤ)
-square-above (negsuc a) = omega (arith, onℤ)
 
 -- a factor of what is above 0, the other not being below it
 factor : (x y : ℤ) → (x ≤ℤ pos 0 → pos 0 ≤ℤ y) → pos 0 <ℤ (x *ℤ y) → pos 0 <ℤ x
@@ -62,11 +44,11 @@ both-above a b d e h i =
 
 module _ (A B C P : Place) where
   -- with P on the line of A and B
-  product : turn A B P ≡ pos 0 → (turn B C P *ℤ turn C A P) *ℤ dot A B B ≡ (turn A B C *ℤ turn A B C) *ℤ negℤ (facing A B P)
-  product e = combine₁ (turn A B C *ℤ (dot A P C -ℤ dot A B C) +ℤ turn C A P *ℤ (dot A B C -ℤ dot A B B)) e
+  product : turn A B P ≡ pos 0 → (turn B C P *ℤ turn C A P) *ℤ len A B ≡ (turn A B C *ℤ turn A B C) *ℤ negℤ (facing A B P)
+  product e = combine₁ (turn A B C *ℤ (along A C P -ℤ along A C B) +ℤ turn C A P *ℤ (along A C B -ℤ len A B)) e
       (ring8 (λ a b c d e f x y. (
-        (Turn c d e f x y :* Turn e f a b x y) :* Dot a b c d c d :- (Turn a b c d e f :* Turn a b c d e f) :* neg (Facing a b c d x y),
-        (Turn a b c d e f :* (Dot a b x y e f :- Dot a b c d e f) :+ Turn e f a b x y :* (Dot a b c d e f :- Dot a b c d c d)) :* (Turn a b c d x y :- K (pos 0)),
+        (Turn c d e f x y :* Turn e f a b x y) :* Along a b c d c d :- (Turn a b c d e f :* Turn a b c d e f) :* neg (Facing a b c d x y),
+        (Turn a b c d e f :* (Along a b e f x y :- Along a b e f c d) :+ Turn e f a b x y :* (Along a b e f c d :- Along a b c d c d)) :* (Turn a b c d x y :- K (pos 0)),
       ))
       (A .x) (A .y) (B .x) (B .y) (C .x) (C .y) (P .x) (P .y) tt)
 
@@ -76,28 +58,12 @@ module _ (A B C P : Place) where
   pub beside : pos 0 <ℤ turn A B C → StrictlyInside A B P → (pos 0 <ℤ turn B C P) × (pos 0 <ℤ turn C A P)
   beside h s =
       both-above (turn B C P) (turn C A P) (turn A B C) (three-turns ∙ ap (λ k. turn A B C -ℤ k) (s .on-line) ∙ whole (turn A B C)) h
-      (factor (turn B C P *ℤ turn C A P) (dot A B B) (λ l. long)
+      (factor (turn B C P *ℤ turn C A P) (len A B) (λ l. len-nonneg A B)
       (subst (λ k. pos 0 <ℤ k) (sym (product (s .on-line)))
-      (times-above (turn A B C *ℤ turn A B C) (negℤ (facing A B P)) (times-above (turn A B C) (turn A B C) h h) (opposed (facing A B P) (s .between)))))
+      (positive-times (turn A B C *ℤ turn A B C) (negℤ (facing A B P)) (positive-times (turn A B C) (turn A B C) h h) (minus-above (facing A B P) (s .between)))))
     where
       whole : (k : ℤ) → k -ℤ pos 0 ≡ k
       whole k = omega (arith, onℤ, subℤ k (pos 0))
-
-      opposed : (k : ℤ) → k <ℤ pos 0 → pos 0 <ℤ negℤ k
-      opposed k h = omega (arith, onℤ, negℤ-ud k)
-
-      long : pos 0 ≤ℤ dot A B B
-      long =
-          let u = B .x -ℤ A .x in
-          let v = B .y -ℤ A .y in
-          omega (arith, onℤ, square-above u, square-above v, sumℤ (u *ℤ u) (v *ℤ v))
-
--- the edge the other way round
-pub inside-back : {A B P : Place} → StrictlyInside A B P → StrictlyInside B A P
-inside-back {A} {B} {P} s = record {
-  on-line = turn-cycle B A P ∙ turn-mirror A B P ∙ ap negℤ (s .on-line);
-  between = subst (λ k. k <ℤ pos 0) (ring6 (λ a b c d x y. (Facing a b c d x y, Facing c d a b x y)) (A .x) (A .y) (B .x) (B .y) (P .x) (P .y) tt) (s .between);
-}
 
 -- ---- the corners of a row in turn
 
@@ -129,20 +95,15 @@ turned-holds m P from-p h = h
 turned-holds m P from-q h = record { off-qr = h .off-pq; off-rp = h .off-qr; off-pq = h .off-rp }
 turned-holds m P from-r h = record { off-qr = h .off-rp; off-rp = h .off-pq; off-pq = h .off-qr }
 
+corner-round : {t : Tri} {k : ℕ} → CornerOf t k → CornerOf (tri (t .q) (t .r) (t .p)) k
+corner-round is-p = is-r
+corner-round is-q = is-p
+corner-round is-r = is-q
+
 pub turned-corner : {t : Tri} {x y z : ℕ} → Turned t x y z → (k : ℕ) → CornerOf t k → CornerOf (tri x y z) k
 turned-corner from-p k c = c
-turned-corner from-q k c = on c
-  where
-    on : {t : Tri} {j : ℕ} → CornerOf t j → CornerOf (tri (t .q) (t .r) (t .p)) j
-    on is-p = is-r
-    on is-q = is-p
-    on is-r = is-q
-turned-corner from-r k c = on c
-  where
-    on : {t : Tri} {j : ℕ} → CornerOf t j → CornerOf (tri (t .r) (t .p) (t .q)) j
-    on is-p = is-q
-    on is-q = is-r
-    on is-r = is-p
+turned-corner from-q k c = corner-round c
+turned-corner from-r k c = corner-round (corner-round c)
 
 -- ---- a node strictly inside an edge of a row
 

@@ -1,5 +1,5 @@
 -- How many rows a point is inside, from the border alone. Assumes nothing.
-use mathlib.Core.List.{List, [], _∷_}
+use mathlib.Core.List.{List}
 use mathlib.Core.Path.{_≡_, refl, sym, ap, ap₂, _∙_}
 use Prim.Native.Nat.{ℕ}
 use native.Mathlib.Omega.{arith}
@@ -28,11 +28,11 @@ depth m s = count (λ t. inside (shape m t) s) (m .tris)
 abbrev pub OffRows : Form → Mesh → Point → Type 0
 OffRows f m s = All (λ t. Off f (shape m t) s) (m .tris)
 
-drop-zero : (a b c : ℤ) → a +ℤ (b +ℤ (c +ℤ pos 0)) ≡ a +ℤ (b +ℤ c)
+pub drop-zero : (a b c : ℤ) → a +ℤ (b +ℤ (c +ℤ pos 0)) ≡ a +ℤ (b +ℤ c)
 drop-zero a b c = let e : c +ℤ pos 0 ≡ c = omega (arith, onℤ, sumℤ c (pos 0)) in ap (λ k. a +ℤ (b +ℤ k)) e
 
 -- for any rows of positive area: all their arrows under the point
-pub depth-all : (f : Form) (m : Mesh) (s : Point) → All (λ t. pos 0 <ℤ area (shape m t)) (m .tris) → OffRows f m s → pos (depth m s) ≡ added (underArrow f m s) (arrowsOf (m .tris))
+depth-all : (f : Form) (m : Mesh) (s : Point) → All (λ t. pos 0 <ℤ area (shape m t)) (m .tris) → OffRows f m s → pos (depth m s) ≡ added (underArrow f m s) (arrowsOf (m .tris))
 depth-all f m s h o = sym (added-count (λ t. inside (shape m t) s) (m .tris)) ∙ rows h o ∙ sym (added-joined (underArrow f m s) arrows (m .tris))
   where
     row-sum : (t : Tri) → pos 0 <ℤ area (shape m t) → Off f (shape m t) s → added (underArrow f m s) (arrows t) ≡ one (inside (shape m t) s)
@@ -50,7 +50,11 @@ pub depth-border : (f : Form) (m : Mesh) (s : Point) → All (λ t. pos 0 <ℤ a
     pos (depth m s) ≡ added (underArrow f m s) (border (m .tris))
 depth-border f m s h o off = depth-all f m s h off ∙ border-sum (λ a b. under f (at m a) (at m b) s) (λ a b. under-swapped f (at m a) (at m b) s) (m .tris) o
 
+-- the rows of a lawful mesh have areas above 0
+pub areas-above : (m : Mesh) → Lawful m → All (λ t. pos 0 <ℤ area (shape m t)) (m .tris)
+unfolding twiceArea
+areas-above m law = All-imp (λ t h. h) (law .positive)
+
 -- a lawful mesh is such
 pub depth-lawful : (f : Form) (m : Mesh) (s : Point) → Lawful m → OffRows f m s → pos (depth m s) ≡ added (underArrow f m s) (border (m .tris))
-unfolding twiceArea
-depth-lawful f m s law off = depth-border f m s (All-imp (λ t h. h) (law .positive)) (law .noTwice) off
+depth-lawful f m s law off = depth-border f m s (areas-above m law) (law .noTwice) off

@@ -4,15 +4,15 @@ use mathlib.Core.Path.{_≡_, sym, ap₂, subst, _∙_}
 use native.Mathlib.Omega.{arith}
 use lib.IntN.{ℤ, pos, negℤ, _+ℤ_, _-ℤ_, _*ℤ_}
 use lib.Signed.{_<ℤ_}
-use Rattle.whole.specs.Diff.{onℤ, subℤ, negℤ-ud}
-use Rattle.whole.specs.Order.{le-of-eq}
+use Rattle.whole.specs.Diff.{onℤ, subℤ}
+use Rattle.whole.specs.Order.{le-of-eq, positive-times}
 use Rattle.whole.specs.Ring.{K, _:+_, _:-_, _:*_, neg, ring2, ring8}
 use Rattle.meaning.specs.declared.Place.{Place}
 use Rattle.meaning.specs.Mesh.{turn}
 use Rattle.meaning.specs.Proper.{Point, Shape, Inside, Share, left}
 use Rattle.laws.specs.Area.{Turn, turn-cycle}
-use Rattle.border.specs.Under.{times-above}
-use Rattle.border.specs.Segment.{mix, corner, left-mix, left-corner, left-start, left-end}
+use Rattle.border.specs.Signs.{minus-above}
+use Rattle.border.specs.Segment.{mix, mix-line, corner, left-mix, left-corner, left-start, left-end}
 use Rattle.border.specs.Near.{Eventually, both-from, imply-from, near, tilt, left-stays, left-turns, weight-stays}
 use Rattle.border.specs.Meet.{Opposite, down, upwards, Cross}
 
@@ -26,28 +26,23 @@ module _ (A B C : Place) (area : pos 0 <ℤ turn A B C) (a b : ℤ) (a-above : p
   abbrev between : Point
   between = mix a (corner A) b (corner B)
 
-  on-line : left A B between ≡ pos 0
-  on-line =
-      left-mix A B a b (corner A) (corner B) ∙ ap₂ (λ x y. a *ℤ x +ℤ b *ℤ y) (left-start A B) (left-end A B) ∙
-      ring2 (λ a b. (a :* K (pos 0) :+ b :* K (pos 0), K (pos 0))) a b tt
-
   left-of-second : pos 0 <ℤ left B C between
   left-of-second =
       subst (λ k. pos 0 <ℤ k)
       (sym (left-mix B C a b (corner A) (corner B) ∙ ap₂ (λ x y. a *ℤ x +ℤ b *ℤ y) (left-corner B C A ∙ sym (turn-cycle A B C)) (left-start B C) ∙
-      ring2 (λ p b. (p :+ b :* K (pos 0), p)) (a *ℤ turn A B C) b tt)) (times-above a (turn A B C) a-above area)
+      ring2 (λ p b. (p :+ b :* K (pos 0), p)) (a *ℤ turn A B C) b tt)) (positive-times a (turn A B C) a-above area)
 
   left-of-third : pos 0 <ℤ left C A between
   left-of-third =
       subst (λ k. pos 0 <ℤ k)
       (sym (left-mix C A a b (corner A) (corner B) ∙ ap₂ (λ x y. a *ℤ x +ℤ b *ℤ y) (left-end C A) (left-corner C A B ∙ turn-cycle C A B) ∙
-      ring2 (λ a p. (a :* K (pos 0) :+ p, p)) a (b *ℤ turn A B C) tt)) (times-above b (turn A B C) b-above area)
+      ring2 (λ a p. (a :* K (pos 0) :+ p, p)) a (b *ℤ turn A B C) tt)) (positive-times b (turn A B C) b-above area)
 
   -- a little to the left it is inside
   inside-beside : (u v : ℤ) → pos 0 <ℤ tilt A B u v → Eventually (λ n. Inside (triangle A B C) (near between u v n))
   inside-beside u v h =
       imply-from (λ n (p, (q, r)). record { pq = p; qr = q; rp = r })
-      (both-from (left-turns between u v A B (le-of-eq (sym on-line)) h)
+      (both-from (left-turns between u v A B (le-of-eq (sym (mix-line A B a b))) h)
       (both-from (left-stays between u v B C left-of-second) (left-stays between u v C A left-of-third)))
 
 -- ---- two sides that cross: C right of A→B and D left, A left of C→D and B right
@@ -92,9 +87,6 @@ module _ (A B C D : Place) where
 
   module _ (Z Y : Place) (first : pos 0 <ℤ turn A B Z) (second : pos 0 <ℤ turn C D Y)
       (c-right : turn A B C <ℤ pos 0) (d-left : pos 0 <ℤ turn A B D) (a-left : pos 0 <ℤ turn C D A) (b-right : turn C D B <ℤ pos 0) where
-    negative : (z : ℤ) → z <ℤ pos 0 → pos 0 <ℤ negℤ z
-    negative z h = omega (arith, onℤ, negℤ-ud z)
-
     more : (a b : ℤ) → b <ℤ pos 0 → pos 0 <ℤ a → pos 0 <ℤ (a -ℤ b)
     more a b h i = omega (arith, onℤ, subℤ a b)
 
@@ -109,8 +101,8 @@ module _ (A B C D : Place) where
     near-both =
         both-from (weight-stays crossing along across weight)
         (both-from (subst (λ s. Eventually (λ n. Inside (triangle A B Z) (near s along across n))) crossing-too
-        (inside-beside A B Z first (negℤ (turn C D B)) (turn C D A) (negative (turn C D B) b-right) a-left along across (subst (λ k. pos 0 <ℤ k) (sym tilt-first) wide)))
-        (inside-beside C D Y second (turn A B D) (negℤ (turn A B C)) d-left (negative (turn A B C) c-right) along across (subst (λ k. pos 0 <ℤ k) (sym tilt-second) wide)))
+        (inside-beside A B Z first (negℤ (turn C D B)) (turn C D A) (minus-above (turn C D B) b-right) a-left along across (subst (λ k. pos 0 <ℤ k) (sym tilt-first) wide)))
+        (inside-beside C D Y second (turn A B D) (negℤ (turn A B C)) d-left (minus-above (turn A B C) c-right) along across (subst (λ k. pos 0 <ℤ k) (sym tilt-second) wide)))
 
     share : Share (triangle A B Z) (triangle C D Y)
     share =

@@ -1,41 +1,37 @@
--- Where no point is inside two rows and no border arrow begins on a border edge but in an end of it, no two nodes stand at one place and none lies strictly
--- inside an edge. Assumes nothing.
-use mathlib.Core.Bool.{Bool, true, false, not, _||_}
+-- Where no point off the rows is inside two of them and the border is quiet, no two nodes stand at one place and none lies strictly inside an edge.
+-- Assumes nothing.
+use mathlib.Core.Bool.{Bool, true, false, not}
 use mathlib.Core.List.{List·Memᴰ}
 use mathlib.Core.Logic.{_≢_, _⊎_, inl, inr}
-use mathlib.Core.Path.{_≡_, refl, sym, ap, ap₂, subst, _∙_}
+use mathlib.Core.Path.{_≡_, refl, sym, ap, subst, _∙_}
 use Prim.Native.Nat.{ℕ, zero, suc, _<_}
 use native.Mathlib.Omega.{arith}
 use lib.Dec.{eqb}
 use lib.IntN.{ℤ, pos, negℤ}
 use lib.ListN.{length}
-use lib.Signed.{ltZ, _≤ℤ_, _<ℤ_}
-use borrow.Author.Tests.{eqb-true, ne-eqb}
+use lib.Signed.{ltZ, _<ℤ_}
+use borrow.Author.Tests.{eqb-true}
 use Rattle.whole.specs.Diff.{onℤ, negℤ-ud}
-use Rattle.whole.specs.Order.{le-of-eq}
-use Rattle.whole.specs.Tests.{ltZ-true, ltZ-false, le-leZ}
+use Rattle.whole.specs.Tests.{ltZ-true, ltZ-false}
 use Rattle.lists.specs.Lists.{any, count}
-use Rattle.lists.specs.ListsLaw.{clash, and-both, any-row}
+use Rattle.lists.specs.ListsLaw.{clash, any-row}
 use Rattle.lists.specs.MembersLaw.{only-in, only-out, count-some, joined-in}
 use Rattle.lists.specs.PartsLaw.{in-joined}
 use Rattle.meaning.specs.declared.Tri.{Tri}
-use Rattle.meaning.specs.Mesh.{Mesh, Arrow, tri, arrows, sameArrow, holdsNode, holdsArrow, at, turn}
+use Rattle.meaning.specs.Mesh.{Mesh, Arrow, tri, arrows, sameArrow, holdsNode, holdsArrow, at}
 use Rattle.meaning.specs.Lawful.{Lawful}
 use Rattle.meaning.specs.Asking.{HoldsPoint}
-use Rattle.meaning.specs.Proper.{StrictlyInside, Crowded, at-one-place, inside-edge, facing, left, shape}
-use Rattle.pairs.specs.Pair.{onSide}
+use Rattle.meaning.specs.Proper.{StrictlyInside, left, shape}
 use Rattle.laws.specs.Edges.{sameArrow-eq}
-use Rattle.laws.specs.RowMean.{CornerOf, is-p, is-q, corner-of}
+use Rattle.laws.specs.RowMean.{corner-of}
+use Rattle.border.specs.Quiet.{Quiet}
+use Rattle.border.specs.Places.{inside-back, apart-of-turn}
 use Rattle.border.specs.Under.{left-swapped}
 use Rattle.border.specs.Cancel.{reverse, arrowsOf, border}
-use Rattle.border.specs.Nudge.{Upright, Single, not-both, row-upright, apart-of-turn, nudged-off, flat-from}
+use Rattle.border.specs.Nudge.{Upright, Single, not-both, row-upright, nudged-off}
 use Rattle.border.specs.Close.{toward, close, toward-weight, close-above}
 use Rattle.border.specs.Fan.{Inner, row-inside, row-at, row-holds-node, fan-covers}
-use Rattle.border.specs.Corners.{Turned, turned-arrow, turned-upright, turned-inside, turned-holds, turned-corner, facing-from, beside, inside-back, inside-no-corner, inside-held, one-corner}
-
--- no border arrow begins on a border edge but in an end of it
-abbrev pub Untouched : Mesh → Type 0
-Untouched m = (e g : Arrow) → List·Memᴰ e (border (m .tris)) → List·Memᴰ g (border (m .tris)) → onSide (at m) e (g .from) ≡ false
+use Rattle.border.specs.Corners.{Turned, turned-arrow, turned-upright, turned-inside, turned-holds, turned-corner, beside, inside-no-corner, inside-held, one-corner}
 
 -- ---- border arrows
 
@@ -72,12 +68,6 @@ other-side m {t} {e} i j = go (any (holdsArrow (reverse e)) (m .tris)) refl
         let (d, l, g) = any-row (sameArrow (reverse e)) (arrows u) f in
         turned-round u k (subst (λ d. List·Memᴰ d (arrows u)) (sym (sameArrow-eq (reverse e) d g)) l)
     go false h = on-border (only-in (λ e. not (any (holdsArrow (reverse e)) (m .tris))) (joined-in arrows i j) (ap not h))
-
--- a node on the edge, as `onSide` says
-pub side-yes : (m : Mesh) (e : Arrow) (k : ℕ) → k ≢ e .from → k ≢ e .to → turn (at m (e .from)) (at m (e .to)) (at m k) ≡ pos 0 →
-    facing (at m (e .from)) (at m (e .to)) (at m k) ≤ℤ pos 0 → onSide (at m) e k ≡ true
-side-yes m e k f g t h =
-    and-both (and-both (ap₂ (λ a b. not (a || b)) (ne-eqb k (e .from) f) (ne-eqb k (e .to) g)) (and-both (le-leZ _ _ (le-of-eq t)) (le-leZ _ _ (le-of-eq (sym t))))) (le-leZ _ _ h)
 
 -- ---- crowded nodes
 
@@ -133,20 +123,12 @@ module _ (m : Mesh) (law : Lawful m) (most : Single m) where
               let l = ltZ-false (pos 0) b i in
               n (omega (arith, onℤ, negℤ-ud a))
 
-  module _ (untouched : Untouched m) where
+  module _ (quiet : Quiet m) where
     -- two border nodes at one place
     leavers-apart : (j k : ℕ) → Leaves m j → Leaves m k → at m j ≡ at m k → j ≢ k → ⊥
     leavers-apart j k a b e n =
-        let d = a .out in
-        let (t, i, l) = border-row m (a .on-border) in
-        let (z, T) = turned-arrow l in
-        let u = turned-upright m T (row-upright m law i) in
-        let same : at m k ≡ at m (d .from) = sym e ∙ ap (at m) (sym (a .from-k)) in
-        let yes = side-yes m d k (λ w. n (sym (a .from-k) ∙ sym w))
-        (λ w. apart-of-turn (at m (d .from)) (at m (d .to)) (at m z) (u .pqr) (sym same ∙ ap (at m) w))
-        (ap (turn (at m (d .from)) (at m (d .to))) same ∙ flat-from (at m (d .from)) (at m (d .to)))
-        (le-of-eq (ap (facing (at m (d .from)) (at m (d .to))) same ∙ facing-from (at m (d .from)) (at m (d .to)))) in
-        clash (sym yes ∙ ap (onSide (at m) d) (sym (b .from-k)) ∙ untouched d (b .out) (a .on-border) (b .on-border))
+        let same = quiet .no-touch (a .out) (b .out) (a .on-border) (b .on-border) .at-start (ap (at m) (b .from-k) ∙ sym e ∙ ap (at m) (sym (a .from-k))) in
+        n (sym (a .from-k) ∙ sym same ∙ b .from-k)
 
     -- not 11: "two nodes stand at one place"
     pub place-alone : (j k : ℕ) → j < k → k < length (m .nodes) → at m j ≢ at m k
@@ -174,13 +156,5 @@ module _ (m : Mesh) (law : Lawful m) (most : Single m) where
         go (inl b) o =
             let named = names-inner k h b i (turned-holds m (at m k) turned (inside-held m u (at m k) s)) in
             inside-no-corner m u s (turned-corner turned k (corner-of t k named))
-        go (inr b) (on-border c) =
-            let yes = side-yes m e k (λ w. inside-no-corner m u s (subst (CornerOf row) (sym w) is-p))
-            (λ w. inside-no-corner m u s (subst (CornerOf row) (sym w) is-q)) (s .on-line) (omega (arith, onℤ, s .between)) in
-            clash (sym yes ∙ ap (onSide (at m) e) (sym (b .from-k)) ∙ untouched e (b .out) c (b .on-border))
+        go (inr b) (on-border c) = quiet .no-touch e (b .out) c (b .on-border) .not-inside (subst (λ z. StrictlyInside (at m (e .from)) (at m (e .to)) (at m z)) (sym (b .from-k)) s)
         go (inr b) (turned-round v l c) = inner-edge i turned l (turned-arrow c .1) k h s
-
-    -- NOT 11: NO NODE IS CROWDED.
-    pub crowded-none : (k : ℕ) → k < length (m .nodes) → ¬ Crowded m k
-    crowded-none k h (at-one-place j l e) = place-alone j k l h e
-    crowded-none k h (inside-edge t i e j s) = edge-alone k h i j s

@@ -11,27 +11,26 @@ use lib.ListN.{length}
 use lib.Signed.{_≤ℤ_, _<ℤ_}
 use Rattle.whole.specs.Diff.{onℤ, sumℤ}
 use Rattle.whole.specs.Order.{le-of-eq}
-use Rattle.whole.specs.Tests.{le-leZ}
 use Rattle.lists.specs.Lists.{All}
-use Rattle.lists.specs.ListsLaw.{and-both, All-at, All-of, All-imp, yes-all}
+use Rattle.lists.specs.ListsLaw.{and-both, All-at, All-of, yes-all}
 use Rattle.lists.specs.MembersLaw.{none-any}
 use Rattle.meaning.specs.declared.Tri.{Tri}
-use Rattle.meaning.specs.Mesh.{Mesh, Arrow, tri, arrows, at, turn, twiceArea}
+use Rattle.meaning.specs.Mesh.{Mesh, Arrow, tri, arrows, at, turn}
 use Rattle.meaning.specs.Lawful.{Named, Lawful}
-use Rattle.meaning.specs.Good.{sameZ}
-use Rattle.meaning.specs.Proper.{Proper, area, shape}
+use Rattle.meaning.specs.Proper.{Proper}
 use Rattle.laws.specs.RowMean.{CornerOf, is-p, is-q, is-r}
+use Rattle.laws.specs.Area.{turn-from, turn-to}
+use Rattle.laws.specs.Star.{eq-sameZ}
 use Rattle.border.specs.Sums.{one}
 use Rattle.border.specs.Cancel.{border}
-use Rattle.border.specs.Count.{underArrow}
+use Rattle.border.specs.Count.{underArrow, areas-above}
 use Rattle.border.specs.Beside.{border-split}
-use Rattle.border.specs.Nearest.{middle, Bare, othersAt}
-use Rattle.border.specs.OneNumber.{depth-one, all-bare, whole-none}
+use Rattle.border.specs.Nearest.{middleOf, Bare, othersAt}
+use Rattle.border.specs.Bare.{depth-one, all-bare}
 use Rattle.border.specs.Meet.{Opposite, down, upwards, Cross}
-use Rattle.border.specs.Quiet.{NoTouch, Quiet}
-use Rattle.border.specs.Keys.{byX-separates, all-lone}
+use Rattle.border.specs.Quiet.{NoTouch, Quiet, all-lone, border-slanted}
 use Rattle.border.specs.Clear.{steep, meets, underMiddle, rightFree, clear}
-use Rattle.border.specs.Nudge.{Single, not-both, row-upright, nudged-inside, flat-from, flat-to}
+use Rattle.border.specs.Nudge.{Single, not-both, row-upright, nudged-inside}
 use Rattle.border.specs.Corners.{Turned, from-p, from-q, from-r, turned-arrow, turned-upright, turned-inside, turned-corner}
 use Rattle.border.specs.Crowd.{border-row}
 use Rattle.border.specs.ClearLaw.{own-middle, falls}
@@ -53,8 +52,8 @@ corner-below h is-r = h .r-below
 
 -- no corner of a triangle is right of its side
 corner-not-right : (m : Mesh) {x y z k : ℕ} → pos 0 <ℤ turn (at m x) (at m y) (at m z) → CornerOf (tri x y z) k → pos 0 ≤ℤ turn (at m x) (at m y) (at m k)
-corner-not-right m {x} {y} h is-p = le-of-eq (sym (flat-from (at m x) (at m y)))
-corner-not-right m {x} {y} h is-q = le-of-eq (sym (flat-to (at m x) (at m y)))
+corner-not-right m {x} {y} h is-p = le-of-eq (sym (turn-from (at m x) (at m y)))
+corner-not-right m {x} {y} h is-q = le-of-eq (sym (turn-to (at m x) (at m y)))
 corner-not-right m h is-r = omega (arith, onℤ)
 
 module _ (m : Mesh) (law : Lawful m) (proper : Proper m) where
@@ -125,34 +124,28 @@ module _ (m : Mesh) (law : Lawful m) (proper : Proper m) where
 
     met-not : meets (at m) e g ≡ false
     unfolding meets
-    met-not = ap₂ _||_ (not-on-side m e (g .from) start-free) (not-crossing (at m (e .from)) (at m (e .to)) (at m (g .from)) (at m (g .to)) uncrossed)
+    met-not = ap₂ _||_ (not-on-side steep m e (g .from) (All-at (border-slanted m law) i) start-free) (not-crossing (at m (e .from)) (at m (e .to)) (at m (g .from)) (at m (g .to)) uncrossed)
 
   quiet : Quiet m
-  quiet = record { no-touch = λ e g i j n. start-free i j; no-cross = λ e g i j n. uncrossed i j }
+  quiet = record { no-touch = λ e g i j. start-free i j; no-cross = λ e g i j. uncrossed i j }
 
   -- ---- and no row lies just right of one
 
-  positive : All (λ t. pos 0 <ℤ area (shape m t)) (m .tris)
-  unfolding twiceArea
-  positive = All-imp (λ t h. h) (law .positive)
-
   bare : All (Bare steep m (m .tris)) (border (m .tris))
   bare =
-      let sep = byX-separates m law in
-      let lone = all-lone steep m sep positive (law .noTwice) quiet in
-      all-bare steep (sep .across-not) m positive (law .noTwice) lone (whole-none steep (sep .across-not) m positive (law .noTwice) lone (proper .none-shared))
+      all-bare steep one-across m (areas-above m law) (law .noTwice) (all-lone m law quiet) (proper .none-shared)
+    where
+      one-across : steep .across ≢ pos 0
+      one-across e = omega (arith, onℤ)
 
   right-free : {e : Arrow} → List·Memᴰ e (border (m .tris)) → rightFree (at m) (border (m .tris)) e ≡ true
   unfolding underMiddle
   right-free {e} i =
       let own = All-at bare i in
-      same-of (border-split (m .tris) (law .noTwice) e i (underArrow steep m (middle m e)) ∙
-      rest (underArrow steep m (middle m e) e) (othersAt steep m (m .tris) e) (own-middle steep (at m (e .from)) (at m (e .to))) ∙
+      eq-sameZ _ _ (border-split (m .tris) (law .noTwice) e i (underArrow steep m (middleOf m e)) ∙
+      rest (underArrow steep m (middleOf m e) e) (othersAt steep m (m .tris) e) (own-middle steep (at m (e .from)) (at m (e .to))) ∙
       own .nothing ∙ ap one (sym (falls steep m e (own .lone .slanted))))
     where
-      same-of : {a b : ℤ} → a ≡ b → sameZ a b ≡ true
-      same-of {a} {b} e = and-both (le-leZ a b (le-of-eq e)) (le-leZ b a (le-of-eq (sym e)))
-
       rest : (a b : ℤ) → a ≡ pos 0 → a +ℤ b ≡ b
       rest a b z = omega (arith, onℤ, sumℤ a b)
 

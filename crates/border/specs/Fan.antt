@@ -22,12 +22,14 @@ use Rattle.meaning.specs.Asking.{HoldsPoint}
 use Rattle.meaning.specs.Proper.{Shape, Point, Inside, area, shape}
 use Rattle.laws.specs.Area.{turn-cycle}
 use Rattle.laws.specs.RowMean.{corner-of, corner-holds}
+use Rattle.border.specs.Keys.{place-range, steep-apart}
+use Rattle.border.specs.Places.{apart-of-turn}
 use Rattle.border.specs.Sums.{when, one, when-neg, added, added-eq, added-sum, added-zero, added-count, added-joined}
 use Rattle.border.specs.Under.{Off, key, under, inside, inside-yes, yes-inside, under-swapped, one-triangle}
 use Rattle.border.specs.Cancel.{border, border-sum, leave-arrive}
-use Rattle.border.specs.Count.{OffRows, underArrow}
+use Rattle.border.specs.Count.{OffRows, underArrow, drop-zero}
 use Rattle.border.specs.Clear.{steep}
-use Rattle.border.specs.Nudge.{Upright, steep-apart, apart-of-turn, place-range, row-upright, nudged-rows}
+use Rattle.border.specs.Nudge.{Upright, row-upright, nudged-rows}
 use Rattle.border.specs.Close.{toward, close, toward-weight, close-under, close-inside}
 
 -- no border arrow leaves node k
@@ -59,8 +61,8 @@ abbrev AsAt : Mesh → ℕ → Point → Arrow → Type 0
 AsAt m k s e = ends k (e .from) (e .to) ≡ false → underArrow steep m s e ≡ rising m k e
 
 -- the point is close to k, as far as the arrows opposite it tell
-abbrev Near : Mesh → ℕ → Point → Type 0
-Near m k s = All (λ t. holdsNode k t ≡ true → All (AsAt m k s) (arrows t)) (m .tris)
+abbrev CloseTo : Mesh → ℕ → Point → Type 0
+CloseTo m k s = All (λ t. holdsNode k t ≡ true → All (AsAt m k s) (arrows t)) (m .tris)
 
 -- the rows at k that the point is inside
 abbrev fan : Mesh → ℕ → Point → ℕ
@@ -90,9 +92,6 @@ module _ (m : Mesh) (k : ℕ) (s : Point) where
   unfolding through
   not-through a b e f = ap (λ c. when c (under steep (at m a) (at m b) s)) (ap₂ _||_ e f)
 
-  drop-zero : (a b c : ℤ) → a +ℤ (b +ℤ c) ≡ a +ℤ (b +ℤ (c +ℤ pos 0))
-  drop-zero a b c = let e : c ≡ c +ℤ pos 0 = omega (arith, onℤ, sumℤ c (pos 0)) in ap (λ k. a +ℤ (b +ℤ k)) e
-
   -- one row: what its arrows through k come to, and the arrow opposite
   row-parts : (t : Tri) → pos 0 <ℤ area (shape m t) → Off steep (shape m t) s → (holdsNode k t ≡ true → All (AsAt m k s) (arrows t)) →
       one (holdsNode k t && inside (shape m t) s) ≡ added throughArrow (arrows t) +ℤ when (holdsNode k t) (added (opposite m k) (arrows t))
@@ -104,7 +103,7 @@ module _ (m : Mesh) (k : ℕ) (s : Point) where
       go : (b : Bool) → holdsNode k t ≡ b → one (b && inside (shape m t) s) ≡ added throughArrow (arrows t) +ℤ when b (added (opposite m k) (arrows t))
       go true e =
           sym (one-triangle steep (shape m t) s h o) ∙
-          drop-zero (under steep (at m (t .p)) (at m (t .q)) s) (under steep (at m (t .q)) (at m (t .r)) s) (under steep (at m (t .r)) (at m (t .p)) s) ∙
+          sym (drop-zero (under steep (at m (t .p)) (at m (t .q)) s) (under steep (at m (t .q)) (at m (t .r)) s) (under steep (at m (t .r)) (at m (t .p)) s)) ∙
           added-eq (underArrow steep m s) (λ e. throughArrow e +ℤ opposite m k e) (All-imp arrow-parts (near e)) ∙
           sym total
       go false e =
@@ -132,7 +131,7 @@ module _ (m : Mesh) (law : Lawful m) (k : ℕ) (inner : Inner m k) where
       arrives = count-none (λ (e : Arrow). eqb (e .to) k) (sym (leave-arrive k (m .tris) (law .noTwice)) ∙ inner)
 
   -- so many of them a close point is inside, whatever point it is
-  fan-number : (s : Point) → OffRows steep m s → Near m k s → pos (fan m k s) ≡ around m k
+  fan-number : (s : Point) → OffRows steep m s → CloseTo m k s → pos (fan m k s) ≡ around m k
   unfolding twiceArea
   fan-number s off near =
       sym (added-count (λ t. holdsNode k t && inside (shape m t) s) (m .tris)) ∙
@@ -164,19 +163,19 @@ middle-left true false false h e = clash e
 middle-left false false true h e = clash e
 middle-left false false false h e = h
 
-module _ (m : Mesh) (law : Lawful m) (k : ℕ) (below : k < length (m .nodes)) {t : Shape} (u : Upright t) where
+module _ (m : Mesh) (law : Lawful m) (k : ℕ) {t : Shape} (u : Upright t) where
   -- the arrow x→y of a row whose third corner is k
   side-near : (x y z : ℕ) → InRange (at m x) → InRange (at m y) → pos 0 <ℤ turn (at m x) (at m y) (at m z) → z ≡ k →
       underArrow steep m (close (at m k) t) (arrow x y) ≡ rising m k (arrow x y)
   side-near x y z a b h e =
       let here : pos 0 <ℤ turn (at m x) (at m y) (at m k) = subst (λ w. pos 0 <ℤ turn (at m x) (at m y) (at m w)) e h in
-      let in-k = place-range m law k below in
+      let in-k = place-range m law k in
       close-under (at m k) u a b
       (λ w. apart-of-turn (at m k) (at m x) (at m y) (subst (λ w. pos 0 <ℤ w) (sym (turn-cycle (at m k) (at m x) (at m y))) here) (sym (steep-apart a in-k w)))
       (λ w. apart-of-turn (at m y) (at m k) (at m x) (subst (λ w. pos 0 <ℤ w) (turn-cycle (at m x) (at m y) (at m k)) here) (steep-apart b in-k w))
       here
 
-  close-near : Near m k (close (at m k) t)
+  close-near : CloseTo m k (close (at m k) t)
   close-near = All-of (m .tris) (λ v i holds.
       let r = row-upright m law i in
       cons (λ e. side-near (v .p) (v .q) (v .r) (r .p-in) (r .q-in) (r .pqr) (eqb-true (v .r) k (last-left (eqb (v .p) k) (eqb (v .q) k) (eqb (v .r) k) holds e)))
@@ -204,8 +203,8 @@ fan-covers m law k h inner {t} u =
     let r = row-upright m law i in
     let P = at m k in
     let s = close P (shape m v) in
-    let own = fan-number m law k inner s (nudged-rows m law (toward P (shape m v)) (toward-weight P (shape m v))) (close-near m law k h r) in
-    let same = fan-number m law k inner (close P t) (nudged-rows m law (toward P t) (toward-weight P t)) (close-near m law k h u) in
+    let own = fan-number m law k inner s (nudged-rows m law (toward P (shape m v)) (toward-weight P (shape m v))) (close-near m law k r) in
+    let same = fan-number m law k inner (close P t) (nudged-rows m law (toward P t) (toward-weight P t)) (close-near m law k u) in
     let test = and-both e (yes-inside (shape m v) s (row-inside m law P i (row-holds-node m law k i e))) in
     let some = any-count (λ w. holdsNode k w && inside (shape m w) s) (m .tris) (any-at (λ w. holdsNode k w && inside (shape m w) s) test i) in
     let (w, j, f) = count-some (λ w. holdsNode k w && inside (shape m w) (close P t)) (m .tris) (equal-some (fan m k s) (fan m k (close P t)) (own ∙ sym same) some) in

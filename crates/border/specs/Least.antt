@@ -1,7 +1,7 @@
 -- The member of a list with the least quotient, among those that pass a test. Assumes nothing.
 use mathlib.Core.Bool.{Bool, true, false}
-use mathlib.Core.List.{List, [], _∷_, List·Memᴰ, List·Memᴰ·head, List·Memᴰ·tail}
-use mathlib.Core.Path.{_≡_, refl, sym, subst, _∙_}
+use mathlib.Core.List.{List, _∷_, List·Memᴰ, List·Memᴰ·head, List·Memᴰ·tail}
+use mathlib.Core.Path.{_≡_, refl, sym, _∙_}
 use native.Mathlib.Omega.{arith}
 use lib.IntN.{ℤ, pos, _*ℤ_}
 use lib.Signed.{leZ, _≤ℤ_, _<ℤ_}
@@ -11,6 +11,7 @@ use Rattle.whole.specs.Tests.{leZ-true, leZ-false}
 use Rattle.whole.specs.Order.{scale-le, unscale-le}
 use Rattle.lists.specs.Lists.{All, nil, cons}
 use Rattle.lists.specs.ListsLaw.{clash, All-both, All-imp, All-at}
+use Rattle.border.specs.Signs.{lt-le}
 
 module _ {A : Type 0} (num den : A → ℤ) (passes : A → Bool) where
   -- num x over den x is at most num y over den y
@@ -19,17 +20,14 @@ module _ {A : Type 0} (num den : A → ℤ) (passes : A → Bool) where
 
   pub data Least (l : List A) : Type 0 where
     none-passes : All (λ y. passes y ≡ false) l → Least l
-    least : (x : A) → List·Memᴰ x l → passes x ≡ true → All (λ y. passes y ≡ true → (num x *ℤ den y) ≤ℤ (num y *ℤ den x)) l → Least l
+    least : (x : A) → List·Memᴰ x l → passes x ≡ true → All (λ y. passes y ≡ true → AtMost x y) l → Least l
 
   at-most-trans : (x y z : A) → pos 0 <ℤ den x → pos 0 <ℤ den y → pos 0 <ℤ den z → AtMost x y → AtMost y z → AtMost x z
   at-most-trans x y z hx hy hz p q =
       unscale-le (den y) (num x *ℤ den z) (num z *ℤ den x) hy
-      (chain _ _ _ _ _ (swap (num x) (den z) (den y)) (scale-le (den z) (num x *ℤ den y) (num y *ℤ den x) (weaker (den z) hz) p) (swap (num y) (den x) (den z))
-      (scale-le (den x) (num y *ℤ den z) (num z *ℤ den y) (weaker (den x) hx) q) (swap (num z) (den y) (den x)))
+      (chain _ _ _ _ _ (swap (num x) (den z) (den y)) (scale-le (den z) (num x *ℤ den y) (num y *ℤ den x) (lt-le hz) p) (swap (num y) (den x) (den z))
+      (scale-le (den x) (num y *ℤ den z) (num z *ℤ den y) (lt-le hx) q) (swap (num z) (den y) (den x)))
     where
-      weaker : (k : ℤ) → pos 0 <ℤ k → pos 0 ≤ℤ k
-      weaker k h = omega (arith, onℤ)
-
       swap : (a b c : ℤ) → a *ℤ b *ℤ c ≡ a *ℤ c *ℤ b
       swap a b c = ring3 (λ a b c. (a :* b :* c, a :* c :* b)) a b c tt
 
@@ -46,13 +44,10 @@ module _ {A : Type 0} (num den : A → ℤ) (passes : A → Bool) where
   find-least nil = none-passes nil
   find-least (cons {x = x} {xs = xs} hx hs) = go (passes x) refl (find-least hs)
     where
-      weaker : {a b : ℤ} → a <ℤ b → a ≤ℤ b
-      weaker h = omega (arith, onℤ)
-
       choose : (y : A) → List·Memᴰ y xs → passes y ≡ true → All (λ z. passes z ≡ true → AtMost y z) xs → passes x ≡ true → (b : Bool) → leZ (num y *ℤ den x) (num x *ℤ den y) ≡ b → Least (x ∷ xs)
       choose y i p h q true e = least y (List·Memᴰ·tail i) p (cons (λ _. leZ-true (num y *ℤ den x) (num x *ℤ den y) e) h)
       choose y i p h q false e =
-          let l : AtMost x y = weaker (leZ-false (num y *ℤ den x) (num x *ℤ den y) e) in
+          let l : AtMost x y = lt-le (leZ-false (num y *ℤ den x) (num x *ℤ den y) e) in
           least x (List·Memᴰ·head refl) q (cons (λ _. at-most-own x) (All-imp (λ z (k, g) r. at-most-trans x y z hx (All-at hs i) g l (k r)) (All-both h hs)))
 
       go : (b : Bool) → passes x ≡ b → Least xs → Least (x ∷ xs)

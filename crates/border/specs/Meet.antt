@@ -1,57 +1,45 @@
--- When two segments do not meet, by signs: no end strictly inside the other, no crossing, not the same ends. Assumes nothing.
+-- When two segments do not meet, by signs: no end strictly inside the other, no crossing, not the same ends. Places on a line, by their keys. Assumes nothing.
 use mathlib.Core.Bool.{Bool, true, false}
 use mathlib.Core.Logic.{_≢_, _⊎_, inl, inr}
 use mathlib.Core.Path.{_≡_, refl, sym, ap, ap₂, subst, _∙_}
-use Prim.Native.Nat.{ℕ, zero, suc}
 use native.Mathlib.Omega.{arith}
-use lib.IntN.{ℤ, pos, negsuc, negℤ, _+ℤ_, _-ℤ_, _*ℤ_}
+use lib.IntN.{ℤ, pos, negℤ, _+ℤ_, _-ℤ_, _*ℤ_}
 use lib.Signed.{ltZ, _≤ℤ_, _<ℤ_}
-use Rattle.whole.specs.Diff.{onℤ, sumℤ, subℤ, negℤ-ud}
-use Rattle.whole.specs.Ring.{Expr, K, _:+_, _:-_, _:*_, neg, ring2, ring3, ring4, ring6, ring8, combine₁, combine₂}
-use Rattle.whole.specs.Tests.{ltZ-true, ltZ-false, lt-ltZ, le-ltZ}
-use Rattle.whole.specs.Order.{le-antisymm}
+use Rattle.whole.specs.Diff.{onℤ, sumℤ, negℤ-ud}
+use Rattle.whole.specs.Ring.{Expr, K, _:+_, _:-_, _:*_, neg, ring2, ring3, ring4, ring8, combine₁, combine₂}
+use Rattle.whole.specs.Tests.{ltZ-true, ltZ-false}
+use Rattle.whole.specs.Order.{lt-or-le, le-antisymm, positive-times, nonneg-square, lt-not-le}
 use Rattle.meaning.specs.declared.Place.{Place}
 use Rattle.meaning.specs.Mesh.{turn}
 use Rattle.meaning.specs.Proper.{Point, StrictlyInside, facing, left}
-use Rattle.laws.specs.Area.{turn-cycle, turn-mirror}
-use Rattle.border.specs.Under.{Form, key, keyAt, ahead, Left, times-above, below-zero, sign-product}
-use Rattle.border.specs.Segment.{Ahead, Strictly, Within, Apart, corner, spot, rise, left-corner, left-start, left-end, left-mix, left-spot}
-use Rattle.border.specs.Along.{unscale-above}
+use Rattle.laws.specs.Area.{turn-cycle, turn-mirror, turn-back}
+use Rattle.proper.specs.OnLine.{len}
+use Rattle.border.specs.Places.{place-eq, inside-back}
+use Rattle.border.specs.Signs.{zero-swapped, minus-above, zero-of-minus, unscale-above, zero-of-equal, above-not, below-of-minus, equal-of-zero, sum-above, cancel, lt-le, minus-below, difference-above, zero-or-not, sign-product}
+use Rattle.border.specs.Under.{Form, key, keyAt, ahead}
+use Rattle.border.specs.Segment.{Strictly, Within, Apart, corner, rise, left-corner, left-start, left-end, left-mix, left-spot, rise-vector}
 
 -- ---- products
 
--- what is not 0 cancels
-pub cancel : (a x : ℤ) → a ≢ pos 0 → a *ℤ x ≡ pos 0 → x ≡ pos 0
-cancel a (pos zero) n e = refl
-cancel a (pos (suc x)) n e = absurd (sign-product a (pos (suc x)) n (λ g. omega (arith, onℤ)) .1 e)
-cancel a (negsuc x) n e = absurd (sign-product a (negsuc x) n (λ g. omega (arith, onℤ)) .1 e)
-
-above-not : {z : ℤ} → pos 0 <ℤ z → z ≢ pos 0
-above-not h e = omega (arith, onℤ)
-
 square-above : (x : ℤ) → x ≢ pos 0 → pos 0 <ℤ (x *ℤ x)
-square-above (pos zero) n = absurd (n refl)
-square-above (pos (suc x)) n = times-above (pos (suc x)) (pos (suc x)) (omega (arith, onℤ)) (omega (arith, onℤ))
-square-above (negsuc x) n =
-    subst (λ k. pos 0 <ℤ k) (ring2 (λ x y. (neg x :* neg x, x :* x)) (negsuc x) (pos 0) tt) (times-above (negℤ (negsuc x)) (negℤ (negsuc x)) (omega (arith, onℤ)) (omega (arith, onℤ)))
-
-square-from : (x : ℤ) → pos 0 ≤ℤ (x *ℤ x)
-square-from (pos zero) = omega (arith, onℤ)
-square-from (pos (suc x)) = let h = square-above (pos (suc x)) (λ g. omega (arith, onℤ)) in omega (arith, onℤ)
-square-from (negsuc x) = let h = square-above (negsuc x) (λ g. omega (arith, onℤ)) in omega (arith, onℤ)
-
-pub norm-above : (a b x y : ℤ) → a *ℤ x +ℤ b *ℤ y ≢ pos 0 → pos 0 <ℤ (x *ℤ x +ℤ y *ℤ y)
-norm-above a b (pos zero) y n =
-    let h = square-above y (λ e. n (ap (λ k. a *ℤ pos 0 +ℤ b *ℤ k) e ∙ ring2 (λ a b. (a :* K (pos 0) :+ b :* K (pos 0), K (pos 0))) a b tt)) in
-    omega (arith, onℤ, sumℤ (pos 0 *ℤ pos 0) (y *ℤ y))
-norm-above a b (pos (suc x)) y n = sum (pos (suc x) *ℤ pos (suc x)) (y *ℤ y) (square-above (pos (suc x)) (λ g. omega (arith, onℤ))) (square-from y)
+square-above x n = go (lt-or-le (pos 0) (x *ℤ x))
   where
-    sum : (p q : ℤ) → pos 0 <ℤ p → pos 0 ≤ℤ q → pos 0 <ℤ (p +ℤ q)
-    sum p q h i = omega (arith, onℤ, sumℤ p q)
-norm-above a b (negsuc x) y n = sum (negsuc x *ℤ negsuc x) (y *ℤ y) (square-above (negsuc x) (λ g. omega (arith, onℤ))) (square-from y)
+    go : (pos 0 <ℤ (x *ℤ x)) ⊎ ((x *ℤ x) ≤ℤ pos 0) → pos 0 <ℤ (x *ℤ x)
+    go (inl h) = h
+    go (inr h) = absurd (sign-product x x n n .1 (le-antisymm h (nonneg-square x)))
+
+-- places with different keys are apart
+pub len-above : (f : Form) (A B : Place) → rise f A B ≢ pos 0 → pos 0 <ℤ len A B
+len-above f A B n = go (B .x -ℤ A .x) (B .y -ℤ A .y) (λ e. n (rise-vector f A B ∙ e))
   where
-    sum : (p q : ℤ) → pos 0 <ℤ p → pos 0 ≤ℤ q → pos 0 <ℤ (p +ℤ q)
-    sum p q h i = omega (arith, onℤ, sumℤ p q)
+    go : (x y : ℤ) → f .along *ℤ x +ℤ f .across *ℤ y ≢ pos 0 → pos 0 <ℤ (x *ℤ x +ℤ y *ℤ y)
+    go x y n = step (zero-or-not x) (zero-or-not y)
+      where
+        step : (x ≡ pos 0) ⊎ (x ≢ pos 0) → (y ≡ pos 0) ⊎ (y ≢ pos 0) → pos 0 <ℤ (x *ℤ x +ℤ y *ℤ y)
+        step (inr h) k = sum-above (x *ℤ x) (y *ℤ y) (square-above x h) (nonneg-square y)
+        step (inl h) (inr k) = omega (arith, onℤ, nonneg-square x, square-above y k, sumℤ (x *ℤ x) (y *ℤ y))
+        step (inl h) (inl k) =
+            absurd (n (ap₂ (λ x y. f .along *ℤ x +ℤ f .across *ℤ y) h k ∙ ring2 (λ a b. (a :* K (pos 0) :+ b :* K (pos 0), K (pos 0))) (f .along) (f .across) tt))
 
 -- ---- on a line, the key says where
 
@@ -65,16 +53,35 @@ Cofactor a b p q u v =
     (neg b :* ((a :* p :+ b :* q) :* u :+ (a :* u :+ b :* v) :* p) :+ a :* ((a :* p :+ b :* q) :* v :+ (a :* u :+ b :* v) :* q)) :+
     (a :* p :+ b :* q) :* (b :* p :- a :* q)
 
-module _ (f : Form) (A B : Place) where
-  pub rise-is : (P Q : Place) → rise f P Q ≡ f .along *ℤ (Q .x -ℤ P .x) +ℤ f .across *ℤ (Q .y -ℤ P .y)
-  rise-is P Q = ring6 (λ a b px py qx qy. ((a :* qx :+ b :* qy) :- (a :* px :+ b :* py), a :* (qx :- px) :+ b :* (qy :- py))) (f .along) (f .across) (P .x) (P .y) (Q .x) (Q .y) tt
+-- on the line with the key of A: it is A
+same-place : (f : Form) (A B P : Place) → rise f A B ≢ pos 0 → rise f A P ≡ pos 0 → turn A B P ≡ pos 0 → A ≡ P
+same-place f A B P n k e = sym (place-eq (equal-of-zero (P .x) (A .x) (cancel (rise f A B) (P .x -ℤ A .x) n x-zero)) (equal-of-zero (P .y) (A .y) (cancel (rise f A B) (P .y -ℤ A .y) n y-zero)))
+  where
+    x-zero : rise f A B *ℤ (P .x -ℤ A .x) ≡ pos 0
+    x-zero =
+        combine₂ (B .x -ℤ A .x) (negℤ (f .across)) k e
+        (ring8 (λ f g a b c d x y. (
+          ((f :* c :+ g :* d) :- (f :* a :+ g :* b)) :* (x :- a) :- K (pos 0),
+          (c :- a) :* (((f :* x :+ g :* y) :- (f :* a :+ g :* b)) :- K (pos 0)) :+ neg g :* (((c :- a) :* (y :- b) :- (x :- a) :* (d :- b)) :- K (pos 0)),
+        ))
+        (f .along) (f .across) (A .x) (A .y) (B .x) (B .y) (P .x) (P .y) tt)
 
+    y-zero : rise f A B *ℤ (P .y -ℤ A .y) ≡ pos 0
+    y-zero =
+        combine₂ (B .y -ℤ A .y) (f .along) k e
+        (ring8 (λ f g a b c d x y. (
+          ((f :* c :+ g :* d) :- (f :* a :+ g :* b)) :* (y :- b) :- K (pos 0),
+          (d :- b) :* (((f :* x :+ g :* y) :- (f :* a :+ g :* b)) :- K (pos 0)) :+ f :* (((c :- a) :* (y :- b) :- (x :- a) :* (d :- b)) :- K (pos 0)),
+        ))
+        (f .along) (f .across) (A .x) (A .y) (B .x) (B .y) (P .x) (P .y) tt)
+
+module _ (f : Form) (A B : Place) where
   rise-split : (P : Place) → rise f A B ≡ rise f A P +ℤ rise f P B
   rise-split P = ring3 (λ a b p. (b :- a, (p :- a) :+ (b :- p))) (key f A) (key f B) (key f P) tt
 
   -- of a place of the line: rise² · facing = −(rise from A)(rise to B) |AB|²
   facing-key : (P : Place) → turn A B P ≡ pos 0 →
-      (rise f A B *ℤ rise f A B) *ℤ facing A B P ≡ negℤ ((rise f A P *ℤ rise f P B) *ℤ ((B .x -ℤ A .x) *ℤ (B .x -ℤ A .x) +ℤ (B .y -ℤ A .y) *ℤ (B .y -ℤ A .y)))
+      (rise f A B *ℤ rise f A B) *ℤ facing A B P ≡ negℤ ((rise f A P *ℤ rise f P B) *ℤ len A B)
   facing-key P e =
       combine₁ (cofactor (f .along) (f .across) (B .x -ℤ A .x) (B .y -ℤ A .y) (P .x -ℤ A .x) (P .y -ℤ A .y)) e
       (ring8 (λ f g a b c d x y. (
@@ -85,59 +92,22 @@ module _ (f : Form) (A B : Place) where
       (f .along) (f .across) (A .x) (A .y) (B .x) (B .y) (P .x) (P .y) tt)
 
   -- strictly between the ends by its key, so strictly inside
-  pub key-inside : (P : Place) → pos 0 <ℤ rise f A P → pos 0 <ℤ rise f P B → turn A B P ≡ pos 0 → StrictlyInside A B P
-  key-inside P h i e = record { on-line = e; between = negative (rise f A B *ℤ rise f A B) (facing A B P) square (subst (λ k. k <ℤ pos 0) (sym (facing-key P e)) (below _ product)) }
+  key-inside : (P : Place) → pos 0 <ℤ rise f A P → pos 0 <ℤ rise f P B → turn A B P ≡ pos 0 → StrictlyInside A B P
+  key-inside P h i e = record { on-line = e; between = negative (rise f A B *ℤ rise f A B) (facing A B P) square (subst (λ k. k <ℤ pos 0) (sym (facing-key P e)) (minus-below _ product)) }
     where
       whole : pos 0 <ℤ rise f A B
-      whole = subst (λ k. pos 0 <ℤ k) (sym (rise-split P)) (sum (rise f A P) (rise f P B) h i)
-        where
-          sum : (p q : ℤ) → pos 0 <ℤ p → pos 0 <ℤ q → pos 0 <ℤ (p +ℤ q)
-          sum p q h i = omega (arith, onℤ, sumℤ p q)
+      whole = subst (λ k. pos 0 <ℤ k) (sym (rise-split P)) (sum-above (rise f A P) (rise f P B) h (lt-le i))
 
       square : pos 0 <ℤ (rise f A B *ℤ rise f A B)
-      square = times-above (rise f A B) (rise f A B) whole whole
+      square = positive-times (rise f A B) (rise f A B) whole whole
 
-      product : pos 0 <ℤ ((rise f A P *ℤ rise f P B) *ℤ ((B .x -ℤ A .x) *ℤ (B .x -ℤ A .x) +ℤ (B .y -ℤ A .y) *ℤ (B .y -ℤ A .y)))
+      product : pos 0 <ℤ ((rise f A P *ℤ rise f P B) *ℤ len A B)
       product =
-          times-above (rise f A P *ℤ rise f P B) ((B .x -ℤ A .x) *ℤ (B .x -ℤ A .x) +ℤ (B .y -ℤ A .y) *ℤ (B .y -ℤ A .y)) (times-above (rise f A P) (rise f P B) h i)
-          (norm-above (f .along) (f .across) (B .x -ℤ A .x) (B .y -ℤ A .y) (λ g. above-not whole (rise-is A B ∙ g)))
-
-      below : (z : ℤ) → pos 0 <ℤ z → negℤ z <ℤ pos 0
-      below z h = omega (arith, onℤ, negℤ-ud z)
+          positive-times (rise f A P *ℤ rise f P B) (len A B) (positive-times (rise f A P) (rise f P B) h i)
+          (len-above f A B (above-not whole))
 
       negative : (a x : ℤ) → pos 0 <ℤ a → (a *ℤ x) <ℤ pos 0 → x <ℤ pos 0
-      negative a x h l = back x (unscale-above (negℤ x) a h (subst (λ k. pos 0 <ℤ k) (ring2 (λ a x. (neg (a :* x), neg x :* a)) a x tt) (forth (a *ℤ x) l)))
-        where
-          back : (z : ℤ) → pos 0 <ℤ negℤ z → z <ℤ pos 0
-          back z h = omega (arith, onℤ, negℤ-ud z)
-
-          forth : (z : ℤ) → z <ℤ pos 0 → pos 0 <ℤ negℤ z
-          forth z h = omega (arith, onℤ, negℤ-ud z)
-
-  -- on the line with the key of A: it is A
-  pub same-place : (P : Place) → rise f A B ≢ pos 0 → rise f A P ≡ pos 0 → turn A B P ≡ pos 0 → A ≡ P
-  same-place P n k e = λ i. record { x = equal (A .x) (P .x) (cancel (rise f A B) (P .x -ℤ A .x) n x-zero) i; y = equal (A .y) (P .y) (cancel (rise f A B) (P .y -ℤ A .y) n y-zero) i }
-    where
-      equal : (a p : ℤ) → p -ℤ a ≡ pos 0 → a ≡ p
-      equal a p h = omega (arith, onℤ, subℤ p a)
-
-      x-zero : rise f A B *ℤ (P .x -ℤ A .x) ≡ pos 0
-      x-zero =
-          combine₂ (B .x -ℤ A .x) (negℤ (f .across)) k e
-          (ring8 (λ f g a b c d x y. (
-            ((f :* c :+ g :* d) :- (f :* a :+ g :* b)) :* (x :- a) :- K (pos 0),
-            (c :- a) :* (((f :* x :+ g :* y) :- (f :* a :+ g :* b)) :- K (pos 0)) :+ neg g :* (((c :- a) :* (y :- b) :- (x :- a) :* (d :- b)) :- K (pos 0)),
-          ))
-          (f .along) (f .across) (A .x) (A .y) (B .x) (B .y) (P .x) (P .y) tt)
-
-      y-zero : rise f A B *ℤ (P .y -ℤ A .y) ≡ pos 0
-      y-zero =
-          combine₂ (B .y -ℤ A .y) (f .along) k e
-          (ring8 (λ f g a b c d x y. (
-            ((f :* c :+ g :* d) :- (f :* a :+ g :* b)) :* (y :- b) :- K (pos 0),
-            (d :- b) :* (((f :* x :+ g :* y) :- (f :* a :+ g :* b)) :- K (pos 0)) :+ f :* (((c :- a) :* (y :- b) :- (x :- a) :* (d :- b)) :- K (pos 0)),
-          ))
-          (f .along) (f .across) (A .x) (A .y) (B .x) (B .y) (P .x) (P .y) tt)
+      negative a x h l = below-of-minus x (unscale-above (negℤ x) a h (subst (λ k. pos 0 <ℤ k) (ring2 (λ a x. (neg (a :* x), neg x :* a)) a x tt) (minus-above (a *ℤ x) l)))
 
 -- ---- two segments
 
@@ -161,12 +131,6 @@ pub record Missed (A B C D : Place) : Type 0 where
   pub not-same : A ≡ C → B ≢ D
   pub not-turned : A ≡ D → B ≢ C
 
-inside-back : {A B P : Place} → StrictlyInside A B P → StrictlyInside B A P
-inside-back {A} {B} {P} h = record {
-  on-line = turn-cycle B A P ∙ turn-mirror A B P ∙ ap negℤ (h .on-line);
-  between = subst (λ k. k <ℤ pos 0) (ring6 (λ a b c d x y. ((a :- x) :* (c :- x) :+ (b :- y) :* (d :- y), (c :- x) :* (a :- x) :+ (d :- y) :* (b :- y))) (A .x) (A .y) (B .x) (B .y) (P .x) (P .y) tt) (h .between);
-}
-
 opposite-swap : {x y : ℤ} → Opposite x y → Opposite y x
 opposite-swap (down h i) = upwards i h
 opposite-swap (upwards h i) = down i h
@@ -175,8 +139,8 @@ opposite-neg : (x y u v : ℤ) → u ≡ negℤ x → v ≡ negℤ y → Opposit
 opposite-neg x y u v e g (down h i) = upwards (omega (arith, onℤ, negℤ-ud x)) (omega (arith, onℤ, negℤ-ud y))
 opposite-neg x y u v e g (upwards h i) = down (omega (arith, onℤ, negℤ-ud x)) (omega (arith, onℤ, negℤ-ud y))
 
-turn-back : (A B P : Place) → turn B A P ≡ negℤ (turn A B P)
-turn-back A B P = turn-cycle B A P ∙ turn-mirror A B P
+turn-negative : (A B P : Place) → turn B A P ≡ negℤ (turn A B P)
+turn-negative A B P = turn-cycle B A P ∙ turn-mirror A B P
 
 -- the same of the segments the other way round
 pub missed-back : {A B C D : Place} → Missed A B C D → Missed A B D C
@@ -187,13 +151,13 @@ missed-back {A} {B} {C} {D} h = record {
   b-out = λ i. h .b-out (inside-back i);
   no-cross = λ c. h .no-cross (record {
     ends-of-second = opposite-swap (c .ends-of-second);
-    ends-of-first = opposite-neg (turn C D A) (turn C D B) (turn D C A) (turn D C B) (turn-back C D A) (turn-back C D B) (c .ends-of-first);
+    ends-of-first = opposite-neg (turn C D A) (turn C D B) (turn D C A) (turn D C B) (turn-negative C D A) (turn-negative C D B) (c .ends-of-first);
   });
   not-same = h .not-turned;
   not-turned = h .not-same;
 }
 
-pub missed-over : {A B C D : Place} → Missed A B C D → Missed C D A B
+missed-over : {A B C D : Place} → Missed A B C D → Missed C D A B
 missed-over h = record {
   c-out = h .a-out;
   d-out = h .b-out;
@@ -213,23 +177,17 @@ opposite-or-zero a b x y ha hb e = go (ltZ (pos 0) x) (ltZ x (pos 0)) refl refl
     other : (p q : ℤ) → p +ℤ q ≡ pos 0 → negℤ q ≡ p
     other p q h = omega (arith, onℤ, sumℤ p q, negℤ-ud q)
 
-    back : (z : ℤ) → pos 0 <ℤ negℤ z → z <ℤ pos 0
-    back z h = omega (arith, onℤ, negℤ-ud z)
-
-    forth : (z : ℤ) → z <ℤ pos 0 → pos 0 <ℤ negℤ z
-    forth z h = omega (arith, onℤ, negℤ-ud z)
-
     neg-zero : (p q : ℤ) → p +ℤ q ≡ pos 0 → p ≡ pos 0 → q ≡ pos 0
     neg-zero p q h i = omega (arith, onℤ, sumℤ p q)
 
     go : (s t : Bool) → ltZ (pos 0) x ≡ s → ltZ x (pos 0) ≡ t → Opposite x y ⊎ ((x ≡ pos 0) × (y ≡ pos 0))
     go true t g h =
         inl (down (ltZ-true (pos 0) x g)
-        (back y (unscale-above (negℤ y) b hb (subst (λ k. pos 0 <ℤ k) (sym (other (a *ℤ x) (b *ℤ y) e) ∙ ring2 (λ b y. (neg (b :* y), neg y :* b)) b y tt) (times-above a x ha (ltZ-true (pos 0) x g))))))
+        (below-of-minus y (unscale-above (negℤ y) b hb (subst (λ k. pos 0 <ℤ k) (sym (other (a *ℤ x) (b *ℤ y) e) ∙ ring2 (λ b y. (neg (b :* y), neg y :* b)) b y tt) (positive-times a x ha (ltZ-true (pos 0) x g))))))
     go false true g h =
         inl (upwards (ltZ-true x (pos 0) h)
         (unscale-above y b hb (subst (λ k. pos 0 <ℤ k)
-        (ring2 (λ a x. (a :* neg x, neg (a :* x))) a x tt ∙ ap negℤ (sym (other (a *ℤ x) (b *ℤ y) e)) ∙ ring2 (λ b y. (neg (neg (b :* y)), y :* b)) b y tt) (times-above a (negℤ x) ha (forth x (ltZ-true x (pos 0) h))))))
+        (ring2 (λ a x. (a :* neg x, neg (a :* x))) a x tt ∙ ap negℤ (sym (other (a *ℤ x) (b *ℤ y) e)) ∙ ring2 (λ b y. (neg (neg (b :* y)), y :* b)) b y tt) (positive-times a (negℤ x) ha (minus-above x (ltZ-true x (pos 0) h))))))
     go false false g h =
         let z = le-antisymm (ltZ-false (pos 0) x g) (ltZ-false x (pos 0) h) in
         inr (z, cancel b y (above-not hb) (neg-zero (a *ℤ x) (b *ℤ y) e (ap (λ k. a *ℤ k) z ∙ ring2 (λ a b. (a :* K (pos 0), K (pos 0))) a b tt)))
@@ -246,13 +204,10 @@ module _ (f : Form) (A B C D : Place) where
   both-lines : rise f C D ≢ pos 0 → turn C D A ≡ pos 0 → turn C D B ≡ pos 0 → (turn A B C ≡ pos 0) × (turn A B D ≡ pos 0)
   both-lines n g h = (at-place C (left-start C D), at-place D (left-end C D))
     where
-      negative-zero : (z : ℤ) → negℤ z ≡ pos 0 → z ≡ pos 0
-      negative-zero z e = omega (arith, onℤ, negℤ-ud z)
-
       at-place : (P : Place) → left C D (corner P) ≡ pos 0 → turn A B P ≡ pos 0
       at-place P e =
           sym (left-corner A B P) ∙ cancel (rise f C D) (left A B (corner P)) n
-          (negative-zero (rise f C D *ℤ left A B (corner P))
+          (zero-of-minus (rise f C D *ℤ left A B (corner P))
           (ring2 (λ a b. (neg b, a :* K (pos 0) :- b)) (rise f A B) (rise f C D *ℤ left A B (corner P)) tt ∙
           ap (λ k. rise f A B *ℤ k -ℤ rise f C D *ℤ left A B (corner P)) (sym e) ∙ sym (left-spot f A B (corner P) C D) ∙
           left-mix C D (negℤ (ahead f B (corner P))) (ahead f A (corner P)) (corner A) (corner B) ∙
@@ -280,16 +235,10 @@ module _ (f : Form) (A B C D : Place) (low-high : pos 0 <ℤ rise f A B) (slante
 
   -- the lower key is the one that is farther behind
   rises : (P Q : Place) → ahead f Q s <ℤ ahead f P s → pos 0 <ℤ rise f P Q
-  rises P Q h = unscale-above (rise f P Q) (s .W) (on .weight) (subst (λ k. pos 0 <ℤ k) (sym (rise-ahead P Q)) (difference (ahead f P s) (ahead f Q s) h))
-    where
-      difference : (a b : ℤ) → b <ℤ a → pos 0 <ℤ (a -ℤ b)
-      difference a b h = omega (arith, onℤ, subℤ a b)
+  rises P Q h = unscale-above (rise f P Q) (s .W) (on .weight) (subst (λ k. pos 0 <ℤ k) (sym (rise-ahead P Q)) (difference-above (ahead f P s) (ahead f Q s) h))
 
   level : (P Q : Place) → ahead f P s ≡ ahead f Q s → rise f P Q ≡ pos 0
-  level P Q e = cancel (s .W) (rise f P Q) (above-not (on .weight)) (ring2 (λ w r. (w :* r, r :* w)) (s .W) (rise f P Q) tt ∙ rise-ahead P Q ∙ difference (ahead f P s) (ahead f Q s) e)
-    where
-      difference : (a b : ℤ) → a ≡ b → a -ℤ b ≡ pos 0
-      difference a b h = omega (arith, onℤ, subℤ a b)
+  level P Q e = cancel (s .W) (rise f P Q) (above-not (on .weight)) (ring2 (λ w r. (w :* r, r :* w)) (s .W) (rise f P Q) tt ∙ rise-ahead P Q ∙ zero-of-equal (ahead f P s) (ahead f Q s) e)
 
   below-trans : {a b : ℤ} → a <ℤ pos 0 → pos 0 ≤ℤ b → a <ℤ b
   below-trans h i = omega (arith, onℤ)
@@ -304,11 +253,8 @@ module _ (f : Form) (A B C D : Place) (low-high : pos 0 <ℤ rise f A B) (slante
   at-start : ahead f C s ≡ pos 0 → ⊥
   at-start e =
       missed .c-out (key-inside f A B C (rises A C (subst (λ k. k <ℤ ahead f A s) (sym e) (on .past-low))) (rises C B (subst (λ k. ahead f B s <ℤ k) (sym e) (on .before-high)))
-      (cancel (negℤ (ahead f D s)) (turn A B C) (λ g. slanted (level C D (e ∙ negative (ahead f D s) g)))
+      (cancel (negℤ (ahead f D s)) (turn A B C) (λ g. slanted (level C D (e ∙ sym (zero-of-minus (ahead f D s) g))))
       (sym (ap (λ k. negℤ (ahead f D s) *ℤ turn A B C +ℤ k *ℤ turn A B D) e ∙ ring2 (λ a b. (a :+ K (pos 0) :* b, a)) (negℤ (ahead f D s) *ℤ turn A B C) (turn A B D) tt) ∙ weighed)))
-    where
-      negative : (z : ℤ) → negℤ z ≡ pos 0 → pos 0 ≡ z
-      negative z h = omega (arith, onℤ, negℤ-ud z)
 
   at-end : ahead f D s ≡ pos 0 → ⊥
   at-end e =
@@ -320,18 +266,12 @@ module _ (f : Form) (A B C D : Place) (low-high : pos 0 <ℤ rise f A B) (slante
   in-line : turn C D A ≡ pos 0 → turn C D B ≡ pos 0 → turn A B C ≡ pos 0 → turn A B D ≡ pos 0 → ⊥
   in-line ta tb tc td = go (order (ahead f A s) (ahead f C s))
     where
-      turned : turn B A D ≡ pos 0
-      turned = turn-cycle B A D ∙ turn-mirror A B D ∙ ap negℤ td
-
       back-not : rise f B A ≢ pos 0
-      back-not e = above-not low-high (swap (key f A) (key f B) e)
-        where
-          swap : (a b : ℤ) → a -ℤ b ≡ pos 0 → b -ℤ a ≡ pos 0
-          swap a b e = omega (arith, onℤ, subℤ a b, subℤ b a)
+      back-not e = above-not low-high (zero-swapped (key f A) (key f B) e)
 
       one-start : A ≡ C → Order (ahead f B s) (ahead f D s) → ⊥
       one-start e (less h) = missed .d-out (key-inside f A B D (rises A D (trans-above (within .to-high) (on .past-low))) (rises D B h) td)
-      one-start e (same h) = missed .not-same e (same-place f B A D back-not (level B D h) turned)
+      one-start e (same h) = missed .not-same e (same-place f B A D back-not (level B D h) (turn-back A B D td))
       one-start e (more h) = missed .b-out (key-inside f C D B (rises C B (below-trans (on .before-high) (within .from-low))) (rises B D h) tb)
 
       go : Order (ahead f A s) (ahead f C s) → ⊥
@@ -342,34 +282,19 @@ module _ (f : Form) (A B C D : Place) (low-high : pos 0 <ℤ rise f A B) (slante
   no-meeting : ⊥
   no-meeting = go (order (ahead f C s) (pos 0)) (order (ahead f D s) (pos 0))
     where
-      negative : (z : ℤ) → z <ℤ pos 0 → pos 0 <ℤ negℤ z
-      negative z h = omega (arith, onℤ, negℤ-ud z)
-
-      out-low : ahead f C s <ℤ pos 0 → ⊥
-      out-low h = let l = within .from-low in clash-order (ahead f C s) h l
-        where
-          clash-order : (z : ℤ) → z <ℤ pos 0 → pos 0 ≤ℤ z → ⊥
-          clash-order z h i = omega (arith, onℤ)
-
-      out-high : pos 0 <ℤ ahead f D s → ⊥
-      out-high h = let l = within .to-high in clash-order (ahead f D s) h l
-        where
-          clash-order : (z : ℤ) → pos 0 <ℤ z → z ≤ℤ pos 0 → ⊥
-          clash-order z h i = omega (arith, onℤ)
-
       sides : Opposite (turn A B C) (turn A B D) ⊎ ((turn A B C ≡ pos 0) × (turn A B D ≡ pos 0)) → Opposite (turn C D A) (turn C D B) ⊎ ((turn C D A ≡ pos 0) × (turn C D B ≡ pos 0)) → ⊥
       sides (inl p) (inl q) = missed .no-cross (record { ends-of-second = p; ends-of-first = q })
       sides (inl p) (inr (ta, tb)) = let (tc, td) = both-lines f A B C D slanted ta tb in in-line ta tb tc td
       sides (inr (tc, td)) q = let (ta, tb) = both-lines f C D A B (above-not low-high) tc td in in-line ta tb tc td
 
       go : Order (ahead f C s) (pos 0) → Order (ahead f D s) (pos 0) → ⊥
-      go (less h) y = out-low h
+      go (less h) y = lt-not-le h (within .from-low)
       go (same e) y = at-start e
       go (more h) (less i) =
-          sides (opposite-or-zero (negℤ (ahead f D s)) (ahead f C s) (turn A B C) (turn A B D) (negative (ahead f D s) i) h weighed)
-          (opposite-or-zero (negℤ (ahead f B s)) (ahead f A s) (turn C D A) (turn C D B) (negative (ahead f B s) (on .before-high)) (on .past-low) (on-both f A B C D s (on .on-line) line))
+          sides (opposite-or-zero (negℤ (ahead f D s)) (ahead f C s) (turn A B C) (turn A B D) (minus-above (ahead f D s) i) h weighed)
+          (opposite-or-zero (negℤ (ahead f B s)) (ahead f A s) (turn C D A) (turn C D B) (minus-above (ahead f B s) (on .before-high)) (on .past-low) (on-both f A B C D s (on .on-line) line))
       go (more h) (same e) = at-end e
-      go (more h) (more i) = out-high i
+      go (more h) (more i) = lt-not-le i (within .to-high)
 
 -- two segments of which the signs say that they do not meet
 pub apart-missed : (f : Form) (A B C D : Place) → pos 0 <ℤ rise f A B → rise f C D ≢ pos 0 → Missed A B C D → Apart f A B C D

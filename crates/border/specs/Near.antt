@@ -1,20 +1,21 @@
--- Points near a point: close enough it stays inside what it is inside, and is off every line and every key. Assumes nothing.
-use mathlib.Core.Bool.{Bool, true, false}
-use mathlib.Core.List.{List, [], _∷_}
-use mathlib.Core.Logic.{_≢_, _⊎_, inl, inr}
-use mathlib.Core.Path.{_≡_, refl, sym, ap, ap₂, subst, _∙_}
+-- Points near a point, in a direction along no side of a row: near enough, signs stay, and the point is off every line and every key. Assumes nothing.
+use mathlib.Core.List.{List}
+use mathlib.Core.Logic.{_≢_}
+use mathlib.Core.Path.{_≡_, refl, sym, subst, _∙_}
 use Prim.Native.Nat.{ℕ, zero, suc, _+_, _*_, max, _≤_, _<_}
 use native.Mathlib.Omega.{arith}
 use lib.IntN.{ℤ, pos, negsuc, negℤ, natAbs, _+ℤ_, _-ℤ_, _*ℤ_}
-use lib.Signed.{ltZ, _≤ℤ_, _<ℤ_}
-use Rattle.whole.specs.Diff.{onℤ, sumℤ, subℤ, mulℤ, negℤ-ud}
-use Rattle.whole.specs.Ring.{Expr, K, _:+_, _:-_, _:*_, neg, ring2, ring3, ring4, ring6, ring10, combine₂}
+use lib.Signed.{_≤ℤ_, _<ℤ_}
+use Rattle.whole.specs.Diff.{onℤ, sumℤ}
+use Rattle.whole.specs.Ring.{K, _:+_, _:-_, _:*_, neg, ring2, ring3, ring4, ring10}
 use Rattle.lists.specs.Lists.{All, nil, cons}
 use Rattle.lists.specs.ListsLaw.{All-imp}
 use Rattle.meaning.specs.declared.Place.{Place}
 use Rattle.meaning.specs.Mesh.{Mesh, at, turn}
-use Rattle.meaning.specs.Proper.{Point, Shape, Inside, area, shape, left}
+use Rattle.meaning.specs.Proper.{Point, Shape, area, shape, left}
 use Rattle.laws.specs.Area.{turn-cycle}
+use Rattle.border.specs.Places.{place-eq, apart-of-turn}
+use Rattle.border.specs.Signs.{zero-of-minus, zero-of-equal, below-not, above-not, below-of-minus, equal-of-zero}
 use Rattle.border.specs.Under.{Form, Off, key, keyAt, ahead, Left}
 use Rattle.border.specs.Count.{OffRows}
 use Rattle.border.specs.Segment.{Ahead}
@@ -25,7 +26,7 @@ pub record Eventually (P : ℕ → Type 0) : Type 0 where
   pub start : ℕ
   pub holds : (n : ℕ) → start ≤ n → P n
 
-pub from-now : {P : ℕ → Type 0} → ((n : ℕ) → P n) → Eventually P
+from-now : {P : ℕ → Type 0} → ((n : ℕ) → P n) → Eventually P
 from-now h = record { start = 0; holds = λ n _. h n }
 
 pub both-from : {P Q : ℕ → Type 0} → Eventually P → Eventually Q → Eventually (λ n. P n × Q n)
@@ -55,23 +56,17 @@ line-above c d h = record { start = suc (natAbs d); holds = λ n l. go c d h n l
         omega (arith, onℤ, sumℤ (pos n *ℤ pos (suc c)) (negsuc d))
     go (negsuc c) d h n l = absurd (omega (arith, onℤ))
 
+pub line-minus : (n : ℕ) (c d : ℤ) → line (negℤ c) (negℤ d) n ≡ negℤ (line c d n)
+line-minus n c d = ring3 (λ n c d. (n :* neg c :+ neg d, neg (n :* c :+ d))) (pos n) c d tt
+
 pub line-not : (c d : ℤ) → (c ≡ pos 0 → d ≢ pos 0) → Eventually (λ n. line c d n ≢ pos 0)
 line-not c d h = go c h
   where
-    minus : (n : ℕ) (c d : ℤ) → line (negℤ c) (negℤ d) n ≡ negℤ (line c d n)
-    minus n c d = ring3 (λ n c d. (n :* neg c :+ neg d, neg (n :* c :+ d))) (pos n) c d tt
-
-    above-not : (z : ℤ) → pos 0 <ℤ z → z ≢ pos 0
-    above-not z h e = omega (arith, onℤ)
-
-    neg-not : (z : ℤ) → pos 0 <ℤ negℤ z → z ≢ pos 0
-    neg-not z h e = omega (arith, onℤ, negℤ-ud z)
-
     go : (c : ℤ) → (c ≡ pos 0 → d ≢ pos 0) → Eventually (λ n. line c d n ≢ pos 0)
     go (pos zero) h = from-now (λ n e. h refl (sym (ring2 (λ n d. (n :* K (pos 0) :+ d, d)) (pos n) d tt) ∙ e))
-    go (pos (suc c)) h = imply-from (λ n g. above-not (line (pos (suc c)) d n) g) (line-above (pos (suc c)) d (omega (arith, onℤ)))
+    go (pos (suc c)) h = imply-from (λ n g. above-not g) (line-above (pos (suc c)) d (omega (arith, onℤ)))
     go (negsuc c) h =
-        imply-from (λ n g. neg-not (line (negsuc c) d n) (subst (λ k. pos 0 <ℤ k) (minus n (negsuc c) d) g)) (line-above (negℤ (negsuc c)) (negℤ d) (omega (arith, onℤ)))
+        imply-from (λ n g. below-not (below-of-minus (line (negsuc c) d n) (subst (λ k. pos 0 <ℤ k) (line-minus n (negsuc c) d) g))) (line-above (negℤ (negsuc c)) (negℤ d) (omega (arith, onℤ)))
 
 -- ---- near a point, in the direction (u, v)
 
@@ -110,10 +105,10 @@ module _ (s : Point) (u v : ℤ) where
       sum n (pos c) d h i = omega (arith, onℤ, sumℤ (pos n *ℤ pos c) d)
       sum n (negsuc c) d h i = absurd (omega (arith, onℤ))
 
-  pub left-off : (A B : Place) → tilt A B u v ≢ pos 0 → Eventually (λ n. left A B (near s u v n) ≢ pos 0)
+  left-off : (A B : Place) → tilt A B u v ≢ pos 0 → Eventually (λ n. left A B (near s u v n) ≢ pos 0)
   left-off A B i = imply-from (λ n l e. l (sym (left-near A B s u v n) ∙ e)) (line-not (left A B s) (tilt A B u v) (λ _. i))
 
-  pub ahead-off : (f : Form) (A : Place) → growth f u v ≢ pos 0 → Eventually (λ n. ahead f A (near s u v n) ≢ pos 0)
+  ahead-off : (f : Form) (A : Place) → growth f u v ≢ pos 0 → Eventually (λ n. ahead f A (near s u v n) ≢ pos 0)
   ahead-off f A g = imply-from (λ n l e. l (sym (ahead-near f A s u v n) ∙ e)) (line-not (ahead f A s) (growth f u v) (λ _. g))
 
   pub weight-stays : pos 0 <ℤ s .W → Eventually (λ n. pos 0 <ℤ near s u v n .W)
@@ -127,22 +122,15 @@ pub record Tilted (t : Shape) (u v : ℤ) : Type 0 where
   pub tilt-qr : tilt (t .q) (t .r) u v ≢ pos 0
   pub tilt-rp : tilt (t .r) (t .p) u v ≢ pos 0
 
-flat : (P Q R : Place) → Q .x -ℤ P .x ≡ pos 0 → negℤ (Q .y -ℤ P .y) ≡ pos 0 → turn P Q R ≡ pos 0
-flat P Q R e g =
-    combine₂ (R .y -ℤ P .y) (R .x -ℤ P .x) e g
-    (ring6 (λ a b c d x y. (((c :- a) :* (y :- b) :- (x :- a) :* (d :- b)) :- K (pos 0), (y :- b) :* ((c :- a) :- K (pos 0)) :+ (x :- a) :* (neg (d :- b) :- K (pos 0)))) (P .x) (P .y) (Q .x) (Q .y) (R .x) (R .y) tt)
-
 tilt-line : (A B : Place) (k : ℕ) → tilt A B (pos 1) (pos k) ≡ line (B .x -ℤ A .x) (negℤ (B .y -ℤ A .y)) k
 tilt-line A B k = ring3 (λ x y k. (x :* k :- K (pos 1) :* y, k :* x :+ neg y)) (B .x -ℤ A .x) (B .y -ℤ A .y) (pos k) tt
 
 side-tilted : (P Q R : Place) → pos 0 <ℤ turn P Q R → Eventually (λ k. tilt P Q (pos 1) (pos k) ≢ pos 0)
 side-tilted P Q R h =
-    imply-from (λ k n e. n (sym (tilt-line P Q k) ∙ e)) (line-not (Q .x -ℤ P .x) (negℤ (Q .y -ℤ P .y)) (λ e g. not-both (turn P Q R) h (flat P Q R e g)))
-  where
-    not-both : (z : ℤ) → pos 0 <ℤ z → z ≡ pos 0 → ⊥
-    not-both z h e = omega (arith, onℤ)
+    imply-from (λ k n e. n (sym (tilt-line P Q k) ∙ e)) (line-not (Q .x -ℤ P .x) (negℤ (Q .y -ℤ P .y)) (λ e g. apart-of-turn P Q R h
+    (place-eq (sym (equal-of-zero (Q .x) (P .x) e)) (sym (equal-of-zero (Q .y) (P .y) (zero-of-minus (Q .y -ℤ P .y) g))))))
 
-pub tilted-from : (t : Shape) → pos 0 <ℤ area t → Eventually (λ k. Tilted t (pos 1) (pos k))
+tilted-from : (t : Shape) → pos 0 <ℤ area t → Eventually (λ k. Tilted t (pos 1) (pos k))
 tilted-from t h =
     imply-from (λ k (a, (b, c)). record { tilt-pq = a; tilt-qr = b; tilt-rp = c })
     (both-from (side-tilted (t .p) (t .q) (t .r) h) (both-from (side-tilted (t .q) (t .r) (t .p) (subst (λ k. pos 0 <ℤ k) (turn-cycle (t .p) (t .q) (t .r)) h))
@@ -166,14 +154,11 @@ tilt-back A B u v = ring4 (λ x y u v. (x :* neg v :- neg u :* y, neg (x :* v :-
 pub direction-back : (f : Form) (m : Mesh) (u v : ℤ) → Direction f m u v → Direction f m (negℤ u) (negℤ v)
 direction-back f m u v d = record {
   tilted = All-imp (λ t h. record { tilt-pq = turned (t .p) (t .q) (h .tilt-pq); tilt-qr = turned (t .q) (t .r) (h .tilt-qr); tilt-rp = turned (t .r) (t .p) (h .tilt-rp) }) (d .tilted);
-  grows = λ e. d .grows (zero-back (growth f u v) (sym (ring4 (λ a b u v. (a :* neg u :+ b :* neg v, neg (a :* u :+ b :* v))) (f .along) (f .across) u v tt) ∙ e));
+  grows = λ e. d .grows (zero-of-minus (growth f u v) (sym (ring4 (λ a b u v. (a :* neg u :+ b :* neg v, neg (a :* u :+ b :* v))) (f .along) (f .across) u v tt) ∙ e));
 }
   where
-    zero-back : (z : ℤ) → negℤ z ≡ pos 0 → z ≡ pos 0
-    zero-back z e = omega (arith, onℤ, negℤ-ud z)
-
     turned : (a b : ℕ) → tilt (at m a) (at m b) u v ≢ pos 0 → tilt (at m a) (at m b) (negℤ u) (negℤ v) ≢ pos 0
-    turned a b n e = n (zero-back (tilt (at m a) (at m b) u v) (sym (tilt-back (at m a) (at m b) u v) ∙ e))
+    turned a b n e = n (zero-of-minus (tilt (at m a) (at m b) u v) (sym (tilt-back (at m a) (at m b) u v) ∙ e))
 
 -- ---- off the rows
 
@@ -185,20 +170,11 @@ off-near f t s u v w h g =
     (both-from (left-off s u v (t .p) (t .q) (h .tilt-pq)) (both-from (left-off s u v (t .q) (t .r) (h .tilt-qr)) (both-from (left-off s u v (t .r) (t .p) (h .tilt-rp))
     (both-from (ahead-off s u v f (t .p) g) (both-from (ahead-off s u v f (t .q) g) (ahead-off s u v f (t .r) g)))))))
   where
-    difference : (a b : ℤ) → a ≡ b → b -ℤ a ≡ pos 0
-    difference a b e = omega (arith, onℤ, subℤ b a)
-
     keyed : (n : ℕ) (A : Place) → ahead f A (near s u v n) ≢ pos 0 → key f A *ℤ near s u v n .W ≢ keyAt f (near s u v n)
-    keyed n A l e = l (difference (key f A *ℤ near s u v n .W) (keyAt f (near s u v n)) e)
+    keyed n A l e = l (zero-of-equal (keyAt f (near s u v n)) (key f A *ℤ near s u v n .W) (sym e))
 
-pub off-rows-near : (f : Form) (m : Mesh) (s : Point) (u v : ℤ) → pos 0 <ℤ s .W → Direction f m u v → Eventually (λ n. OffRows f m (near s u v n))
+off-rows-near : (f : Form) (m : Mesh) (s : Point) (u v : ℤ) → pos 0 <ℤ s .W → Direction f m u v → Eventually (λ n. OffRows f m (near s u v n))
 off-rows-near f m s u v w d = all-from (All-imp (λ t g. off-near f (shape m t) s u v w g (d .grows)) (d .tilted))
-
--- near enough, it is inside what it was inside
-pub inside-near : (t : Shape) (s : Point) (u v : ℤ) → Inside t s → Eventually (λ n. Inside t (near s u v n))
-inside-near t s u v h =
-    imply-from (λ n (a, (b, c)). record { pq = a; qr = b; rp = c })
-    (both-from (left-stays s u v (t .p) (t .q) (h .pq)) (both-from (left-stays s u v (t .q) (t .r) (h .qr)) (left-stays s u v (t .r) (t .p) (h .rp))))
 
 -- in a direction there is a point of which all holds that holds near enough
 pub point-near : (f : Form) (m : Mesh) (s : Point) (u v : ℤ) → pos 0 <ℤ s .W → Direction f m u v → (Q : Point → Type 0) → Eventually (λ n. Q (near s u v n)) →
@@ -208,10 +184,3 @@ point-near f m s u v w d Q q =
     let n = distances .start in
     let (weight, (off, holds)) = distances .holds n (omega arith) in
     (near s u v n, weight, off, holds)
-
--- near any point there is one off the lines and keys of all rows, of which all holds that holds near enough
-pub generic-near : (f : Form) → f .across ≢ pos 0 → (m : Mesh) → All (λ t. pos 0 <ℤ area (shape m t)) (m .tris) → (s : Point) → pos 0 <ℤ s .W →
-    (Q : Point → Type 0) → ((u v : ℤ) → Eventually (λ n. Q (near s u v n))) → (p : Point) × (pos 0 <ℤ p .W) × OffRows f m p × Q p
-generic-near f across m h s w Q q =
-    let d = directions f across m h in
-    point-near f m s (pos 1) (pos (d .start)) w (d .holds (d .start) (omega arith)) Q (q (pos 1) (pos (d .start)))

@@ -1,32 +1,33 @@
 -- Below a point: the nearest border arrow says how many rows the point is inside, and they are at most one. Assumes nothing.
 use mathlib.Core.Bool.{Bool, true, false, not, _&&_}
-use mathlib.Core.List.{List, [], _∷_, List·Memᴰ}
+use mathlib.Core.List.{List, List·Memᴰ}
 use mathlib.Core.Logic.{_≢_}
 use mathlib.Core.Path.{_≡_, refl, sym, ap, ap₂, subst, _∙_}
-use Prim.Native.Nat.{ℕ, _≤_}
+use Prim.Native.Nat.{_≤_}
 use native.Mathlib.Omega.{arith}
-use lib.IntN.{+ℤ-comm, ℤ, pos, negsuc, negℤ, _+ℤ_, _-ℤ_, _*ℤ_}
+use lib.IntN.{+ℤ-comm, ℤ, pos, negℤ, _+ℤ_, _-ℤ_, _*ℤ_}
 use lib.Signed.{ltZ, _≤ℤ_, _<ℤ_}
-use borrow.Author.Tests.{eq-eqb}
-use Rattle.whole.specs.Diff.{onℤ, sumℤ, subℤ, negℤ-ud}
-use Rattle.whole.specs.Ring.{Expr, K, _:+_, _:-_, _:*_, neg, ring2, ring4, ring6}
+use borrow.Author.Tests.{not-true}
+use Rattle.whole.specs.Diff.{onℤ, subℤ}
+use Rattle.whole.specs.Ring.{K, _:+_, _:-_, _:*_, neg, ring2, ring4, ring6}
 use Rattle.whole.specs.Tests.{ltZ-true, ltZ-false, lt-ltZ, le-ltZ}
-use Rattle.whole.specs.Order.{le-antisymm}
-use Rattle.lists.specs.Lists.{any, only, count, consIf, sucIf, cases, All, nil, cons}
-use Rattle.lists.specs.ListsLaw.{clash, both-ways, and-both, and-left, and-right, any-at, All-imp, All-both, All-at, All-of, All-joined}
-use Rattle.lists.specs.MembersLaw.{only-keeps, only-passes}
+use Rattle.whole.specs.Order.{le-antisymm, positive-times, nonpos-times}
+use Rattle.lists.specs.Lists.{cases, All, nil, cons}
+use Rattle.lists.specs.ListsLaw.{both-ways, and-both, and-left, and-right, All-imp, All-both, All-at, All-joined}
+use Rattle.lists.specs.MembersLaw.{only-keeps}
 use Rattle.meaning.specs.declared.Place.{Place}
 use Rattle.meaning.specs.declared.Tri.{Tri}
-use Rattle.meaning.specs.Mesh.{Mesh, Arrow, arrow, arrows, sameArrow, holdsArrow, at}
-use Rattle.meaning.specs.Proper.{Point, Shape, area, shape, left}
-use Rattle.laws.specs.Edges.{sameArrow-eq}
-use Rattle.border.specs.Sums.{when, one, added, added-eq, added-only, added-any, added-zero, added-parts}
-use Rattle.border.specs.Under.{Left, sign-product, Form, Off, key, keyAt, under, ahead, under-swapped, below-zero, times-above}
-use Rattle.border.specs.Cancel.{Once, reverse, arrowsOf, border}
+use Rattle.meaning.specs.Mesh.{Mesh, Arrow, arrows, sameArrow, at}
+use Rattle.meaning.specs.Proper.{Point, area, shape, left}
+use Rattle.border.specs.Signs.{unscale-above, below-zero, above-not, below-of-minus, above-swapped, sign-product, lt-le}
+use Rattle.border.specs.Sums.{one, added, added-eq, added-zero}
+use Rattle.border.specs.Under.{Left, Form, Off, key, under, ahead, under-swapped, ahead-not}
+use Rattle.border.specs.Cancel.{Once, arrowsOf, border}
 use Rattle.border.specs.Count.{underArrow, depth, OffRows, depth-border}
-use Rattle.border.specs.Segment.{Ahead, corner, joint, Strictly, Within, Spans, Apart, rise, spot, above, left-spot, spot-ahead, spot-strictly, spot-within, times-to}
-use Rattle.border.specs.Along.{behind, under-rising, unscale-above}
-use Rattle.border.specs.Beside.{Clear, clear-back, Slant, rising, falling, slant, others, Free, ClearArrow, Ends, forth, back, border-split, beside}
+use Rattle.border.specs.Segment.{Ahead, Strictly, Within, Spans, Apart, rise, spot, above, left-spot, spot-ahead, spot-strictly, spot-within}
+use Rattle.border.specs.Along.{behind, under-rising}
+use Rattle.border.specs.Beside.{Clear, clear-back, others, Free, ClearArrow, Ends, forth, back, border-split, beside}
+use Rattle.border.specs.Clear.{middle}
 use Rattle.border.specs.Least.{Least, none-passes, least, find-least}
 
 -- ---- an arrow by its lower and its higher end
@@ -59,14 +60,11 @@ module _ (f : Form) (m : Mesh) (e : Arrow) where
   pub low-high : Slanted f m e → pos 0 <ℤ rise f (lowEnd f m e) (highEnd f m e)
   low-high n = go (upward f m e) refl
     where
-      swap : (a b : ℤ) → (b -ℤ a) <ℤ pos 0 → pos 0 <ℤ (a -ℤ b)
-      swap a b h = omega (arith, onℤ, subℤ a b, subℤ b a)
-
       go : (b : Bool) → upward f m e ≡ b → pos 0 <ℤ rise f (cases b (at m (e .from)) (at m (e .to))) (cases b (at m (e .to)) (at m (e .from)))
       go true h = ltZ-true (pos 0) (rise f (at m (e .from)) (at m (e .to))) h
-      go false h = swap (key f (at m (e .from))) (key f (at m (e .to))) (below-zero (rise f (at m (e .from)) (at m (e .to))) n h)
+      go false h = above-swapped (key f (at m (e .from))) (key f (at m (e .to))) (below-zero (rise f (at m (e .from)) (at m (e .to))) n h)
 
-  pub arrow-ends : Ends m e (lowEnd f m e) (highEnd f m e)
+  arrow-ends : Ends m e (lowEnd f m e) (highEnd f m e)
   arrow-ends = go (upward f m e)
     where
       go : (b : Bool) → Ends m e (cases b (at m (e .from)) (at m (e .to))) (cases b (at m (e .to)) (at m (e .from)))
@@ -102,7 +100,7 @@ module _ (f : Form) (m : Mesh) (e : Arrow) where
 sign-times : (r x : ℤ) → pos 0 <ℤ r → ltZ (pos 0) (r *ℤ x) ≡ ltZ (pos 0) x
 sign-times r x h =
     both-ways _ _ (λ e. lt-ltZ (pos 0) x (unscale-above x r h (subst (λ k. pos 0 <ℤ k) (ring2 (λ r x. (r :* x, x :* r)) r x tt) (ltZ-true (pos 0) (r *ℤ x) e))))
-    (λ e. lt-ltZ (pos 0) (r *ℤ x) (times-above r x h (ltZ-true (pos 0) x e)))
+    (λ e. lt-ltZ (pos 0) (r *ℤ x) (positive-times r x h (ltZ-true (pos 0) x e)))
 
 module _ (f : Form) (A B : Place) (up : pos 0 <ℤ rise f A B) (s : Point) (spans : Spans f A B s) (over : pos 0 <ℤ left A B s) where
   behind-spot : (v : Place) → behind f v (spot f A B s) ≡ behind f v s
@@ -133,48 +131,42 @@ module _ (f : Form) (A B : Place) (up : pos 0 <ℤ rise f A B) (s : Point) (span
                 step true e = refl
                 step false e = absurd (n (le-antisymm (ltZ-false (pos 0) z e) h))
         go false e = sym (le-ltZ (pos 0) (left C D (spot f A B s)) (subst (λ k. k ≤ℤ pos 0) (sym (left-spot f A B s C D))
-            (less (rise f A B *ℤ left C D s) (rise f C D *ℤ left A B s) (times-to (rise f A B) (left C D s) up (ltZ-false (pos 0) (left C D s) e)) (times-above (rise f C D) (left A B s) up′ over))))
+            (less (rise f A B *ℤ left C D s) (rise f C D *ℤ left A B s) (nonpos-times (rise f A B) (left C D s) (lt-le up) (ltZ-false (pos 0) (left C D s) e)) (positive-times (rise f C D) (left A B s) up′ over))))
 
     beneath-spot : behind f C s && (not (behind f D s) && above C D s) ≡ behind f C (spot f A B s) && (not (behind f D (spot f A B s)) && above C D (spot f A B s))
     beneath-spot =
         go (behind f C s) (behind f D s) refl refl ∙
         sym (ap₂ (λ x y. x && (not y && above C D (spot f A B s))) (behind-spot C) (behind-spot D))
       where
-        weaker : (z : ℤ) → pos 0 <ℤ z → pos 0 ≤ℤ z
-        weaker z h = omega (arith, onℤ)
-
         go : (x y : Bool) → behind f C s ≡ x → behind f D s ≡ y → x && (not y && above C D s) ≡ x && (not y && above C D (spot f A B s))
         go true true e g = refl
-        go true false e g = above-spot (record { from-low = weaker (ahead f C s) (ltZ-true (pos 0) (ahead f C s) e); to-high = ltZ-false (pos 0) (ahead f D s) g }) e g
+        go true false e g = above-spot (record { from-low = lt-le (ltZ-true (pos 0) (ahead f C s) e); to-high = ltZ-false (pos 0) (ahead f D s) g }) e g
         go false y e g = refl
 
 -- ---- the border
 
 -- the middle of e
-abbrev pub middle : Mesh → Arrow → Point
-middle m e = joint (corner (at m (e .from))) (corner (at m (e .to)))
+abbrev pub middleOf : Mesh → Arrow → Point
+middleOf m e = middle (at m (e .from)) (at m (e .to))
 
-middle-between : (f : Form) (A B : Place) → pos 0 <ℤ rise f A B → Strictly f A B (joint (corner A) (corner B))
+middle-between : (f : Form) (A B : Place) → pos 0 <ℤ rise f A B → Strictly f A B (middle A B)
 middle-between f A B h = record {
   weight = omega (arith, onℤ);
-  on-line = ring4 (λ a b c d. (Left a b c d (a :+ c) (b :+ d) (K (pos 1) :+ K (pos 1)), K (pos 0))) (A .x) (A .y) (B .x) (B .y) tt;
-  past-low = subst (λ k. pos 0 <ℤ k) (ring6 (λ f g a b c d. ((f :* c :+ g :* d) :- (f :* a :+ g :* b), Ahead f g a b (a :+ c) (b :+ d) (K (pos 1) :+ K (pos 1)))) (f .along) (f .across) (A .x) (A .y) (B .x) (B .y) tt) h;
-  before-high = below (ahead f B (joint (corner A) (corner B)))
-      (subst (λ k. pos 0 <ℤ k) (ring6 (λ f g a b c d. ((f :* c :+ g :* d) :- (f :* a :+ g :* b), neg (Ahead f g c d (a :+ c) (b :+ d) (K (pos 1) :+ K (pos 1))))) (f .along) (f .across) (A .x) (A .y) (B .x) (B .y) tt) h);
+  on-line = ring4 (λ a b c d. (Left a b c d (a :+ c) (b :+ d) (K (pos 2)), K (pos 0))) (A .x) (A .y) (B .x) (B .y) tt;
+  past-low = subst (λ k. pos 0 <ℤ k) (ring6 (λ f g a b c d. ((f :* c :+ g :* d) :- (f :* a :+ g :* b), Ahead f g a b (a :+ c) (b :+ d) (K (pos 2)))) (f .along) (f .across) (A .x) (A .y) (B .x) (B .y) tt) h;
+  before-high = below-of-minus (ahead f B (middle A B))
+      (subst (λ k. pos 0 <ℤ k) (ring6 (λ f g a b c d. ((f :* c :+ g :* d) :- (f :* a :+ g :* b), neg (Ahead f g c d (a :+ c) (b :+ d) (K (pos 2))))) (f .along) (f .across) (A .x) (A .y) (B .x) (B .y) tt) h);
 }
-  where
-    below : (z : ℤ) → pos 0 <ℤ negℤ z → z <ℤ pos 0
-    below z h = omega (arith, onℤ, negℤ-ud z)
 
 -- it is strictly between the ends
-pub middle-on : (f : Form) (m : Mesh) (e : Arrow) → Slanted f m e → Strictly f (lowEnd f m e) (highEnd f m e) (middle m e)
+pub middle-on : (f : Form) (m : Mesh) (e : Arrow) → Slanted f m e → Strictly f (lowEnd f m e) (highEnd f m e) (middleOf m e)
 middle-on f m e n = go (upward f m e) (low-high f m e n)
   where
-    swapped : (A B : Place) → joint (corner B) (corner A) ≡ joint (corner A) (corner B)
-    swapped A B = λ i. record { X = +ℤ-comm (B .x) (A .x) i; Y = +ℤ-comm (B .y) (A .y) i; W = pos 1 +ℤ pos 1 }
+    swapped : (A B : Place) → middle B A ≡ middle A B
+    swapped A B = λ i. record { X = +ℤ-comm (B .x) (A .x) i; Y = +ℤ-comm (B .y) (A .y) i; W = pos 2 }
 
     go : (b : Bool) → pos 0 <ℤ rise f (cases b (at m (e .from)) (at m (e .to))) (cases b (at m (e .to)) (at m (e .from))) →
-        Strictly f (cases b (at m (e .from)) (at m (e .to))) (cases b (at m (e .to)) (at m (e .from))) (middle m e)
+        Strictly f (cases b (at m (e .from)) (at m (e .to))) (cases b (at m (e .to)) (at m (e .from))) (middleOf m e)
     go true h = middle-between f (at m (e .from)) (at m (e .to)) h
     go false h = subst (Strictly f (at m (e .to)) (at m (e .from))) (swapped (at m (e .from)) (at m (e .to))) (middle-between f (at m (e .to)) (at m (e .from)) h)
 
@@ -182,11 +174,11 @@ middle-on f m e n = go (upward f m e) (low-high f m e n)
 pub record Lone (f : Form) (m : Mesh) (ts : List Tri) (e : Arrow) : Type 0 where
   pub slanted : Slanted f m e
   pub clear : All (ClearArrow f m (lowEnd f m e) (highEnd f m e)) (others e (border ts))
-  pub middle-free : All (Free f m (middle m e)) (others e (border ts))
+  pub middle-free : All (Free f m (middleOf m e)) (others e (border ts))
 
 -- what the other border arrows come to at e's middle
 abbrev pub othersAt : Form → Mesh → List Tri → Arrow → ℤ
-othersAt f m ts e = added (underArrow f m (middle m e)) (others e (border ts))
+othersAt f m ts e = added (underArrow f m (middleOf m e)) (others e (border ts))
 
 -- and no row lies just right of e: the others come to what e itself takes away there
 pub record Bare (f : Form) (m : Mesh) (ts : List Tri) (e : Arrow) : Type 0 where
@@ -227,11 +219,7 @@ module _ (f : Form) (m : Mesh) (ts : List Tri) (no-twice : Once (arrowsOf ts)) (
     rest = and-right (behind f (A′ e) s) (not (behind f (B′ e) s) && above (A′ e) (B′ e) s) below
 
     high-not : behind f (B′ e) s ≡ false
-    high-not = go (behind f (B′ e) s) (and-left (not (behind f (B′ e) s)) (above (A′ e) (B′ e) s) rest)
-      where
-        go : (b : Bool) → not b ≡ true → b ≡ false
-        go true h = clash (sym h)
-        go false h = refl
+    high-not = not-true (behind f (B′ e) s) (and-left (not (behind f (B′ e) s)) (above (A′ e) (B′ e) s) rest)
 
     spans : Spans f (A′ e) (B′ e) s
     spans = record {
@@ -250,10 +238,7 @@ module _ (f : Form) (m : Mesh) (ts : List Tri) (no-twice : Once (arrowsOf ts)) (
     foot-on = spot-strictly f (A′ e) (B′ e) s up spans
 
     scaled-not : (a x : ℤ) → pos 0 <ℤ a → x ≢ pos 0 → a *ℤ x ≢ pos 0
-    scaled-not a x h n = sign-product a x (λ g. positive-not a h g) n .1
-      where
-        positive-not : (a : ℤ) → pos 0 <ℤ a → a ≡ pos 0 → ⊥
-        positive-not a h g = omega (arith, onℤ)
+    scaled-not a x h n = sign-product a x (above-not h) n .1
 
     free-at : (v : Place) → ahead f v s ≢ pos 0 → ahead f v foot ≢ pos 0
     free-at v n g = scaled-not (rise f (A′ e) (B′ e)) (ahead f v s) up n (sym (spot-ahead f (A′ e) (B′ e) s v) ∙ g)
@@ -274,7 +259,7 @@ module _ (f : Form) (m : Mesh) (ts : List Tri) (no-twice : Once (arrowsOf ts)) (
     others-sum =
         added-eq (underArrow f m s) (underArrow f m foot)
         (All-imp (λ d (b, (g, (c, n))). same-foot d b g c n) (All-both (kept bare) (All-both (kept free) (All-both (own .lone .clear) (kept nearest))))) ∙
-        beside f m ts no-twice (A′ e) (B′ e) up e (arrow-ends f m e) (middle m e) foot (middle-on f m e (own .lone .slanted)) foot-on
+        beside f m ts no-twice (A′ e) (B′ e) up e (arrow-ends f m e) (middleOf m e) foot (middle-on f m e (own .lone .slanted)) foot-on
         (All-imp (λ d (c, (p, g)). (c, p, free-foot d g)) (All-both (own .lone .clear) (All-both (own .lone .middle-free) (kept free)))) ∙
         own .nothing
       where
@@ -302,20 +287,14 @@ module _ (f : Form) (m : Mesh) (ts : List Tri) (no-twice : Once (arrowsOf ts)) (
 -- ---- at most one row
 
 -- of a point off the rows no border arrow's end has the key
-pub free-border : (f : Form) (m : Mesh) (s : Point) → OffRows f m s → All (Free f m s) (border (m .tris))
+free-border : (f : Form) (m : Mesh) (s : Point) → OffRows f m s → All (Free f m s) (border (m .tris))
 free-border f m s off = only-keeps _ (All-joined arrows (All-imp row off))
   where
-    not-zero : (v : Place) → key f v *ℤ s .W ≢ keyAt f s → ahead f v s ≢ pos 0
-    not-zero v n e = n (equal (keyAt f s) (key f v *ℤ s .W) e)
-      where
-        equal : (a b : ℤ) → a -ℤ b ≡ pos 0 → b ≡ a
-        equal a b e = omega (arith, onℤ, subℤ a b)
-
     row : (t : Tri) → Off f (shape m t) s → All (Free f m s) (arrows t)
     row t o =
-        let p = not-zero (at m (t .p)) (o .key-p) in
-        let q = not-zero (at m (t .q)) (o .key-q) in
-        let r = not-zero (at m (t .r)) (o .key-r) in
+        let p = ahead-not f (at m (t .p)) s (o .key-p) in
+        let q = ahead-not f (at m (t .q)) s (o .key-q) in
+        let r = ahead-not f (at m (t .r)) s (o .key-r) in
         cons (record { from-free = p; to-free = q }) (cons (record { from-free = q; to-free = r }) (cons (record { from-free = r; to-free = p }) nil))
 
 -- where no border arrow is met and no row lies just right of one, no point off the lines is inside two rows

@@ -10,21 +10,25 @@ use native.Mathlib.Decide.{decLt}
 use lib.IntN.{ℤ, pos, negsuc, natAbs, _+ℤ_, _-ℤ_, _*ℤ_}
 use lib.ListN.{length, getD}
 use lib.Signed.{_<ℤ_}
-use Rattle.whole.specs.Diff.{onℤ, sumℤ, subℤ, mulℤ}
+use Rattle.whole.specs.Diff.{onℤ, sumℤ, mulℤ}
 use Rattle.whole.specs.Bound.{absℤ, abs-sub, abs-mul}
-use Rattle.whole.specs.Ring.{K, _:+_, _:-_, _:*_, ring4, ring8, ring9}
+use Rattle.whole.specs.Ring.{K, _:+_, _:-_, _:*_, ring8, ring9}
+use Rattle.whole.specs.Order.{positive-times}
 use Rattle.lists.specs.Lists.{count}
-use Rattle.lists.specs.ListsLaw.{All-at, All-of, All-getD}
+use Rattle.lists.specs.ListsLaw.{All-at, All-of}
 use Rattle.lists.specs.MembersLaw.{mem-at, at-mem}
 use Rattle.lists.specs.Tally.{bit, count-tally}
 use Rattle.meaning.specs.declared.Place.{Place}
 use Rattle.meaning.specs.declared.Tri.{Tri}
-use Rattle.meaning.specs.Mesh.{Mesh, at, turn, twiceArea, tri, origin}
+use Rattle.meaning.specs.Mesh.{Mesh, at, turn, twiceArea, tri}
 use Rattle.meaning.specs.Lawful.{InRange, Lawful, rowOf}
 use Rattle.meaning.specs.Proper.{Shape, Point, Inside, Share, shape, left}
-use Rattle.laws.specs.Area.{Turn, turn-cycle}
+use Rattle.laws.specs.Area.{turn-cycle}
 use Rattle.laws.specs.Pairs.{two-places}
-use Rattle.border.specs.Under.{Off, Left, key, keyAt, ahead, inside, yes-inside, times-above}
+use Rattle.border.specs.Keys.{place-range, near-x, near-y}
+use Rattle.border.specs.Places.{place-eq, apart-of-turn}
+use Rattle.border.specs.Signs.{zero-of-equal, equal-of-zero}
+use Rattle.border.specs.Under.{Off, Left, key, keyAt, ahead, inside, yes-inside}
 use Rattle.border.specs.Count.{depth, OffRows}
 use Rattle.border.specs.Clear.{steep}
 
@@ -40,61 +44,16 @@ module _ (n : ℕ) (e : ℤ) (small : natAbs e < n) where
   still-below (pos k) h = absurd (omega (arith, onℤ))
   still-below (negsuc k) h = omega (arith, onℤ, absℤ e, mulℤ (pos n) (negsuc k), sumℤ (pos n *ℤ negsuc k) e)
 
-  pub never-zero : e ≢ pos 0 → (z : ℤ) → pos n *ℤ z +ℤ e ≢ pos 0
+  never-zero : e ≢ pos 0 → (z : ℤ) → pos n *ℤ z +ℤ e ≢ pos 0
   never-zero d (pos zero) h = d (omega (arith, onℤ, mulℤ (pos n) (pos 0), sumℤ (pos n *ℤ pos 0) e))
   never-zero d (pos (suc k)) h = let l = still-above (pos (suc k)) (omega (arith, onℤ)) in omega (arith, onℤ)
   never-zero d (negsuc k) h = let l = still-below (negsuc k) (omega (arith, onℤ)) in omega (arith, onℤ)
-
--- ---- places in range
-
--- how far two places in range are apart, along x and along y
-module _ {A B : Place} (a : InRange A) (b : InRange B) where
-  pub near-x : natAbs (B .x -ℤ A .x) ≤ 2_097_152
-  near-x = abs-sub (B .x) (A .x) (b .x-near) (a .x-near)
-
-  pub near-y : natAbs (B .y -ℤ A .y) ≤ 2_097_152
-  near-y = abs-sub (B .y) (A .y) (b .y-near) (a .y-near)
-
-same-place : {A B : Place} → A .x ≡ B .x → A .y ≡ B .y → A ≡ B
-same-place e f = λ i. record { x = e i; y = f i }
 
 -- a great number times d is no small number, but where both are 0
 no-multiple : (n : ℕ) (d e : ℤ) → natAbs e < n → d *ℤ pos n ≡ e → d ≡ pos 0
 no-multiple n (pos zero) e l h = refl
 no-multiple n (pos (suc k)) e l h = absurd (omega (arith, onℤ, absℤ e))
 no-multiple n (negsuc k) e l h = absurd (omega (arith, onℤ, absℤ e, mulℤ (negsuc k) (pos n)))
-
-no-difference : (a b : ℤ) → b -ℤ a ≡ pos 0 → a ≡ b
-no-difference a b h = omega (arith, onℤ, subℤ b a)
-
--- different places in range have different keys
-pub steep-apart : {A B : Place} → InRange A → InRange B → key steep A ≡ key steep B → A ≡ B
-steep-apart {A} {B} a b h = same-place ex ey
-  where
-    parts : (ax ay bx by : ℤ) → pos 8_388_608 *ℤ ax +ℤ pos 1 *ℤ ay ≡ pos 8_388_608 *ℤ bx +ℤ pos 1 *ℤ by → (bx -ℤ ax) *ℤ pos 8_388_608 ≡ ay -ℤ by
-    parts ax ay bx by h = omega (
-      arith,
-      onℤ,
-      mulℤ (pos 8_388_608) ax,
-      mulℤ (pos 1) ay,
-      mulℤ (pos 8_388_608) bx,
-      mulℤ (pos 1) by,
-      sumℤ (pos 8_388_608 *ℤ ax) (pos 1 *ℤ ay),
-      sumℤ (pos 8_388_608 *ℤ bx) (pos 1 *ℤ by),
-      subℤ bx ax,
-      subℤ ay by,
-      mulℤ (bx -ℤ ax) (pos 8_388_608),
-    )
-
-    dx : B .x -ℤ A .x ≡ pos 0
-    dx = no-multiple 8_388_608 (B .x -ℤ A .x) (A .y -ℤ B .y) (omega (arith, near-y b a)) (parts (A .x) (A .y) (B .x) (B .y) h)
-
-    ex : A .x ≡ B .x
-    ex = no-difference (A .x) (B .x) dx
-
-    ey : A .y ≡ B .y
-    ey = let p = parts (A .x) (A .y) (B .x) (B .y) h in
-        sym (no-difference (B .y) (A .y) (sym p ∙ ap (λ d. d *ℤ pos 8_388_608) dx))
 
 -- ---- nudging
 
@@ -106,12 +65,12 @@ nudged s = record { X = pos 35_184_372_088_832 *ℤ s .X +ℤ pos 1; Y = pos 35_
 abbrev shifted : Place → Place → ℤ
 shifted A B = (B .x -ℤ A .x) *ℤ pos 4_194_304 -ℤ (B .y -ℤ A .y)
 
-pub left-nudged : (A B : Place) (s : Point) → left A B (nudged s) ≡ pos 35_184_372_088_832 *ℤ left A B s +ℤ shifted A B
+left-nudged : (A B : Place) (s : Point) → left A B (nudged s) ≡ pos 35_184_372_088_832 *ℤ left A B s +ℤ shifted A B
 left-nudged A B s =
     ring9 (λ a b c d X Y W n h. (Left a b c d (n :* X :+ K (pos 1)) (n :* Y :+ h) (n :* W), n :* Left a b c d X Y W :+ ((c :- a) :* h :- (d :- b))))
     (A .x) (A .y) (B .x) (B .y) (s .X) (s .Y) (s .W) (pos 35_184_372_088_832) (pos 4_194_304) tt
 
-pub ahead-nudged : (A : Place) (s : Point) → ahead steep A (nudged s) ≡ pos 35_184_372_088_832 *ℤ ahead steep A s +ℤ pos 12_582_912
+ahead-nudged : (A : Place) (s : Point) → ahead steep A (nudged s) ≡ pos 35_184_372_088_832 *ℤ ahead steep A s +ℤ pos 12_582_912
 ahead-nudged A s =
     ring8 (λ x y X Y W n f h. (
       (f :* (n :* X :+ K (pos 1)) :+ K (pos 1) :* (n :* Y :+ h)) :- (f :* x :+ K (pos 1) :* y) :* (n :* W),
@@ -125,16 +84,13 @@ module _ {A B : Place} (a : InRange A) (b : InRange B) where
 
   shifted-some : A ≢ B → shifted A B ≢ pos 0
   shifted-some d e =
-      let w = no-difference (B .y -ℤ A .y) ((B .x -ℤ A .x) *ℤ pos 4_194_304) e in
+      let w = sym (equal-of-zero ((B .x -ℤ A .x) *ℤ pos 4_194_304) (B .y -ℤ A .y) e) in
       let u = no-multiple 4_194_304 (B .x -ℤ A .x) (B .y -ℤ A .y) (omega (arith, near-y a b)) (sym w) in
-      d (same-place (no-difference (A .x) (B .x) u) (no-difference (A .y) (B .y) (w ∙ ap (λ k. k *ℤ pos 4_194_304) u)))
+      d (sym (place-eq (equal-of-zero (B .x) (A .x) u) (equal-of-zero (B .y) (A .y) (w ∙ ap (λ k. k *ℤ pos 4_194_304) u))))
 
   module _ (s : Point) where
     pub nudged-above : pos 0 <ℤ left A B s → pos 0 <ℤ left A B (nudged s)
     nudged-above h = subst (λ k. pos 0 <ℤ k) (sym (left-nudged A B s)) (still-above 35_184_372_088_832 (shifted A B) shifted-small (left A B s) h)
-
-    pub nudged-below : left A B s <ℤ pos 0 → left A B (nudged s) <ℤ pos 0
-    nudged-below h = subst (λ k. k <ℤ pos 0) (sym (left-nudged A B s)) (still-below 35_184_372_088_832 (shifted A B) shifted-small (left A B s) h)
 
     pub nudged-off : A ≢ B → left A B (nudged s) ≢ pos 0
     nudged-off d e = never-zero 35_184_372_088_832 (shifted A B) shifted-small (shifted-some d) (left A B s) (sym (left-nudged A B s) ∙ e)
@@ -149,28 +105,11 @@ module _ (A : Place) (s : Point) where
   pub nudged-behind : ahead steep A s <ℤ pos 0 → ahead steep A (nudged s) <ℤ pos 0
   nudged-behind h = subst (λ k. k <ℤ pos 0) (sym (ahead-nudged A s)) (still-below 35_184_372_088_832 (pos 12_582_912) small (ahead steep A s) h)
 
-  pub nudged-key : key steep A *ℤ nudged s .W ≢ keyAt steep (nudged s)
+  nudged-key : key steep A *ℤ nudged s .W ≢ keyAt steep (nudged s)
   nudged-key e =
-      never-zero 35_184_372_088_832 (pos 12_582_912) small (λ w. omega (arith, onℤ)) (ahead steep A s) (sym (ahead-nudged A s) ∙ gone (keyAt steep (nudged s)) (key steep A *ℤ nudged s .W) e)
-    where
-      gone : (a b : ℤ) → b ≡ a → a -ℤ b ≡ pos 0
-      gone a b e = omega (arith, onℤ, subℤ a b)
+      never-zero 35_184_372_088_832 (pos 12_582_912) small (λ w. omega (arith, onℤ)) (ahead steep A s) (sym (ahead-nudged A s) ∙ zero-of-equal (keyAt steep (nudged s)) (key steep A *ℤ nudged s .W) (sym e))
 
 -- ---- rows of a lawful mesh
-
-flat-twice : (A C : Place) → turn A A C ≡ pos 0
-flat-twice A C = ring4 (λ a b c d. (Turn a b a b c d, K (pos 0))) (A .x) (A .y) (C .x) (C .y) tt
-
--- a place makes no area with an edge that it ends
-pub flat-from : (A B : Place) → turn A B A ≡ pos 0
-flat-from A B = turn-cycle A B A ∙ turn-cycle B A A ∙ flat-twice A B
-
-pub flat-to : (A B : Place) → turn A B B ≡ pos 0
-flat-to A B = turn-cycle A B B ∙ flat-twice B A
-
--- places that make an area are two
-pub apart-of-turn : (A B C : Place) → pos 0 <ℤ turn A B C → A ≢ B
-apart-of-turn A B C h e = let f : turn A B C ≡ pos 0 = ap (λ P. turn A P C) (sym e) ∙ flat-twice A C in omega (arith, onℤ)
 
 -- a triangle of places in range, to the left
 pub record Upright (t : Shape) : Type 0 where
@@ -188,32 +127,28 @@ roundShape t = record { p = t .q; q = t .r; r = t .p }
 pub upright-round : {t : Shape} → Upright t → Upright (roundShape t)
 upright-round u = record { p-in = u .q-in; q-in = u .r-in; r-in = u .p-in; pqr = u .qrp; qrp = u .rpq; rpq = u .pqr }
 
-pub place-range : (m : Mesh) → Lawful m → (k : ℕ) → k < length (m .nodes) → InRange (at m k)
-place-range m law k h = All-getD (law .range) k origin h .place-in
-
 pub row-upright : (m : Mesh) → Lawful m → {t : Tri} → List·Memᴰ t (m .tris) → Upright (shape m t)
 unfolding twiceArea
 row-upright m law {t} i =
-    let N = All-at (law .named) i in
     let h = All-at (law .positive) i in
     let P = at m (t .p) in
     let Q = at m (t .q) in
     let R = at m (t .r) in
     record {
-      p-in = place-range m law (t .p) (N .p-below);
-      q-in = place-range m law (t .q) (N .q-below);
-      r-in = place-range m law (t .r) (N .r-below);
+      p-in = place-range m law (t .p);
+      q-in = place-range m law (t .q);
+      r-in = place-range m law (t .r);
       pqr = h;
       qrp = subst (λ k. pos 0 <ℤ k) (turn-cycle P Q R) h;
       rpq = subst (λ k. pos 0 <ℤ k) (turn-cycle P Q R ∙ turn-cycle Q R P) h;
     }
 
-pub nudged-weight : (s : Point) → pos 0 <ℤ s .W → pos 0 <ℤ nudged s .W
-nudged-weight s w = times-above (pos 35_184_372_088_832) (s .W) (omega (arith, onℤ)) w
+nudged-weight : (s : Point) → pos 0 <ℤ s .W → pos 0 <ℤ nudged s .W
+nudged-weight s w = positive-times (pos 35_184_372_088_832) (s .W) (omega (arith, onℤ)) w
 
 -- a nudged point is off a row, and inside where the point was
 module _ {t : Shape} (u : Upright t) (s : Point) where
-  pub nudged-clear : pos 0 <ℤ s .W → Off steep t (nudged s)
+  nudged-clear : pos 0 <ℤ s .W → Off steep t (nudged s)
   nudged-clear w = record {
     weight = nudged-weight s w;
     off-pq = nudged-off (u .p-in) (u .q-in) s (apart-of-turn (t .p) (t .q) (t .r) (u .pqr));
@@ -242,7 +177,7 @@ module _ {A : Type 0} (f : A → Bool) (d : A) (l : List A) where
   count-two i j h k e g = omega (arith, two-places (λ x. bit (f x)) l d i j h k, count-tally f l, ap bit e, ap bit g)
 
   -- two different members that pass are two
-  pub count-different : {x y : A} → List·Memᴰ x l → List·Memᴰ y l → x ≢ y → f x ≡ true → f y ≡ true → 2 ≤ count f l
+  count-different : {x y : A} → List·Memᴰ x l → List·Memᴰ y l → x ≢ y → f x ≡ true → f y ≡ true → 2 ≤ count f l
   count-different {x} {y} i j n e g = go (mem-at d i) (mem-at d j)
     where
       go : (k : ℕ) × (k < length l) × (getD l k d ≡ x) → (k : ℕ) × (k < length l) × (getD l k d ≡ y) → 2 ≤ count f l

@@ -1,18 +1,19 @@
 -- Points of a segment: between two of them nothing changes sides that does not meet the segment. Assumes nothing.
 use mathlib.Core.Bool.{Bool, true, false}
 use mathlib.Core.Logic.{_≢_}
-use mathlib.Core.Path.{_≡_, refl, sym, ap, ap₂, subst, _∙_}
+use mathlib.Core.Path.{_≡_, refl, sym, ap₂, subst, _∙_}
 use native.Mathlib.Omega.{arith}
 use lib.IntN.{ℤ, pos, negℤ, _+ℤ_, _-ℤ_, _*ℤ_}
 use lib.Signed.{ltZ, _≤ℤ_, _<ℤ_}
-use Rattle.whole.specs.Diff.{onℤ, sumℤ, subℤ, negℤ-ud}
-use Rattle.whole.specs.Ring.{Expr, K, _:+_, _:-_, _:*_, neg, ring2, ring3, ring4, ring6, ring8, ring9, ring10, combine₁}
+use Rattle.whole.specs.Diff.{onℤ, sumℤ}
+use Rattle.whole.specs.Ring.{Expr, K, _:+_, _:-_, _:*_, neg, ring2, ring4, ring6, ring8, ring9, ring10, combine₁}
 use Rattle.whole.specs.Tests.{ltZ-true}
-use Rattle.whole.specs.Order.{scale-le}
+use Rattle.whole.specs.Order.{positive-times, nonneg-times, nonpos-times, negative-times}
 use Rattle.meaning.specs.declared.Place.{Place}
 use Rattle.meaning.specs.Mesh.{turn}
 use Rattle.meaning.specs.Proper.{Point, left}
-use Rattle.border.specs.Under.{Form, key, keyAt, ahead, Left, times-above, below-zero}
+use Rattle.border.specs.Signs.{minus-above, below-zero, below-of-minus, lt-le}
+use Rattle.border.specs.Under.{Form, key, keyAt, ahead, Left}
 
 -- ---- a point between two
 
@@ -51,7 +52,7 @@ ahead-joint f A s t =
     ring10 (λ f g ax ay x y w u v z. (Ahead f g ax ay (x :+ u) (y :+ v) (w :+ z), Ahead f g ax ay x y w :+ Ahead f g ax ay u v z))
     (f .along) (f .across) (A .x) (A .y) (s .X) (s .Y) (s .W) (t .X) (t .Y) (t .W) tt
 
-pub ahead-mix : (f : Form) (A : Place) (a b : ℤ) (s t : Point) → ahead f A (mix a s b t) ≡ a *ℤ ahead f A s +ℤ b *ℤ ahead f A t
+ahead-mix : (f : Form) (A : Place) (a b : ℤ) (s t : Point) → ahead f A (mix a s b t) ≡ a *ℤ ahead f A s +ℤ b *ℤ ahead f A t
 ahead-mix f A a b s t = ahead-joint f A (scaled a s) (scaled b t) ∙ ap₂ _+ℤ_ (ahead-scaled f A a s) (ahead-scaled f A b t)
 
 -- ---- on a segment; the key of A is the lower
@@ -76,46 +77,33 @@ Apart f A B C D = (s : Point) → Strictly f A B s → Within f C D s → left C
 
 mean-above : (a b x y : ℤ) → pos 0 <ℤ a → pos 0 <ℤ b → pos 0 <ℤ x → pos 0 <ℤ y → pos 0 <ℤ (a *ℤ x +ℤ b *ℤ y)
 mean-above a b x y ha hb hx hy =
-    let p = times-above a x ha hx in
-    let q = times-above b y hb hy in
+    let p = positive-times a x ha hx in
+    let q = positive-times b y hb hy in
     omega (arith, onℤ, sumℤ (a *ℤ x) (b *ℤ y))
 
 mean-below : (a b x y : ℤ) → pos 0 <ℤ a → pos 0 <ℤ b → x <ℤ pos 0 → y <ℤ pos 0 → (a *ℤ x +ℤ b *ℤ y) <ℤ pos 0
 mean-below a b x y ha hb hx hy =
-    let p = mean-above a b (negℤ x) (negℤ y) ha hb (omega (arith, onℤ, negℤ-ud x)) (omega (arith, onℤ, negℤ-ud y)) in
+    let p = mean-above a b (negℤ x) (negℤ y) ha hb (minus-above x hx) (minus-above y hy) in
     let e : a *ℤ negℤ x +ℤ b *ℤ negℤ y ≡ negℤ (a *ℤ x +ℤ b *ℤ y) = ring4 (λ a b x y. (a :* neg x :+ b :* neg y, neg (a :* x :+ b :* y))) a b x y tt in
-    below (a *ℤ x +ℤ b *ℤ y) (subst (λ k. pos 0 <ℤ k) e p)
-  where
-    below : (z : ℤ) → pos 0 <ℤ negℤ z → z <ℤ pos 0
-    below z h = omega (arith, onℤ, negℤ-ud z)
-
-times-from : (a x : ℤ) → pos 0 <ℤ a → pos 0 ≤ℤ x → pos 0 ≤ℤ (a *ℤ x)
-times-from a x h l =
-    let e : pos 0 *ℤ a ≡ pos 0 = ring2 (λ a x. (K (pos 0) :* a, K (pos 0))) a x tt in
-    let g : x *ℤ a ≡ a *ℤ x = ring2 (λ a x. (x :* a, a :* x)) a x tt in
-    let p : (pos 0 *ℤ a) ≤ℤ (x *ℤ a) = scale-le a (pos 0) x (omega (arith, onℤ)) l in
-    omega (arith, onℤ)
+    below-of-minus (a *ℤ x +ℤ b *ℤ y) (subst (λ k. pos 0 <ℤ k) e p)
 
 mean-from : (a b x y : ℤ) → pos 0 <ℤ a → pos 0 <ℤ b → pos 0 ≤ℤ x → pos 0 ≤ℤ y → pos 0 ≤ℤ (a *ℤ x +ℤ b *ℤ y)
 mean-from a b x y ha hb hx hy =
-    let p = times-from a x ha hx in
-    let q = times-from b y hb hy in
+    let p = nonneg-times a x (lt-le ha) hx in
+    let q = nonneg-times b y (lt-le hb) hy in
     omega (arith, onℤ, sumℤ (a *ℤ x) (b *ℤ y))
 
 mean-to : (a b x y : ℤ) → pos 0 <ℤ a → pos 0 <ℤ b → x ≤ℤ pos 0 → y ≤ℤ pos 0 → (a *ℤ x +ℤ b *ℤ y) ≤ℤ pos 0
 mean-to a b x y ha hb hx hy =
-    let p = mean-from a b (negℤ x) (negℤ y) ha hb (omega (arith, onℤ, negℤ-ud x)) (omega (arith, onℤ, negℤ-ud y)) in
-    let e : a *ℤ negℤ x +ℤ b *ℤ negℤ y ≡ negℤ (a *ℤ x +ℤ b *ℤ y) = ring4 (λ a b x y. (a :* neg x :+ b :* neg y, neg (a :* x :+ b :* y))) a b x y tt in
-    upto (a *ℤ x +ℤ b *ℤ y) (subst (λ k. pos 0 ≤ℤ k) e p)
-  where
-    upto : (z : ℤ) → pos 0 ≤ℤ negℤ z → z ≤ℤ pos 0
-    upto z h = omega (arith, onℤ, negℤ-ud z)
+    let p = nonpos-times a x (lt-le ha) hx in
+    let q = nonpos-times b y (lt-le hb) hy in
+    omega (arith, onℤ, sumℤ (a *ℤ x) (b *ℤ y))
 
 mean-zero : (a b x y : ℤ) → x ≡ pos 0 → y ≡ pos 0 → a *ℤ x +ℤ b *ℤ y ≡ pos 0
 mean-zero a b x y e g = rw (e, g) (ring2 (λ a b. (a :* K (pos 0) :+ b :* K (pos 0), K (pos 0))) a b tt)
 
 -- a mean of two points of the segment is one
-pub mix-strictly : (f : Form) (A B : Place) (a b : ℤ) (s t : Point) → pos 0 <ℤ a → pos 0 <ℤ b → Strictly f A B s → Strictly f A B t → Strictly f A B (mix a s b t)
+mix-strictly : (f : Form) (A B : Place) (a b : ℤ) (s t : Point) → pos 0 <ℤ a → pos 0 <ℤ b → Strictly f A B s → Strictly f A B t → Strictly f A B (mix a s b t)
 mix-strictly f A B a b s t ha hb hs ht = record {
   weight = mean-above a b (s .W) (t .W) ha hb (hs .weight) (ht .weight);
   on-line = left-mix A B a b s t ∙ mean-zero a b _ _ (hs .on-line) (ht .on-line);
@@ -123,7 +111,7 @@ mix-strictly f A B a b s t ha hb hs ht = record {
   before-high = subst (λ k. k <ℤ pos 0) (sym (ahead-mix f B a b s t)) (mean-below a b _ _ ha hb (hs .before-high) (ht .before-high));
 }
 
-pub mix-within : (f : Form) (C D : Place) (a b : ℤ) (s t : Point) → pos 0 <ℤ a → pos 0 <ℤ b → Within f C D s → Within f C D t → Within f C D (mix a s b t)
+mix-within : (f : Form) (C D : Place) (a b : ℤ) (s t : Point) → pos 0 <ℤ a → pos 0 <ℤ b → Within f C D s → Within f C D t → Within f C D (mix a s b t)
 mix-within f C D a b s t ha hb hs ht = record {
   from-low = subst (λ k. pos 0 ≤ℤ k) (sym (ahead-mix f C a b s t)) (mean-from a b _ _ ha hb (hs .from-low) (ht .from-low));
   to-high = subst (λ k. k ≤ℤ pos 0) (sym (ahead-mix f D a b s t)) (mean-to a b _ _ ha hb (hs .to-high) (ht .to-high));
@@ -141,12 +129,9 @@ module _ (f : Form) (A B C D : Place) (apart : Apart f A B C D) where
   crossing s t hs ws ht wt l r =
       let a = negℤ (left C D t) in
       let b = left C D s in
-      let ha : pos 0 <ℤ a = negative (left C D t) r in
+      let ha : pos 0 <ℤ a = minus-above (left C D t) r in
       apart (mix a s b t) (mix-strictly f A B a b s t ha l hs ht) (mix-within f C D a b s t ha l ws wt)
       (left-mix C D a b s t ∙ ring2 (λ x y. (neg y :* x :+ x :* y, K (pos 0))) (left C D s) (left C D t) tt)
-    where
-      negative : (z : ℤ) → z <ℤ pos 0 → pos 0 <ℤ negℤ z
-      negative z h = omega (arith, onℤ, negℤ-ud z)
 
   -- all points of A–B between the keys of C and D are on one side of C–D
   pub one-side : (s t : Point) → Strictly f A B s → Within f C D s → Strictly f A B t → Within f C D t → above C D s ≡ above C D t
@@ -182,14 +167,22 @@ left-start A B = ring4 (λ a b c d. (Left a b c d a b (K (pos 1)), K (pos 0))) (
 pub left-end : (A B : Place) → left A B (corner B) ≡ pos 0
 left-end A B = ring4 (λ a b c d. (Left a b c d c d (K (pos 1)), K (pos 0))) (A .x) (A .y) (B .x) (B .y) tt
 
+-- a mean of two places is on their line
+pub mix-line : (A B : Place) (a b : ℤ) → left A B (mix a (corner A) b (corner B)) ≡ pos 0
+mix-line A B a b = left-mix A B a b (corner A) (corner B) ∙ mean-zero a b (left A B (corner A)) (left A B (corner B)) (left-start A B) (left-end A B)
+
 pub ahead-corner : (f : Form) (A B : Place) → ahead f A (corner B) ≡ rise f A B
 ahead-corner f A B = ring2 (λ a b. (b :- a :* K (pos 1), b :- a)) (key f A) (key f B) tt
 
-module _ (f : Form) (A B : Place) (s : Point) where
-  pub spot-line : left A B (spot f A B s) ≡ pos 0
-  spot-line = left-mix A B (negℤ (ahead f B s)) (ahead f A s) (corner A) (corner B) ∙ mean-zero (negℤ (ahead f B s)) (ahead f A s) (left A B (corner A)) (left A B (corner B)) (left-start A B) (left-end A B)
+pub rise-vector : (f : Form) (P Q : Place) → rise f P Q ≡ f .along *ℤ (Q .x -ℤ P .x) +ℤ f .across *ℤ (Q .y -ℤ P .y)
+rise-vector f P Q =
+    ring6 (λ a b px py qx qy. ((a :* qx :+ b :* qy) :- (a :* px :+ b :* py), a :* (qx :- px) :+ b :* (qy :- py))) (f .along) (f .across) (P .x) (P .y) (Q .x) (Q .y) tt
 
-  pub spot-weight : spot f A B s .W ≡ rise f A B *ℤ s .W
+module _ (f : Form) (A B : Place) (s : Point) where
+  spot-line : left A B (spot f A B s) ≡ pos 0
+  spot-line = mix-line A B (negℤ (ahead f B s)) (ahead f A s)
+
+  spot-weight : spot f A B s .W ≡ rise f A B *ℤ s .W
   spot-weight = ring4 (λ a b k w. (neg (k :- b :* w) :* K (pos 1) :+ (k :- a :* w) :* K (pos 1), (b :- a) :* w)) (key f A) (key f B) (keyAt f s) (s .W) tt
 
   pub spot-ahead : (C : Place) → ahead f C (spot f A B s) ≡ rise f A B *ℤ ahead f C s
@@ -219,13 +212,9 @@ module _ (f : Form) (A B : Place) (s : Point) where
   ahead-vector =
       ring8 (λ a b ax ay x y w z. (Ahead a b ax ay x y w, a :* (x :- ax :* w) :+ b :* (y :- ay :* w))) (f .along) (f .across) (A .x) (A .y) (s .X) (s .Y) (s .W) (pos 0) tt
 
-  rise-vector : (P Q : Place) → rise f P Q ≡ f .along *ℤ (Q .x -ℤ P .x) +ℤ f .across *ℤ (Q .y -ℤ P .y)
-  rise-vector P Q =
-      ring6 (λ a b px py qx qy. ((a :* qx :+ b :* qy) :- (a :* px :+ b :* py), a :* (qx :- px) :+ b :* (qy :- py))) (f .along) (f .across) (P .x) (P .y) (Q .x) (Q .y) tt
-
   vectors : (C D : Place) → ahead f A s *ℤ across-ab C D ≡ rise f A B *ℤ across-s C D -ℤ rise f C D *ℤ left A B s
   vectors C D =
-      rw (ahead-vector, rise-vector A B, rise-vector C D)
+      rw (ahead-vector, rise-vector f A B, rise-vector f C D)
       (ring8 (λ a b ux uy wx wy x y. ((a :* x :+ b :* y) :* (wx :* uy :- ux :* wy), (a :* ux :+ b :* uy) :* (wx :* y :- x :* wy) :- (a :* wx :+ b :* wy) :* (ux :* y :- x :* uy)))
       (f .along) (f .across) (B .x -ℤ A .x) (B .y -ℤ A .y) (D .x -ℤ C .x) (D .y -ℤ C .y) (s .X -ℤ A .x *ℤ s .W) (s .Y -ℤ A .y *ℤ s .W) tt)
 
@@ -244,35 +233,16 @@ pub record Spans (f : Form) (A B : Place) (s : Point) : Type 0 where
   pub past-low : pos 0 <ℤ ahead f A s
   pub before-high : ahead f B s <ℤ pos 0
 
-pub times-below : (a x : ℤ) → pos 0 <ℤ a → x <ℤ pos 0 → (a *ℤ x) <ℤ pos 0
-times-below a x h l =
-    let p = times-above a (negℤ x) h (omega (arith, onℤ, negℤ-ud x)) in
-    below (a *ℤ x) (subst (λ k. pos 0 <ℤ k) (ring2 (λ a x. (a :* neg x, neg (a :* x))) a x tt) p)
-  where
-    below : (z : ℤ) → pos 0 <ℤ negℤ z → z <ℤ pos 0
-    below z h = omega (arith, onℤ, negℤ-ud z)
-
-pub times-to : (a x : ℤ) → pos 0 <ℤ a → x ≤ℤ pos 0 → (a *ℤ x) ≤ℤ pos 0
-times-to a x h l =
-    let p = times-from a (negℤ x) h (omega (arith, onℤ, negℤ-ud x)) in
-    upto (a *ℤ x) (subst (λ k. pos 0 ≤ℤ k) (ring2 (λ a x. (a :* neg x, neg (a :* x))) a x tt) p)
-  where
-    upto : (z : ℤ) → pos 0 ≤ℤ negℤ z → z ≤ℤ pos 0
-    upto z h = omega (arith, onℤ, negℤ-ud z)
-
-pub strictly-spans : (f : Form) (A B : Place) (s : Point) → Strictly f A B s → Spans f A B s
-strictly-spans f A B s h = record { weight = h .weight; past-low = h .past-low; before-high = h .before-high }
-
 pub spot-strictly : (f : Form) (A B : Place) (s : Point) → pos 0 <ℤ rise f A B → Spans f A B s → Strictly f A B (spot f A B s)
 spot-strictly f A B s r h = record {
-  weight = subst (λ k. pos 0 <ℤ k) (sym (spot-weight f A B s)) (times-above (rise f A B) (s .W) r (h .weight));
+  weight = subst (λ k. pos 0 <ℤ k) (sym (spot-weight f A B s)) (positive-times (rise f A B) (s .W) r (h .weight));
   on-line = spot-line f A B s;
-  past-low = subst (λ k. pos 0 <ℤ k) (sym (spot-ahead f A B s A)) (times-above (rise f A B) (ahead f A s) r (h .past-low));
-  before-high = subst (λ k. k <ℤ pos 0) (sym (spot-ahead f A B s B)) (times-below (rise f A B) (ahead f B s) r (h .before-high));
+  past-low = subst (λ k. pos 0 <ℤ k) (sym (spot-ahead f A B s A)) (positive-times (rise f A B) (ahead f A s) r (h .past-low));
+  before-high = subst (λ k. k <ℤ pos 0) (sym (spot-ahead f A B s B)) (negative-times (rise f A B) (ahead f B s) r (h .before-high));
 }
 
 pub spot-within : (f : Form) (A B : Place) (s : Point) → pos 0 <ℤ rise f A B → (C D : Place) → Within f C D s → Within f C D (spot f A B s)
 spot-within f A B s r C D h = record {
-  from-low = subst (λ k. pos 0 ≤ℤ k) (sym (spot-ahead f A B s C)) (times-from (rise f A B) (ahead f C s) r (h .from-low));
-  to-high = subst (λ k. k ≤ℤ pos 0) (sym (spot-ahead f A B s D)) (times-to (rise f A B) (ahead f D s) r (h .to-high));
+  from-low = subst (λ k. pos 0 ≤ℤ k) (sym (spot-ahead f A B s C)) (nonneg-times (rise f A B) (ahead f C s) (lt-le r) (h .from-low));
+  to-high = subst (λ k. k ≤ℤ pos 0) (sym (spot-ahead f A B s D)) (nonpos-times (rise f A B) (ahead f D s) (lt-le r) (h .to-high));
 }

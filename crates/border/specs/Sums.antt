@@ -2,10 +2,10 @@
 use mathlib.Core.Bool.{Bool, true, false, not, _||_}
 use mathlib.Core.List.{List, [], _∷_, _++_}
 use mathlib.Core.Path.{_≡_, refl, sym, ap, _∙_}
-use Prim.Native.Nat.{ℕ, suc, _+_, _≤_}
+use Prim.Native.Nat.{_+_, _≤_}
 use native.Mathlib.Omega.{arith}
-use lib.IntN.{ℤ, pos, negℤ, _+ℤ_, _-ℤ_}
-use Rattle.whole.specs.Diff.{onℤ, sumℤ, subℤ, negℤ-ud}
+use lib.IntN.{ℤ, pos, negℤ, _+ℤ_}
+use Rattle.whole.specs.Diff.{onℤ, sumℤ, negℤ-ud}
 use Rattle.lists.specs.Lists.{any, only, consIf, count, sucIf, joined, All, nil, cons}
 
 -- the number, where the test passes
@@ -26,18 +26,14 @@ when-neg true k = refl
 when-neg false k = refl
 
 -- four numbers, two by two
-pub exchange : (a b c d : ℤ) → (a +ℤ b) +ℤ (c +ℤ d) ≡ (a +ℤ c) +ℤ (b +ℤ d)
+exchange : (a b c d : ℤ) → (a +ℤ b) +ℤ (c +ℤ d) ≡ (a +ℤ c) +ℤ (b +ℤ d)
 exchange a b c d = omega (arith, onℤ, sumℤ a b, sumℤ c d, sumℤ (a +ℤ b) (c +ℤ d), sumℤ a c, sumℤ b d, sumℤ (a +ℤ c) (b +ℤ d))
 
-pub regroup : (a b c : ℤ) → a +ℤ (b +ℤ c) ≡ (a +ℤ b) +ℤ c
+regroup : (a b c : ℤ) → a +ℤ (b +ℤ c) ≡ (a +ℤ b) +ℤ c
 regroup a b c = omega (arith, onℤ, sumℤ a b, sumℤ b c, sumℤ a (b +ℤ c), sumℤ (a +ℤ b) c)
 
 neg-sum : (a b : ℤ) → negℤ a +ℤ negℤ b ≡ negℤ (a +ℤ b)
 neg-sum a b = omega (arith, onℤ, sumℤ a b, sumℤ (negℤ a) (negℤ b), negℤ-ud a, negℤ-ud b, negℤ-ud (a +ℤ b))
-
--- what is its own negative is 0
-pub own-negative : (a : ℤ) → a ≡ negℤ a → a ≡ pos 0
-own-negative a e = omega (arith, onℤ, negℤ-ud a)
 
 module _ {A : Type 0} where
   abbrev pub added : (A → ℤ) → List A → ℤ

@@ -1,20 +1,21 @@
--- One arrow under a point, and one triangle: the arrows of a triangle under a point come to 1 inside it and to 0 outside. Assumes nothing.
+-- One arrow under a point, and one triangle: of a point off its lines and keys, the arrows of a triangle under it come to 1 inside and to 0 outside. Assumes nothing.
 use mathlib.Core.Bool.{Bool, true, false, not, _&&_, _||_}
 use mathlib.Core.Logic.{_≢_}
-use mathlib.Core.Path.{_≡_, refl, sym, ap, ap₂, subst, _∙_}
-use Prim.Native.Nat.{ℕ, zero, suc}
+use mathlib.Core.Path.{_≡_, refl, sym, ap, subst, _∙_}
 use native.Mathlib.Omega.{arith}
-use lib.IntN.{ℤ, pos, negsuc, negℤ, _+ℤ_, _-ℤ_, _*ℤ_}
-use lib.Signed.{ltZ, leZ, _≤ℤ_, _<ℤ_}
-use Rattle.whole.specs.Diff.{onℤ, sumℤ, subℤ, mulℤ, negℤ-ud}
-use Rattle.whole.specs.Ring.{Expr, K, _:+_, _:-_, _:*_, neg, ring2, ring3, ring6, ring8, ring9}
-use Rattle.whole.specs.Tests.{ltZ-true, ltZ-false, leZ-true, lt-ltZ, le-ltZ, tests}
-use Rattle.whole.specs.Order.{le-antisymm, scale-lt}
-use Rattle.lists.specs.ListsLaw.{clash, and-both, and-left, and-right, both-ways}
+use lib.IntN.{ℤ, pos, negℤ, _+ℤ_, _-ℤ_, _*ℤ_}
+use lib.Signed.{ltZ, _<ℤ_}
+use Rattle.whole.specs.Diff.{onℤ, sumℤ}
+use Rattle.whole.specs.Ring.{Expr, K, _:+_, _:-_, _:*_, neg, ring2, ring8, ring9}
+use Rattle.whole.specs.Tests.{ltZ-true, lt-ltZ, tests}
+use Rattle.whole.specs.Order.{positive-times}
+use Rattle.lists.specs.ListsLaw.{clash, and-both, and-left, and-right}
 use Rattle.meaning.specs.declared.Place.{Place}
 use Rattle.meaning.specs.Good.{sameZ}
 use Rattle.meaning.specs.Proper.{Shape, Point, Inside, area, left}
-use Rattle.border.specs.Sums.{when, one}
+use Rattle.laws.specs.Star.{sameZ-eq}
+use Rattle.border.specs.Signs.{below-zero, equal-of-zero, sign-product, difference-swapped, not-lt, neg-above, agree, lt-zero}
+use Rattle.border.specs.Sums.{one}
 
 -- ---- definitions
 
@@ -63,9 +64,6 @@ pub record Off (f : Form) (t : Shape) (s : Point) : Type 0 where
 
 -- ---- an arrow the other way round
 
-pub difference-swapped : (a b : ℤ) → b -ℤ a ≡ negℤ (a -ℤ b)
-difference-swapped a b = omega (arith, onℤ, subℤ a b, subℤ b a, negℤ-ud (a -ℤ b))
-
 pub under-swapped : (f : Form) (A B : Place) (s : Point) → under f B A s ≡ negℤ (under f A B s)
 unfolding under
 under-swapped f A B s = difference-swapped (one (rises f A B s)) (one (rises f B A s))
@@ -74,57 +72,6 @@ pub left-swapped : (A B : Place) (s : Point) → left B A s ≡ negℤ (left A B
 left-swapped A B s =
     ring8 (λ a b c d X Y W n. ((a :- c) :* (Y :- d :* W) :- (X :- c :* W) :* (b :- d), neg ((c :- a) :* (Y :- b :* W) :- (X :- a :* W) :* (d :- b))))
     (A .x) (A .y) (B .x) (B .y) (s .X) (s .Y) (s .W) (pos 0) tt
-
--- ---- tests of numbers that are not 0
-
-pub not-lt : (a b : ℤ) → a ≢ b → ltZ b a ≡ not (ltZ a b)
-not-lt a b n = go (ltZ a b) refl
-  where
-    go : (t : Bool) → ltZ a b ≡ t → ltZ b a ≡ not t
-    go true e = le-ltZ b a (let l = ltZ-true a b e in omega (arith, onℤ))
-    go false e = swap (ltZ b a) refl
-      where
-        swap : (u : Bool) → ltZ b a ≡ u → u ≡ true
-        swap true w = refl
-        swap false w = absurd (n (le-antisymm (ltZ-false b a w) (ltZ-false a b e)))
-
-pub below-zero : (a : ℤ) → a ≢ pos 0 → ltZ (pos 0) a ≡ false → a <ℤ pos 0
-below-zero a n e = ltZ-true a (pos 0) (not-lt (pos 0) a (λ w. n (sym w)) ∙ ap not e)
-
-pub lt-zero : (a b : ℤ) → ltZ a b ≡ ltZ (pos 0) (b -ℤ a)
-lt-zero a b = both-ways _ _ (λ e. lt-ltZ (pos 0) (b -ℤ a) (let l = ltZ-true a b e in omega (arith, onℤ, subℤ b a)))
-    (λ e. lt-ltZ a b (let l = ltZ-true (pos 0) (b -ℤ a) e in omega (arith, onℤ, subℤ b a)))
-
--- the two tests agree
-abbrev agree : Bool → Bool → Bool
-agree true b = b
-agree false b = not b
-
-lt-not : {z : ℤ} → z <ℤ pos 0 → ltZ (pos 0) z ≡ false
-lt-not {z} h = le-ltZ (pos 0) z (omega (arith, onℤ))
-
-positive : (a : ℕ) → ltZ (pos 0) (pos (suc a)) ≡ true
-positive a = lt-ltZ (pos 0) (pos (suc a)) (omega (arith, onℤ))
-
-pub sign-product : (a b : ℤ) → a ≢ pos 0 → b ≢ pos 0 → (ltZ (pos 0) (a *ℤ b) ≡ agree (ltZ (pos 0) a) (ltZ (pos 0) b)) × (a *ℤ b ≢ pos 0)
-sign-product (pos zero) b h i = absurd (h refl)
-sign-product (pos (suc a)) (pos zero) h i = absurd (i refl)
-sign-product (pos (suc a)) (pos (suc b)) h i =
-    let l : pos 0 <ℤ (pos (suc a) *ℤ pos (suc b)) = omega (arith, onℤ) in
-    (lt-ltZ _ _ l ∙ sym (ap₂ agree (positive a) (positive b)), λ e. omega (arith, onℤ))
-sign-product (pos (suc a)) (negsuc b) h i =
-    let l : (pos (suc a) *ℤ negsuc b) <ℤ pos 0 = omega (arith, onℤ, mulℤ (pos (suc a)) (negsuc b)) in
-    (lt-not l ∙ sym (ap (λ c. agree c false) (positive a)), λ e. omega (arith, onℤ))
-sign-product (negsuc a) (pos zero) h i = absurd (i refl)
-sign-product (negsuc a) (pos (suc b)) h i =
-    let l : (negsuc a *ℤ pos (suc b)) <ℤ pos 0 = omega (arith, onℤ, mulℤ (negsuc a) (pos (suc b))) in
-    (lt-not l ∙ sym (ap not (positive b)), λ e. omega (arith, onℤ))
-sign-product (negsuc a) (negsuc b) h i =
-    let l : pos 0 <ℤ (negsuc a *ℤ negsuc b) = omega (arith, onℤ) in
-    (lt-ltZ _ _ l, λ e. omega (arith, onℤ))
-
-pub times-above : (a b : ℤ) → pos 0 <ℤ a → pos 0 <ℤ b → pos 0 <ℤ (a *ℤ b)
-times-above a b h i = ltZ-true (pos 0) (a *ℤ b) (sign-product a b (λ e. omega (arith, onℤ)) (λ e. omega (arith, onℤ)) .0 ∙ ap₂ agree (lt-ltZ _ _ h) (lt-ltZ _ _ i))
 
 -- ---- six signs
 
@@ -156,9 +103,6 @@ around-holds u v w l m n =
     (every-at (λ w. every (λ l. every (λ m. every (λ n. around u v w l m n))))
     (every-at (λ v. every (λ w. every (λ l. every (λ m. every (λ n. around u v w l m n)))))
     (every-at (λ u. every (λ v. every (λ w. every (λ l. every (λ m. every (λ n. around u v w l m n)))))) refl u) v) w) l) m) n
-
-pub sameZ-eq : (a b : ℤ) → sameZ a b ≡ true → a ≡ b
-sameZ-eq a b t = le-antisymm (leZ-true a b (and-left (leZ a b) (leZ b a) t)) (leZ-true b a (and-right (leZ a b) (leZ b a) t))
 
 six-signs : (u v w l m n : Bool) → l || (m || n) ≡ true → sameSigns (agree m u) (agree n v) (agree l w) ≡ false →
     step u v l +ℤ (step v w m +ℤ step w u n) ≡ one (l && (m && n))
@@ -251,14 +195,8 @@ weighted f t s =
 
 -- ---- one triangle
 
-neg-above : (z : ℤ) → z ≢ pos 0 → ltZ (pos 0) (negℤ z) ≡ not (ltZ (pos 0) z)
-neg-above z n = both-ways (ltZ (pos 0) (negℤ z)) (ltZ z (pos 0))
-    (λ e. lt-ltZ z (pos 0) (let l = ltZ-true (pos 0) (negℤ z) e in omega (arith, onℤ, negℤ-ud z)))
-    (λ e. lt-ltZ (pos 0) (negℤ z) (let l = ltZ-true z (pos 0) e in omega (arith, onℤ, negℤ-ud z))) ∙
-    not-lt (pos 0) z (λ e. n (sym e))
-
 -- where neither end has the point's key and the point is not on the line, three signs say it all
-pub under-step : (f : Form) (A B : Place) (s : Point) → key f A *ℤ s .W ≢ keyAt f s → key f B *ℤ s .W ≢ keyAt f s → left A B s ≢ pos 0 →
+under-step : (f : Form) (A B : Place) (s : Point) → key f A *ℤ s .W ≢ keyAt f s → key f B *ℤ s .W ≢ keyAt f s → left A B s ≢ pos 0 →
     under f A B s ≡ step (ltZ (pos 0) (ahead f A s)) (ltZ (pos 0) (ahead f B s)) (ltZ (pos 0) (left A B s))
 unfolding under
 under-step f A B s a b l =
@@ -269,11 +207,8 @@ under-step f A B s a b l =
     let r = ap (ltZ (pos 0)) (left-swapped A B s) ∙ neg-above (left A B s) l in
     λ i. one (pA i && bB i && ltZ (pos 0) (left A B s)) -ℤ one (pB i && bA i && r i)
 
-ahead-not : (f : Form) (A : Place) (s : Point) → key f A *ℤ s .W ≢ keyAt f s → ahead f A s ≢ pos 0
-ahead-not f A s n e = n (let a = keyAt f s in let b = key f A *ℤ s .W in equal a b e)
-  where
-    equal : (a b : ℤ) → a -ℤ b ≡ pos 0 → b ≡ a
-    equal a b e = omega (arith, onℤ, subℤ a b)
+pub ahead-not : (f : Form) (A : Place) (s : Point) → key f A *ℤ s .W ≢ keyAt f s → ahead f A s ≢ pos 0
+ahead-not f A s n e = n (sym (equal-of-zero (keyAt f s) (key f A *ℤ s .W) e))
 
 -- the arrows of a triangle under a point come to 1 if it is inside, else to 0
 pub one-triangle : (f : Form) (t : Shape) (s : Point) → pos 0 <ℤ area t → Off f t s →
@@ -283,7 +218,7 @@ one-triangle f t s h o =
     (under-step f (t .q) (t .r) s (o .key-q) (o .key-r) (o .off-qr) i +ℤ under-step f (t .r) (t .p) s (o .key-r) (o .key-p) (o .off-rp) i)) ∙
     numbers (ahead f (t .p) s) (ahead f (t .q) s) (ahead f (t .r) s) (left (t .p) (t .q) s) (left (t .q) (t .r) s) (left (t .r) (t .p) s)
     (ahead-not f (t .p) s (o .key-p)) (ahead-not f (t .q) s (o .key-q)) (ahead-not f (t .r) s (o .key-r)) (o .off-pq) (o .off-qr) (o .off-rp)
-    (subst (λ k. pos 0 <ℤ k) (sym (three-lefts t s)) (times-above (area t) (s .W) h (o .weight))) (weighted f t s)
+    (subst (λ k. pos 0 <ℤ k) (sym (three-lefts t s)) (positive-times (area t) (s .W) h (o .weight))) (weighted f t s)
 
 -- ---- the test of Inside
 
@@ -297,18 +232,3 @@ inside-yes t s e =
 
 pub yes-inside : (t : Shape) (s : Point) → Inside t s → inside t s ≡ true
 yes-inside t s h = and-both (lt-ltZ _ _ (h .pq)) (and-both (lt-ltZ _ _ (h .qr)) (lt-ltZ _ _ (h .rp)))
-
-pub not-inside : (t : Shape) (s : Point) → ¬ Inside t s → inside t s ≡ false
-not-inside t s n = go (inside t s) refl
-  where
-    go : (b : Bool) → inside t s ≡ b → b ≡ false
-    go true e = absurd (n (inside-yes t s e))
-    go false e = refl
-
-pub triangle-inside : (f : Form) (t : Shape) (s : Point) → pos 0 <ℤ area t → Off f t s → Inside t s →
-    under f (t .p) (t .q) s +ℤ (under f (t .q) (t .r) s +ℤ under f (t .r) (t .p) s) ≡ pos 1
-triangle-inside f t s h o i = one-triangle f t s h o ∙ ap one (yes-inside t s i)
-
-pub triangle-outside : (f : Form) (t : Shape) (s : Point) → pos 0 <ℤ area t → Off f t s → ¬ Inside t s →
-    under f (t .p) (t .q) s +ℤ (under f (t .q) (t .r) s +ℤ under f (t .r) (t .p) s) ≡ pos 0
-triangle-outside f t s h o n = one-triangle f t s h o ∙ ap one (not-inside t s n)

@@ -1,47 +1,34 @@
 -- Edges whose keys do not overlap: neither meets the other, and neither runs under the other's middle. A form gives the keys. Assumes nothing.
-use mathlib.Core.Bool.{Bool, true, false, _&&_, _||_}
-use mathlib.Core.Logic.{_⊎_, inl, inr}
-use mathlib.Core.Path.{_≡_, refl, sym, ap, _∙_}
-use Prim.Native.Nat.{zero, suc}
+use mathlib.Core.Bool.{true}
+use mathlib.Core.Path.{_≡_, sym, ap, _∙_}
 use native.Mathlib.Omega.{arith}
-use lib.IntN.{ℤ, pos, negsuc, negℤ, _+ℤ_, _-ℤ_, _*ℤ_}
-use lib.Signed.{ltZ, _≤ℤ_, _<ℤ_}
-use Rattle.whole.specs.Diff.{onℤ, sumℤ, subℤ, mulℤ, negℤ-ud}
+use lib.IntN.{ℤ, pos, negℤ, _+ℤ_, _-ℤ_, _*ℤ_}
+use lib.Signed.{_≤ℤ_, _<ℤ_}
+use Rattle.whole.specs.Diff.{onℤ, sumℤ, subℤ, negℤ-ud}
 use Rattle.whole.specs.Ring.{Expr, K, _:+_, _:-_, _:*_, neg, ring2, ring4, ring8, ring10}
-use Rattle.whole.specs.Tests.{ltZ-true}
-use Rattle.lists.specs.ListsLaw.{clash, and-left, and-right}
+use Rattle.whole.specs.Order.{nonneg-times, positive-times, nonneg-square}
+use Rattle.lists.specs.ListsLaw.{and-left, and-right}
 use Rattle.meaning.specs.declared.Place.{Place}
 use Rattle.meaning.specs.Mesh.{turn}
 use Rattle.meaning.specs.Proper.{facing}
 use Rattle.laws.specs.Area.{Turn}
-use Rattle.border.specs.Under.{Form, key, times-above}
+use Rattle.border.specs.Signs.{lt-le, equal-of-zero, difference-above, minus-above, minus-below}
+use Rattle.border.specs.Under.{Form, key}
+use Rattle.border.specs.Meet.{Opposite, down, upwards}
+use Rattle.border.specs.Unmet.{opposite-signs}
 use Rattle.border.specs.Clear.{opposite, crosses}
-
--- ---- signs
-
-above-minus : {a b : ℤ} → a <ℤ b → pos 0 <ℤ (b -ℤ a)
-above-minus {a} {b} h = omega (arith, onℤ, subℤ b a)
-
-square : (z : ℤ) → pos 0 ≤ℤ (z *ℤ z)
-square (pos n) = omega (arith, onℤ)
-square (negsuc n) = omega (arith, onℤ)
-
-times-least : (a b : ℤ) → pos 0 <ℤ a → pos 0 ≤ℤ b → pos 0 ≤ℤ (a *ℤ b)
-times-least a (pos zero) h i = omega (arith, onℤ, mulℤ a (pos 0))
-times-least a (pos (suc b)) h i = omega (arith, onℤ, times-above a (pos (suc b)) h (omega (arith, onℤ)))
-times-least a (negsuc b) h i = absurd (omega (arith, onℤ))
 
 -- ---- (a) a place on an edge has its key between those of the ends
 
 -- the place is C; p, q are the keys of the ends past its own, r, s what is left of the ends across; n is above 0
 numbers-on : (n f p q r s : ℤ) → pos 0 <ℤ n → f ≤ℤ pos 0 → p *ℤ s ≡ r *ℤ q → n *ℤ f ≡ p *ℤ q +ℤ r *ℤ s → pos 0 <ℤ p → pos 0 <ℤ q → ⊥
 numbers-on n f p q r s above low flat mean hp hq =
-    let pq = times-above p q hp hq in
-    let nf : pos 0 ≤ℤ (n *ℤ negℤ f) = times-least n (negℤ f) above (omega (arith, onℤ, negℤ-ud f)) in
+    let pq = positive-times p q hp hq in
+    let nf : pos 0 ≤ℤ (n *ℤ negℤ f) = nonneg-times n (negℤ f) (lt-le above) (omega (arith, onℤ, negℤ-ud f)) in
     let e : n *ℤ negℤ f ≡ negℤ (p *ℤ q +ℤ r *ℤ s) = ring2 (λ n f. (n :* neg f, neg (n :* f))) n f tt ∙ ap negℤ mean in
     let rs : pos 0 <ℤ negℤ (r *ℤ s) = sides (p *ℤ q) (r *ℤ s) (n *ℤ negℤ f) e nf pq in
-    let down = times-above q (negℤ (r *ℤ s)) hq rs in
-    let up = times-least p (s *ℤ s) hp (square s) in
+    let down = positive-times q (negℤ (r *ℤ s)) hq rs in
+    let up = nonneg-times p (s *ℤ s) (lt-le hp) (nonneg-square s) in
     let same : q *ℤ negℤ (r *ℤ s) ≡ negℤ (p *ℤ (s *ℤ s)) =
     ring4 (λ p q r s. (q :* neg (r :* s), neg ((r :* q) :* s))) p q r s tt ∙ ap (λ k. negℤ (k *ℤ s)) (sym flat) ∙ ring4 (λ p q r s. (neg ((p :* s) :* s), neg (p :* (s :* s)))) p q r s tt in
     last (q *ℤ negℤ (r *ℤ s)) (p *ℤ (s *ℤ s)) same down up
@@ -90,36 +77,13 @@ module _ (f : Form) (A B C : Place) where
   pub not-on : pos 0 <ℤ size f → turn A B C ≡ pos 0 → facing A B C ≤ℤ pos 0 → key f C <ℤ key f A → key f C <ℤ key f B → ⊥
   not-on big flat between hA hB =
       numbers-on (size f) (facing A B C) (gain f C A) (gain f C B) (cross f C A) (cross f C B) big between
-      (equal _ _ (flat-products ∙ ap (λ k. size f *ℤ k) flat ∙ ring2 (λ a b. (a :* K (pos 0), K (pos 0))) (size f) (pos 0) tt)) facing-products
-      (rw (gain-is f C A) (above-minus hA)) (rw (gain-is f C B) (above-minus hB))
-    where
-      equal : (a b : ℤ) → a -ℤ b ≡ pos 0 → a ≡ b
-      equal a b e = omega (arith, onℤ, subℤ a b)
+      (equal-of-zero _ _ (flat-products ∙ ap (λ k. size f *ℤ k) flat ∙ ring2 (λ a b. (a :* K (pos 0), K (pos 0))) (size f) (pos 0) tt)) facing-products
+      (rw (gain-is f C A) (difference-above _ _ hA)) (rw (gain-is f C B) (difference-above _ _ hB))
 
 -- ---- (b) edges that cross have a common point, so that their keys overlap
 
--- one is below 0 and the other above
-signs : (x y : ℤ) → opposite x y ≡ true → ((x <ℤ pos 0) × (pos 0 <ℤ y)) ⊎ ((pos 0 <ℤ x) × (y <ℤ pos 0))
-signs x y h = go (ltZ x (pos 0)) (ltZ (pos 0) y) (ltZ (pos 0) x) (ltZ y (pos 0)) refl refl refl refl h
-  where
-    go : (a b c d : Bool) → ltZ x (pos 0) ≡ a → ltZ (pos 0) y ≡ b → ltZ (pos 0) x ≡ c → ltZ y (pos 0) ≡ d → (a && b) || (c && d) ≡ true →
-        ((x <ℤ pos 0) × (pos 0 <ℤ y)) ⊎ ((pos 0 <ℤ x) × (y <ℤ pos 0))
-    go true true c d e f i j k = inl (ltZ-true _ _ e, ltZ-true _ _ f)
-    go true false true true e f i j k = inr (ltZ-true _ _ i, ltZ-true _ _ j)
-    go true false true false e f i j k = clash (sym k)
-    go true false false d e f i j k = clash (sym k)
-    go false b true true e f i j k = inr (ltZ-true _ _ i, ltZ-true _ _ j)
-    go false b true false e f i j k = clash (sym k)
-    go false b false d e f i j k = clash (sym k)
-
-flip : (z : ℤ) → z <ℤ pos 0 → pos 0 <ℤ negℤ z
-flip z h = omega (arith, onℤ, negℤ-ud z)
-
-flop : (z : ℤ) → pos 0 <ℤ z → negℤ z <ℤ pos 0
-flop z h = omega (arith, onℤ, negℤ-ud z)
-
-times-below : (a b : ℤ) → a <ℤ pos 0 → b <ℤ pos 0 → pos 0 <ℤ (a *ℤ b)
-times-below a b h i = rw (sym (ring2 (λ a b. (neg a :* neg b, a :* b)) a b tt)) (times-above (negℤ a) (negℤ b) (flip a h) (flip b i))
+both-below : (a b : ℤ) → a <ℤ pos 0 → b <ℤ pos 0 → pos 0 <ℤ (a *ℤ b)
+both-below a b h i = rw (sym (ring2 (λ a b. (neg a :* neg b, a :* b)) a b tt)) (positive-times (negℤ a) (negℤ b) (minus-above a h) (minus-above b i))
 
 module _ (a b c d kA kB kC kD : ℤ) where
   -- the two weighted sums, multiplied out
@@ -138,7 +102,7 @@ module _ (a b c d kA kB kC kD : ℤ) where
   -- a, b: how far C and D are left of A and B; c, d: how far A and B are left of C and D
   numbers-cross : a -ℤ b ≡ d -ℤ c → d *ℤ kA -ℤ c *ℤ kB ≡ a *ℤ kD -ℤ b *ℤ kC → opposite a b ≡ true → opposite c d ≡ true →
       kC <ℤ kA → kC <ℤ kB → kD <ℤ kA → kD <ℤ kB → ⊥
-  numbers-cross weight point ab cd ca cb da db = go (signs a b ab) (signs c d cd)
+  numbers-cross weight point ab cd ca cb da db = go (opposite-signs a b ab) (opposite-signs c d cd)
     where
       none : ((a *ℤ d) *ℤ (kA -ℤ kD) +ℤ (a *ℤ negℤ c) *ℤ (kB -ℤ kD)) +ℤ ((negℤ b *ℤ d) *ℤ (kA -ℤ kC) +ℤ (b *ℤ c) *ℤ (kB -ℤ kC)) ≡ pos 0
       none =
@@ -147,13 +111,13 @@ module _ (a b c d kA kB kC kD : ℤ) where
 
       sum : pos 0 <ℤ (a *ℤ d) → pos 0 <ℤ (a *ℤ negℤ c) → pos 0 <ℤ (negℤ b *ℤ d) → pos 0 <ℤ (b *ℤ c) → ⊥
       sum p q r s =
-          four-above (times-above _ _ p (above-minus da)) (times-above _ _ q (above-minus db)) (times-above _ _ r (above-minus ca)) (times-above _ _ s (above-minus cb)) none
+          four-above (positive-times _ _ p (difference-above _ _ da)) (positive-times _ _ q (difference-above _ _ db)) (positive-times _ _ r (difference-above _ _ ca)) (positive-times _ _ s (difference-above _ _ cb)) none
 
-      go : ((a <ℤ pos 0) × (pos 0 <ℤ b)) ⊎ ((pos 0 <ℤ a) × (b <ℤ pos 0)) → ((c <ℤ pos 0) × (pos 0 <ℤ d)) ⊎ ((pos 0 <ℤ c) × (d <ℤ pos 0)) → ⊥
-      go (inl (p, q)) (inl (r, s)) = omega (arith, onℤ, subℤ a b, subℤ d c)
-      go (inl (p, q)) (inr (r, s)) = sum (times-below a d p s) (times-below a (negℤ c) p (flop c r)) (times-below (negℤ b) d (flop b q) s) (times-above b c q r)
-      go (inr (p, q)) (inl (r, s)) = sum (times-above a d p s) (times-above a (negℤ c) p (flip c r)) (times-above (negℤ b) d (flip b q) s) (times-below b c q r)
-      go (inr (p, q)) (inr (r, s)) = omega (arith, onℤ, subℤ a b, subℤ d c)
+      go : Opposite a b → Opposite c d → ⊥
+      go (upwards p q) (upwards r s) = omega (arith, onℤ, subℤ a b, subℤ d c)
+      go (upwards p q) (down r s) = sum (both-below a d p s) (both-below a (negℤ c) p (minus-below c r)) (both-below (negℤ b) d (minus-below b q) s) (positive-times b c q r)
+      go (down p q) (upwards r s) = sum (positive-times a d p s) (positive-times a (negℤ c) p (minus-above c r)) (positive-times (negℤ b) d (minus-above b q) s) (both-below b c q r)
+      go (down p q) (down r s) = omega (arith, onℤ, subℤ a b, subℤ d c)
 
 -- the keys of C and D are below those of A and B
 pub record Below (f : Form) (A B C D : Place) : Type 0 where

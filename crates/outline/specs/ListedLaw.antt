@@ -145,7 +145,7 @@ holding-out s nc rows t i b h = gave-up (h .ready)
 
 -- ---- what was listed is the border
 
-pub border-is : (rows : List ℕ) (t : ℕ) → borderTo rows t t ≡ border (items (rowAt rows) 0 t)
+border-is : (rows : List ℕ) (t : ℕ) → borderTo rows t t ≡ border (items (rowAt rows) 0 t)
 unfolding borderTo borderOf isBorder arrowAt
 border-is rows t =
     λ i. only (λ e. not (lowest-any (holdsArrow (reverse e)) (rowAt rows) (arrowAt rows (e .to) (e .from)) t (λ j l. refl) i)) (joined arrows (items (rowAt rows) 0 t))

@@ -10,7 +10,7 @@ use lib.IntN.{ℤ, pos, _+ℤ_, _-ℤ_, _*ℤ_}
 use lib.Signed.{leZ, ltZ, _<ℤ_}
 use Rattle.whole.specs.Diff.{onℤ, sumℤ}
 use Rattle.whole.specs.Ring.{K, _:+_, _:*_, ring1, ring4, ring8}
-use Rattle.whole.specs.Tests.{tests, ltZ-true, leZ-true, le-leZ}
+use Rattle.whole.specs.Tests.{tests, ltZ-true, leZ-true}
 use Rattle.lists.specs.Lists.{cases, isFound, any}
 use Rattle.lists.specs.ListsLaw.{clash, and-both, and-left, and-right, yes-all}
 use Rattle.lists.specs.PartsLaw.{not-so}
@@ -23,6 +23,7 @@ use Rattle.meaning.specs.Mesh.{Arrow, turn}
 use Rattle.meaning.specs.Good.{sameZ}
 use Rattle.meaning.specs.Proper.{facing, left}
 use Rattle.laws.specs.Area.{Turn}
+use Rattle.laws.specs.Star.{sameZ-eq, eq-sameZ}
 use Rattle.border.specs.Sums.{one, added, added-append}
 use Rattle.border.specs.Under.{Form, key, keyAt, rises, under, Left}
 use Rattle.border.specs.Clear.{steep, middle, crosses, meets, underMiddle, rightFree, clear}
@@ -98,19 +99,13 @@ module _ (e g : Edge) (ce : Close e) (cg : Close g) where
             });
           }
 
-  same : (a b : ℤ) → sameZ a b ≡ true → a ≡ b
-  same a b h =
-      let p = and-left (leZ a b) (leZ b a) h in
-      let q = and-right (leZ a b) (leZ b a) h in
-      omega (arith, onℤ, tests)
-
   far-on : Apart → isOn e (g .from) ≡ true → ⊥
   unfolding isOn
   far-on w h =
       let x = not (eqb (g .from .node) (e .from .node) || eqb (g .from .node) (e .to .node)) in
       let y = sameZ (turn A B C) (pos 0) in
       let z = leZ (facing A B C) (pos 0) in
-      not-on (w .by) A B C (w .big) (same _ _ (and-right x y (and-left (x && y) z h))) (leZ-true _ _ (and-right (x && y) z h)) (w .below .ca) (w .below .cb)
+      not-on (w .by) A B C (w .big) (sameZ-eq _ _ (and-right x y (and-left (x && y) z h))) (leZ-true _ _ (and-right (x && y) z h)) (w .below .ca) (w .below .cb)
 
   far-meet : far e g ≡ true → meet e g ≡ false
   unfolding meet
@@ -276,7 +271,7 @@ module _ (P : ℕ → Place) where
         let q = eqb-true (sumTo at b) (b + k) (and-right (not (isFound (lowest f 0 b))) (eqb (sumTo at b) (b + k)) h) in
         let z = any-no (meets P e) (arrowIn s) b (λ j i. look-is e (arrowIn s j) (none j n i) .0) in
         let u : added (adds e) (items (arrowIn s) 0 b) ≡ pos k = left-over (sumTo at b) b k _ (summed b (λ j i. none j n i)) q in
-        and-both (ap not z) (alike _ _ (u ∙ fall (ltZ (key steep (P (e .to))) (key steep (P (e .from))))))
+        and-both (ap not z) (eq-sameZ _ _ (u ∙ fall (ltZ (key steep (P (e .to))) (key steep (P (e .from))))))
       where
         left-over : (m b k : ℕ) (x : ℤ) → pos m ≡ x +ℤ pos b → m ≡ b + k → x ≡ pos k
         left-over m b k x h i = omega (arith, onℤ, sumℤ x (pos b))
@@ -284,9 +279,6 @@ module _ (P : ℕ → Place) where
         fall : (t : Bool) → pos (cases t 1 0) ≡ one t
         fall true = refl
         fall false = refl
-
-        alike : (x y : ℤ) → x ≡ y → sameZ x y ≡ true
-        alike x y h = and-both (le-leZ x y (omega (arith, onℤ))) (le-leZ y x (omega (arith, onℤ)))
 
   -- ALL ARROWS ARE FREE: THE BORDER IS CLEAR
   pub free-clear : (s : List ℕ) (b : ℕ) → allFree P s b ≡ true → clear P (items (arrowIn s) 0 b) ≡ true

@@ -64,6 +64,7 @@ pub record Listing (nodes : List ℤ) (s : List ℕ) (b : ℕ) : Type 0 where
 unfoldable pub allBefore : Edge → Edge → Bool
 allBefore g e = ltZ (g .from .key) (e .from .key) && ltZ (g .from .key) (e .to .key) && ltZ (g .to .key) (e .from .key) && ltZ (g .to .key) (e .to .key)
 
+-- the keys of the two do not overlap: such arrows neither meet nor run under each other's middle (FarLaw.antt)
 unfoldable pub far : Edge → Edge → Bool
 far e g = allBefore g e || allBefore e g
 
@@ -82,7 +83,7 @@ risesUnder e a b =
     ltZ (a .key +ℤ a .key) (e .from .key +ℤ e .to .key) && ltZ (e .from .key +ℤ e .to .key) (b .key +ℤ b .key) &&
     ltZ (pos 0) (turn (a .place) (b .place) (e .from .place) +ℤ turn (a .place) (b .place) (e .to .place))
 
--- 3: g meets e; 2 or 0: it rises or falls under the middle of e; 1: none of these
+-- 3: g meets e; else one more than what g counts under the middle of e: 2 where it rises there, 0 where it falls, 1 where it does not run there
 unfoldable pub look : Edge → Edge → ℕ
 look e g = cases (meet e g) 3 (cases (risesUnder e (g .from) (g .to)) 2 (cases (risesUnder e (g .to) (g .from)) 0 1))
 
@@ -99,7 +100,7 @@ lookAt P s e j = look e (edgeIn P s j)
 unfoldable pub isThree : (ℕ → ℕ) → ℕ → Bool
 isThree f j = eqb (f j) 3
 
--- no f j is 3, and they come to b + k
+-- none of the first b numbers f j is 3, and they come to b + k: k is what the arrows count, the b is one more for each
 unfoldable pub fine : (ℕ → ℕ) → ℕ → ℕ → Bool
 fine f b k = not (isFound (lowest (isThree f) 0 b)) && eqb (sumTo f b) (b + k)
 
@@ -107,5 +108,6 @@ fine f b k = not (isFound (lowest (isThree f) 0 b)) && eqb (sumTo f b) (b + k)
 unfoldable pub notFree : (ℕ → Place) → List ℕ → ℕ → ℕ → Bool
 notFree P s b i = not (fine (lookAt P s (edgeIn P s i)) b (falling (edgeIn P s i)))
 
+-- this is so of none of them
 unfoldable pub allFree : (ℕ → Place) → List ℕ → ℕ → Bool
 allFree P s b = not (isFound (lowest (notFree P s b) 0 b))

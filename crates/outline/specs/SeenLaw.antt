@@ -1,26 +1,27 @@
--- Keys and turns fit, and arrows as the code sees them have the answers of Clear.antt. Assumes nothing.
+-- Keys and sums of turns fit, and what is read of an arrow is what Seen.antt says. Assumes nothing.
 use mathlib.Core.List.{List}
 use mathlib.Core.Path.{_≡_, refl, sym, ap, subst, _∙_}
-use Prim.Native.Nat.{ℕ, _+_, _*_, _≤_}
+use Prim.Native.Nat.{ℕ, _+_, _*_}
 use native.Mathlib.Nat.{le-refl}
-use lib.IntN.{ℤ, pos, natAbs, _+ℤ_, _-ℤ_, _*ℤ_}
+use lib.IntN.{ℤ, pos, _+ℤ_, _*ℤ_}
+use lib.ListN.{getD}
 use lib.Signed.{ltZ}
 use mir.Syntax.{w32, w64}
 use mir.Val.{SFits, toZ, ofZ}
 use mir.Facts.{toZ-ofZ}
-use Rattle.whole.specs.Bound.{abs-add, abs-sub, abs-mul, fits-abs}
+use Rattle.whole.specs.Bound.{abs-add, abs-mul, fits-abs}
 use Rattle.whole.specs.Ring.{K, _:+_, _:*_, ring2}
 use Rattle.plane.specs.Wide.{wide-abs}
 use Rattle.meaning.specs.declared.Place.{Place}
 use Rattle.meaning.specs.Mesh.{turn}
 use Rattle.meaning.specs.Lawful.{InRange}
+use Rattle.meaning.specs.Tables.{placeAt}
+use Rattle.laws.specs.Meshes.{Stands}
 use Rattle.border.specs.Clear.{steep}
 use Rattle.border.specs.Under.{key}
+use Rattle.border.specs.Keys.{turn-small, key-small}
 use Rattle.outline.specs.declared.End.{End}
 use Rattle.outline.specs.declared.Edge.{Edge}
-use lib.ListN.{getD}
-use Rattle.laws.specs.Meshes.{Stands}
-use Rattle.meaning.specs.Tables.{placeAt}
 use Rattle.outline.specs.Seen.{endBy, edgeBy, arrowIn, edgeIn, Near, Close, EndsStand}
 
 -- ---- what fits
@@ -34,17 +35,8 @@ key-fits x y f g = fits-abs w64 (abs-add (pos 8_388_608 *ℤ x) y (abs-mul (pos 
 pub key-is : (a : Place) → pos 8_388_608 *ℤ a .x +ℤ a .y ≡ key steep a
 key-is a = ring2 (λ x y. (K (pos 8_388_608) :* x :+ y, K (pos 8_388_608) :* x :+ K (pos 1) :* y)) (a .x) (a .y) tt
 
-pub key-near : (a : Place) → InRange a → natAbs (key steep a) ≤ 8_796_094_070_784
-key-near a h = abs-add (pos 8_388_608 *ℤ a .x) (pos 1 *ℤ a .y) (abs-mul (pos 8_388_608) (a .x) (le-refl 8_388_608) (h .x-near)) (abs-mul (pos 1) (a .y) (le-refl 1) (h .y-near))
-
-pub turn-near : (a b c : Place) → InRange a → InRange b → InRange c → natAbs (turn a b c) ≤ 8_796_093_022_208
-turn-near a b c f g h =
-    abs-sub ((b .x -ℤ a .x) *ℤ (c .y -ℤ a .y)) ((c .x -ℤ a .x) *ℤ (b .y -ℤ a .y))
-    (abs-mul (b .x -ℤ a .x) (c .y -ℤ a .y) (abs-sub (b .x) (a .x) (g .x-near) (f .x-near)) (abs-sub (c .y) (a .y) (h .y-near) (f .y-near)))
-    (abs-mul (c .x -ℤ a .x) (b .y -ℤ a .y) (abs-sub (c .x) (a .x) (h .x-near) (f .x-near)) (abs-sub (b .y) (a .y) (g .y-near) (f .y-near)))
-
 pub turns-fit : (a b c d : Place) → InRange a → InRange b → InRange c → InRange d → SFits w64 (turn a b c +ℤ turn a b d)
-turns-fit a b c d f g h i = fits-abs w64 (abs-add (turn a b c) (turn a b d) (turn-near a b c f g h) (turn-near a b d f g i)) tt
+turns-fit a b c d f g h i = fits-abs w64 (abs-add (turn a b c) (turn a b d) (turn-small f g h) (turn-small f g i)) tt
 
 -- a sum of two turns, in the form of needs
 pub sum-above : (x y u v : ℤ) → x ≡ u → y ≡ v → SFits w64 (u +ℤ v) → ltZ (pos 0) (toZ w64 (ofZ w64 (x +ℤ y))) ≡ ltZ (pos 0) (u +ℤ v)
@@ -74,7 +66,7 @@ unfolding edgeIn edgeBy arrowIn
 edge-made P s j v w a b e f g h = λ i. record { from = (g ∙ ap (endBy P) e) i; to = (h ∙ ap (endBy P) f) i }
 
 near-by : (nodes : List ℤ) (k : ℕ) → Stands nodes k → Near (endBy (placeAt nodes) k)
-near-by nodes k h = record { near = h .range .place-in; keyed = refl; key-near = key-near (placeAt nodes k) (h .range .place-in) }
+near-by nodes k h = record { near = h .range .place-in; keyed = refl; key-near = key-small (h .range .place-in) }
 
 pub close-in : (nodes : List ℤ) (s : List ℕ) (j : ℕ) (e : Edge) → e ≡ edgeIn (placeAt nodes) s j → EndsStand nodes (arrowIn s j) → Close e
 unfolding edgeIn edgeBy

@@ -90,7 +90,7 @@ fn all_before(g: Edge, e: Edge) -> bool
     lower(g.from, e.from) & lower(g.from, e.to) & lower(g.to, e.from) & lower(g.to, e.to)
 }
 
-// The keys of the two do not overlap: nearly all pairs of a border's arrows are so.
+// The keys of the two do not overlap: then neither meets the other or runs under its middle. Nearly all pairs of a border's arrows are so.
 fn far(e: Edge, g: Edge) -> bool
     ensures { λ r. ⌜ r ≡ far e g ⌝ }
 {
@@ -178,7 +178,7 @@ fn rises_under(e: Edge, a: End, b: End) -> bool
         & left_of(a.place, b.place, e.from.place, e.to.place)
 }
 
-// 3: g meets e; 2 or 0: it rises or falls under the middle of e; 1: none of these.
+// 3: g meets e. Else one more than what g counts under the middle of e: 2 where it rises there, 0 where it falls, 1 where it does not run there.
 fn look(e: Edge, g: Edge) -> usize
     requires { ⌜ Close e × Close g ⌝ }
     ensures { λ r. ⌜ r ≡ look e g ⌝ }
@@ -222,7 +222,7 @@ fn look_at(nodes: &[i32], scratch: &[u32], e: Edge, j: usize) -> usize
     look(e, edge_at(nodes, scratch, j))
 }
 
-// None of the first b arrows meets e, and those under its middle are as many as a clear border has.
+// None of the first b arrows, e among them, meets e; and under its middle they count 1 if e falls and 0 if not, so that no row lies just right of it.
 fn is_fine(nodes: &[i32], scratch: &[u32], b: usize, e: Edge) -> bool
     requires { ⌜ Listing (now nodes) (now scratch) b ⌝ }
     requires { ⌜ Close e ⌝ }
@@ -250,6 +250,7 @@ fn not_free(nodes: &[i32], scratch: &[u32], b: usize, i: usize) -> bool
     !is_fine(nodes, scratch, b, edge_at(nodes, scratch, i))
 }
 
+// Every arrow is held against all: b · b looks.
 fn all_free(nodes: &[i32], scratch: &[u32], b: usize) -> bool
     requires { ⌜ Listing (now nodes) (now scratch) b ⌝ }
     ensures { λ r. ⌜ r ≡ allFree (placeAt (now (nodes .entry))) (now (scratch .entry)) b ⌝ }

@@ -1,7 +1,7 @@
 /* A square in two halves, with corrections at its corners: where a fine rule is printed, its first row is cut in four, the correction of an added
  * node is set, and the row is refined once more; then the square is restored, corrections and all. The correction at a point is asked before the
- * job, in it and after it. Settings of a base node and out of range, a question about a point outside, and a square with a row too many, are
- * refused, in words. */
+ * job, in it and after it. Settings of a base node and out of range, a question about a point outside, a square with a row too many, and one with
+ * a crack, are refused, in words. */
 #include "spoutbeetle.h"
 
 #include <stdio.h>
@@ -95,5 +95,11 @@ int main(void) {
 
     memcpy(rows + 3 * t, rows, 3 * sizeof *rows);
     refused("check, row 0 once more", check(t + 1));
+
+    const uint32_t cracked[9] = {1, 2, 0, 4, 3, 0, 4, 2, 3};
+    nodes[16] = nodes[17] = 4; /* on the edge 0-2, and a corner above it alone */
+    memcpy(rows, cracked, sizeof cracked);
+    n = 5;
+    refused("check, a middle node on one side of an edge", check(3));
     return 0;
 }

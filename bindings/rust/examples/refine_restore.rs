@@ -1,7 +1,7 @@
 //! A square in two halves, with corrections at its corners: where a fine rule is printed, its first row is cut in four, the correction of an added
 //! node is set, and the row is refined once more; then the square is restored, corrections and all. The correction at a point is asked before the
-//! job, in it and after it. Settings of a base node and out of range, a question about a point outside, and a square with a row too many, are
-//! refused, in words.
+//! job, in it and after it. Settings of a base node and out of range, a question about a point outside, a square with a row too many, and one with
+//! a crack, are refused, in words.
 use spoutbeetle::{check, correction_at, quarter, refine, restore, set_correction, Answer, Correction, Node, Refusal, Tables, View};
 
 const NC: usize = 16;
@@ -91,5 +91,10 @@ fn main() -> Result<(), Refusal> {
     sheet.rows.copy_within(0..3, 6);
     sheet.t = 3;
     refused("check, row 0 once more", sheet.call(check));
+
+    sheet.nodes[4] = Node::at(4, 4); // on the edge 0-2, and a corner above it alone
+    sheet.rows[..9].copy_from_slice(&[1, 2, 0, 4, 3, 0, 4, 2, 3]);
+    sheet.n = 5;
+    refused("check, a middle node on one side of an edge", sheet.call(check));
     Ok(())
 }

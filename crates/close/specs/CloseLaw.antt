@@ -24,7 +24,7 @@ use Rattle.meaning.specs.declared.Manner.{Manner}
 use Rattle.meaning.specs.declared.Manner.the-variants.{Newest, AllThree}
 use Rattle.meaning.specs.Mesh.{Edge, tri, edge, edges, base}
 use Rattle.meaning.specs.Lawful.{rowOf}
-use Rattle.meaning.specs.Split.{Closed, memEdge, closure, startsOf, wayOf, started}
+use Rattle.meaning.specs.Split.{Closed, memEdge, closure, startsOf, started}
 use Rattle.meaning.specs.Tables.{rowAt}
 use Rattle.laws.specs.Edges.{memEdge-in, memEdge-at}
 use Rattle.laws.specs.Closure.{closure-least, closure-closed, started-marked, started-only}
@@ -36,7 +36,7 @@ use Rattle.close.specs.EdgeLaw.{OnceAt, Side, side-m, side-u, side-v, si
 
 -- the starting edges of the marked rows of a table, and whether an edge is to be split
 abbrev pub startEdges : Manner → List ℕ → ℕ → List ℕ → List Edge
-startEdges k l t marks = started (wayOf k) marks (items (rowAt l) 0 t)
+startEdges k l t marks = started (startsOf k) marks (items (rowAt l) 0 t)
 
 abbrev pub isSplit : Manner → List ℕ → ℕ → List ℕ → Edge → Bool
 isSplit k l t marks e = memEdge e (closure (items (rowAt l) 0 t) (startEdges k l t marks))
@@ -243,7 +243,7 @@ module _ (l : List ℕ) (t : ℕ) (once : OnceAt l t) where
       -- the starting edges of a marked row are in the closure
       pub start-in : (a : ℕ) (e : Edge) → a < t → getD marks a 0 ≡ 1 → List·Memᴰ e (startsOf k (rowAt l a)) → isSplit k l t marks e ≡ true
       start-in a e h m i =
-          let b = started-marked (wayOf k) marks (items (rowAt l) 0 t) a (rw (length-items (rowAt l) t) h) m in
+          let b = started-marked (startsOf k) marks (items (rowAt l) 0 t) a (rw (length-items (rowAt l) t) h) m in
           All-at (closure-closed (items (rowAt l) 0 t) (startEdges k l t marks) .holds) (All-at b (rw (item-row a h) i))
 
       touched-in : (x : ℕ) → x < t → Touched t x → isSplit k l t marks (base (rowAt l x)) ≡ true
@@ -257,7 +257,7 @@ module _ (l : List ℕ) (t : ℕ) (once : OnceAt l t) where
       start-of : (e : Edge) → memEdge e (startEdges k l t marks) ≡ true → Starts e
       start-of e q =
           memEdge-at {S = Starts} e
-          (All-imp (λ d (a, b, m, i). let h : a < t = rw (length-items (rowAt l) t) at b in (a, h, m, rw (item-row a h) at i)) (started-only (wayOf k) marks (items (rowAt l) 0 t))) q
+          (All-imp (λ d (a, b, m, i). let h : a < t = rw (length-items (rowAt l) t) at b in (a, h, m, rw (item-row a h) at i)) (started-only (startsOf k) marks (items (rowAt l) 0 t))) q
 
       touched-up : (i : ℕ) (e : Edge) → i < t → List·Memᴰ e (edges (rowAt l i)) → memEdge e (startEdges k l t marks) ≡ true → Up F i
       touched-up i e h j q = let (a, b, m, w) = start-of e q in raised .begun i h (a, b, m, (e, w, j))

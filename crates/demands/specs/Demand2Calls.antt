@@ -74,9 +74,9 @@ pub record RefineMade (w : Way) (starts : Tri → List Edge) (g : Given) (n0 : �
   pub answered : Answers g n0 (RefineSays w (roomOf g) (meshOf g) marks) o
   -- the starting edges: those of every marked triangle, and no other
   pub starts-exactly : (e : Edge) →
-      List·Memᴰ e (started w marks (meshOf g .tris)) ↔ ((i : ℕ) × (i < length (meshOf g .tris)) × (getD marks i 0 ≡ 1) × List·Memᴰ e (starts (rowOf (meshOf g .tris) i)))
+      List·Memᴰ e (started (w .starts) marks (meshOf g .tris)) ↔ ((i : ℕ) × (i < length (meshOf g .tris)) × (getD marks i 0 ≡ 1) × List·Memᴰ e (starts (rowOf (meshOf g .tris) i)))
   -- the edges to be split: the least set that holds these and, with any edge of a triangle, its refinement edge
-  pub splits-least : Least (meshOf g .tris) (started w marks (meshOf g .tris)) (toSplit w (meshOf g) marks)
+  pub splits-least : Least (meshOf g .tris) (started (w .starts) marks (meshOf g .tris)) (toSplit w (meshOf g) marks)
   pub of-lawful : Sizes g n0 → WellMarked (g .t) marks → Lawful (meshOf g) → OfLawful w g marks (o .answer .number)
   pub leaves-refined : o .answer .number ≡ 0 → RefineDone w g marks o
 
@@ -200,7 +200,7 @@ module _ (w : Way) (laws : CutLaws (w .cutting)) (own : (t : Tri) → All (λ e.
       subst (RefineMade w (w .starts) g n0 marks) (sym e)
       (record {
         answered = call-answers g n0 (k g n0 marks) (RefineSays w (roomOf g) (meshOf g) marks) (Names (meshOf g)) (refineOut w g n0 marks) (c .number-said) (refine-exact w (roomOf g) (meshOf g) marks) (not-1 g n0 marks) (refine-names g n0 w marks) (c .refusal-leaves) (c .scratch-zero);
-        starts-exactly = started-exactly w marks (meshOf g .tris);
+        starts-exactly = started-exactly (w .starts) marks (meshOf g .tris);
         splits-least = refine-splits w own (meshOf g) marks;
         of-lawful = lawful-says g n0 marks;
         leaves-refined = made g n0 marks;

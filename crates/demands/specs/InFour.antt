@@ -57,7 +57,7 @@ marked-in-four room m marks e i l one = go (refine-exact allThree room m marks 0
     s = toSplit allThree m marks
 
     edges-split : All (λ d. memEdge d s ≡ true) (edges t)
-    edges-split = All-imp (λ d j. All-at (manner-splits AllThree m marks .closed .holds) j) (started-marked allThree marks (m .tris) i l one)
+    edges-split = All-imp (λ d j. All-at (manner-splits AllThree Bisected m marks .closed .holds) j) (started-marked (startsOf AllThree) marks (m .tris) i l one)
 
     numbered : {d : Edge} → List·Memᴰ d (edges t) → there (numberOf (length (m .nodes)) s d) ≡ 1
     numbered {d} j = number-there (length (m .nodes)) s d ∙ ap bit (All-at edges-split j)

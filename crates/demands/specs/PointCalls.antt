@@ -49,7 +49,7 @@ module _ (g₀ : Given) (c : Outcome) (ce : c ≡ checkOut g₀) (cz : c .answer
 
   -- A REFINE WHERE THE MEANS ARE EXACT CHANGES NO ANSWER AT ANY POINT: the sums of the corrections at the ends of every edge that it splits are even.
   pub refine-tells : (w : Way) → w .cutting ≡ bisected → (n0 : ℕ) (marks : List ℕ) (r : Outcome) → r ≡ refineOut w g n0 marks → r .answer .number ≡ 0 →
-      All (EvenEnds (meshOf g)) (splitEdges (meshOf g) (started w marks (meshOf g .tris))) →
+      All (EvenEnds (meshOf g)) (splitEdges (meshOf g) (started (w .starts) marks (meshOf g .tris))) →
       (n1 n2 : ℕ) (P : Place) (o o′ : Heard) → o ≡ askOut g n1 P → Sizes g n1 → o′ ≡ askOut (tablesAfter r) n2 P → Sizes (tablesAfter r) n2 → o′ .told ≡ o .told
   refine-tells w cuts n0 marks r re rz evens n1 n2 P o o′ e s e′ s′ =
       let l = refine-leaves g n0 w marks in

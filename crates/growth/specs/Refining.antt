@@ -244,10 +244,10 @@ module _ (base m : Mesh) (G : GrownFrom base m) (start : List Edge) (even : all 
 
 -- REFINING KEEPS THE INVARIANT, for any way that cuts by bisection.
 from-refined : (base m : Mesh) → GrownFrom base m → (w : Way) → w .cutting ≡ bisected → (marks : List ℕ)
-    → all (halves m) (splitEdges m (started w marks (m .tris))) ≡ true → GrownFrom base (refined w m marks)
+    → all (halves m) (splitEdges m (started (w .starts) marks (m .tris))) ≡ true → GrownFrom base (refined w m marks)
 unfolding refined
 from-refined base m G w cuts marks even =
-    subst (λ c. GrownFrom base (split c m (started w marks (m .tris)))) (sym cuts) (grown-by-split base m G (started w marks (m .tris)) even)
+    subst (λ c. GrownFrom base (split c m (started (w .starts) marks (m .tris)))) (sym cuts) (grown-by-split base m G (started (w .starts) marks (m .tris)) even)
 
 -- So an accepted refine does.
 pub from-refine : (base m : Mesh) → GrownFrom base m → (w : Way) → w .cutting ≡ bisected → (room : Room) (marks : List ℕ) → refineNo w room m marks ≡ 0 → GrownFrom base (refined w m marks)

@@ -18,7 +18,7 @@ use Rattle.lists.specs.MembersLaw.{at-mem, only-in, only-passes, only-keeps, on
 use Rattle.meaning.specs.declared.Tri.{Tri}
 use Rattle.meaning.specs.Mesh.{Mesh, Edge, tri, edges, base, sameEdge}
 use Rattle.meaning.specs.Lawful.{rowOf}
-use Rattle.meaning.specs.Split.{Closed, memEdge, pulls, addBase, grow, closure, splitEdges, Way, ifMarked, started}
+use Rattle.meaning.specs.Split.{Closed, memEdge, pulls, addBase, grow, closure, splitEdges, ifMarked, started}
 use Rattle.laws.specs.Edges.{sameEdge-eq, sameEdge-refl, memEdge-in, memEdge-at}
 
 -- ---- least: whatever a row brings in, a closed set holds
@@ -199,29 +199,29 @@ module _ (m : Mesh) (start : List Edge) where
 -- ---- the starting edges of marked rows
 
 -- the starting edges of every marked row are there, and no other edge
-pub started-marked : (w : Way) (marks : List ℕ) (ts : List Tri) (i : ℕ) → i < length ts → getD marks i 0 ≡ 1 → All (λ e. List·Memᴰ e (started w marks ts)) (w .starts (rowOf ts i))
-started-marked w [] ts i h one = absurd (omega arith)
-started-marked w (k ∷ ks) [] i h one = absurd (omega arith)
-started-marked w (k ∷ ks) (t ∷ ts) zero h one = rw one (All-of (w .starts t) (λ e j. Memᴰ·append-left (started w ks ts) j))
-started-marked w (k ∷ ks) (t ∷ ts) (suc i) h one = All-imp (λ e j. go (eqb k 1) j) (started-marked w ks ts i (omega arith) one)
+pub started-marked : (f : Tri → List Edge) (marks : List ℕ) (ts : List Tri) (i : ℕ) → i < length ts → getD marks i 0 ≡ 1 → All (λ e. List·Memᴰ e (started f marks ts)) (f (rowOf ts i))
+started-marked f [] ts i h one = absurd (omega arith)
+started-marked f (k ∷ ks) [] i h one = absurd (omega arith)
+started-marked f (k ∷ ks) (t ∷ ts) zero h one = rw one (All-of (f t) (λ e j. Memᴰ·append-left (started f ks ts) j))
+started-marked f (k ∷ ks) (t ∷ ts) (suc i) h one = All-imp (λ e j. go (eqb k 1) j) (started-marked f ks ts i (omega arith) one)
   where
-    go : {e : Edge} (b : Bool) → List·Memᴰ e (started w ks ts) → List·Memᴰ e (ifMarked b (w .starts t) (started w ks ts))
-    go true j = Memᴰ·append-right (w .starts t) j
+    go : {e : Edge} (b : Bool) → List·Memᴰ e (started f ks ts) → List·Memᴰ e (ifMarked b (f t) (started f ks ts))
+    go true j = Memᴰ·append-right (f t) j
     go false j = j
 
-pub started-only : (w : Way) (marks : List ℕ) (ts : List Tri) → All (λ e. (i : ℕ) × (i < length ts) × (getD marks i 0 ≡ 1) × List·Memᴰ e (w .starts (rowOf ts i))) (started w marks ts)
-started-only w [] ts = nil
-started-only w (k ∷ ks) [] = nil
-started-only w (k ∷ ks) (t ∷ ts) = go (eqb k 1) refl (All-imp (λ e r. (suc (r .0), omega (arith, r .1), r .2, r .3)) (started-only w ks ts))
+pub started-only : (f : Tri → List Edge) (marks : List ℕ) (ts : List Tri) → All (λ e. (i : ℕ) × (i < length ts) × (getD marks i 0 ≡ 1) × List·Memᴰ e (f (rowOf ts i))) (started f marks ts)
+started-only f [] ts = nil
+started-only f (k ∷ ks) [] = nil
+started-only f (k ∷ ks) (t ∷ ts) = go (eqb k 1) refl (All-imp (λ e r. (suc (r .0), omega (arith, r .1), r .2, r .3)) (started-only f ks ts))
   where
     Of : Edge → Type 0
-    Of e = (i : ℕ) × (i < suc (length ts)) × (getD (k ∷ ks) i 0 ≡ 1) × List·Memᴰ e (w .starts (rowOf (t ∷ ts) i))
+    Of e = (i : ℕ) × (i < suc (length ts)) × (getD (k ∷ ks) i 0 ≡ 1) × List·Memᴰ e (f (rowOf (t ∷ ts) i))
 
-    go : (b : Bool) → eqb k 1 ≡ b → All Of (started w ks ts) → All Of (ifMarked b (w .starts t) (started w ks ts))
-    go true q below = All-append (All-of (w .starts t) (λ e j. (0, omega arith, eqb-true k 1 q, j))) below
+    go : (b : Bool) → eqb k 1 ≡ b → All Of (started f ks ts) → All Of (ifMarked b (f t) (started f ks ts))
+    go true q below = All-append (All-of (f t) (λ e j. (0, omega arith, eqb-true k 1 q, j))) below
     go false q below = below
 
 -- a way that starts with edges of the marked rows: the split edges are the least closed set
-pub started-edges : (w : Way) → ((t : Tri) → All (λ e. List·Memᴰ e (edges t)) (w .starts t)) → (marks : List ℕ) (ts : List Tri) → All (EdgeOf ts) (started w marks ts)
-started-edges w own marks ts =
-    All-imp (λ e r. (rowOf ts (r .0), at-mem ts (r .0) (tri 0 0 0) (r .1), All-at (own (rowOf ts (r .0))) (r .3))) (started-only w marks ts)
+pub started-edges : (f : Tri → List Edge) → ((t : Tri) → All (λ e. List·Memᴰ e (edges t)) (f t)) → (marks : List ℕ) (ts : List Tri) → All (EdgeOf ts) (started f marks ts)
+started-edges f own marks ts =
+    All-imp (λ e r. (rowOf ts (r .0), at-mem ts (r .0) (tri 0 0 0) (r .1), All-at (own (rowOf ts (r .0))) (r .3))) (started-only f marks ts)

@@ -185,6 +185,6 @@ module _ (m : Mesh) where
   refine-due w room marks =
       unless-due (marksFit (length (m .tris)) marks) 2 _ (inl (omega arith))
       (or-else-due _
-      (unless-due (all (halves m) (splitEdges m (started w marks (m .tris)))) 8 _ (inr (omega arith))
+      (unless-due (all (halves m) (splitEdges m (started (w .starts) marks (m .tris)))) 8 _ (inr (omega arith))
       (unless-due (fits room (refined w m marks)) 9 0 (inr (omega arith))
       done-due)))

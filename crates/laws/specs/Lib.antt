@@ -11,6 +11,7 @@ pub mod Check
 pub mod Closure
 pub mod Cut
 pub mod Bisected
+pub mod Red
 pub mod Floor
 pub mod Mean
 pub mod Weights

@@ -16,11 +16,12 @@ use Rattle.lists.specs.ListsLaw.{clash, and-both, and-left, and-right, All-imp,
 use Rattle.lists.specs.Tally.{tally}
 use Rattle.meaning.specs.declared.Manner.{Manner}
 use Rattle.meaning.specs.declared.Manner.the-variants.{Newest, AllThree}
+use Rattle.meaning.specs.declared.Quarters.{Quarters}
 use Rattle.meaning.specs.declared.Tri.{Tri}
 use Rattle.meaning.specs.Mesh.{Mesh, Edge, edges, base, nodeOf, at, total}
 use Rattle.meaning.specs.Lawful.{Lawful, Applies, out-of-range, misnames, occurs-twice, not-above, in-none, Lowest, refusal, rowOf}
 use Rattle.meaning.specs.Good.{Middle}
-use Rattle.meaning.specs.Split.{Closed, memEdge, Way, startsOf, wayOf, newest, allThree, even, halves, newNode, cutOf, splitEdges, splitAt, started, split, refined}
+use Rattle.meaning.specs.Split.{Closed, memEdge, Way, startsOf, wayOf, even, halves, newNode, cutOf, splitEdges, splitAt, started, split, refined}
 use Rattle.meaning.specs.Tables.{Room}
 use Rattle.meaning.specs.Calls.{unless, orElse, marksFit, fits, refineNo}
 use Rattle.laws.specs.Exact.{refuted, orElse-first}
@@ -28,7 +29,7 @@ use Rattle.laws.specs.Lawful.{refusal-lawful, lawful-refusal, refusal-ex
 use Rattle.laws.specs.Marks.{WellMarked, marks-exact, marks-unfit}
 use Rattle.laws.specs.Closure.{Apart, splitEdges-closed, splitEdges-least, splitEdges-apart, started-marked, started-only, started-edges}
 use Rattle.laws.specs.Cut.{CutLaws}
-use Rattle.laws.specs.Bisected.{bisected-laws}
+use Rattle.laws.specs.Red.{quarters-laws}
 use Rattle.laws.specs.Mean.{MeanDown, mean-down}
 use Rattle.laws.specs.Midpoints.{midpoint-middle}
 use Rattle.laws.specs.SplitLaw.{split-nodes, split-rows, split-old, split-new, split-lawful, split-total}
@@ -36,7 +37,7 @@ use Rattle.laws.specs.SplitLaw.{split-nodes, split-rows, split-old, spli
 -- ---- the edges to be split
 
 abbrev pub toSplit : Way → Mesh → List ℕ → List Edge
-toSplit w m marks = splitEdges m (started w marks (m .tris))
+toSplit w m marks = splitEdges m (started (w .starts) marks (m .tris))
 
 -- s is the least set of edges that holds the starting edges and, for each triangle with an edge in it, its refinement edge; each once
 pub record Least (ts : List Tri) (start s : List Edge) : Type 1 where
@@ -46,11 +47,11 @@ pub record Least (ts : List Tri) (start s : List Edge) : Type 1 where
 
 -- for a way that starts with edges of the marked triangles
 pub refine-splits : (w : Way) → ((t : Tri) → All (λ e. List·Memᴰ e (edges t)) (w .starts t)) → (m : Mesh) (marks : List ℕ) →
-    Least (m .tris) (started w marks (m .tris)) (toSplit w m marks)
+    Least (m .tris) (started (w .starts) marks (m .tris)) (toSplit w m marks)
 refine-splits w own m marks = record {
-  closed = splitEdges-closed m (started w marks (m .tris)) (started-edges w own marks (m .tris));
-  least = λ S c. splitEdges-least m (started w marks (m .tris)) c;
-  apart = splitEdges-apart m (started w marks (m .tris));
+  closed = splitEdges-closed m (started (w .starts) marks (m .tris)) (started-edges (w .starts) own marks (m .tris));
+  least = λ S c. splitEdges-least m (started (w .starts) marks (m .tris)) c;
+  apart = splitEdges-apart m (started (w .starts) marks (m .tris));
 }
 
 -- in each manner these are edges of the marked triangle, its refinement edge among them
@@ -62,26 +63,26 @@ pub starts-base : (k : Manner) (t : Tri) → List·Memᴰ (base t) (startsOf k t
 starts-base Newest t = List·Memᴰ·head refl
 starts-base AllThree t = List·Memᴰ·head refl
 
-pub manner-splits : (k : Manner) (m : Mesh) (marks : List ℕ) → Least (m .tris) (started (wayOf k) marks (m .tris)) (toSplit (wayOf k) m marks)
-manner-splits k = refine-splits (wayOf k) (starts-own k)
+pub manner-splits : (k : Manner) (q : Quarters) (m : Mesh) (marks : List ℕ) → Least (m .tris) (started (startsOf k) marks (m .tris)) (toSplit (wayOf k q) m marks)
+manner-splits k q = refine-splits (wayOf k q) (starts-own k)
 
 -- THE START SET: the starting edges of every marked row, and no other edge
-pub started-exactly : (w : Way) (marks : List ℕ) (ts : List Tri) (e : Edge) →
-    List·Memᴰ e (started w marks ts) ↔ ((i : ℕ) × (i < length ts) × (getD marks i 0 ≡ 1) × List·Memᴰ e (w .starts (rowOf ts i)))
-started-exactly w marks ts e = (λ j. All-at (started-only w marks ts) j, λ r. All-at (started-marked w marks ts (r .0) (r .1) (r .2)) (r .3))
+pub started-exactly : (f : Tri → List Edge) (marks : List ℕ) (ts : List Tri) (e : Edge) →
+    List·Memᴰ e (started f marks ts) ↔ ((i : ℕ) × (i < length ts) × (getD marks i 0 ≡ 1) × List·Memᴰ e (f (rowOf ts i)))
+started-exactly f marks ts e = (λ j. All-at (started-only f marks ts) j, λ r. All-at (started-marked f marks ts (r .0) (r .1) (r .2)) (r .3))
 
 -- "the refinement edge of every marked triangle"
 pub newest-started : (marks : List ℕ) (ts : List Tri) (e : Edge) →
-    List·Memᴰ e (started newest marks ts) ↔ ((i : ℕ) × (i < length ts) × (getD marks i 0 ≡ 1) × (e ≡ base (rowOf ts i)))
+    List·Memᴰ e (started (startsOf Newest) marks ts) ↔ ((i : ℕ) × (i < length ts) × (getD marks i 0 ≡ 1) × (e ≡ base (rowOf ts i)))
 newest-started marks ts e = (
-  λ j. (let r = started-exactly newest marks ts e .0 j in (r .0, r .1, r .2, List·Memᴰ·eq-of-singleton (r .3))),
-  λ r. started-exactly newest marks ts e .1 (r .0, r .1, r .2, List·Memᴰ·head (r .3)),
+  λ j. (let r = started-exactly (startsOf Newest) marks ts e .0 j in (r .0, r .1, r .2, List·Memᴰ·eq-of-singleton (r .3))),
+  λ r. started-exactly (startsOf Newest) marks ts e .1 (r .0, r .1, r .2, List·Memᴰ·head (r .3)),
 )
 
 -- W1: "all three edges of a marked triangle"
 pub all-three-started : (marks : List ℕ) (ts : List Tri) (e : Edge) →
-    List·Memᴰ e (started allThree marks ts) ↔ ((i : ℕ) × (i < length ts) × (getD marks i 0 ≡ 1) × List·Memᴰ e (edges (rowOf ts i)))
-all-three-started = started-exactly allThree
+    List·Memᴰ e (started (startsOf AllThree) marks ts) ↔ ((i : ℕ) × (i < length ts) × (getD marks i 0 ≡ 1) × List·Memᴰ e (edges (rowOf ts i)))
+all-three-started = started-exactly (startsOf AllThree)
 
 -- ---- 8: "an edge to be split has an odd sum of x or of y"
 
@@ -313,7 +314,7 @@ refine-done w laws room m marks e = go (refine-exact w room m marks 0 .0 e)
     go : RefineSays w room m marks 0 → Refined w room m marks (refined w m marks)
     go (unlawful k g above l) = absurd (omega arith)
     go (no-fault g law h f) =
-        let start = started w marks (m .tris) in
+        let start = started (w .starts) marks (m .tris) in
         let even = all-halves w room m marks h in
         record {
           lawful = split-lawful laws m start law even;
@@ -332,6 +333,6 @@ refine-done w laws room m marks e = go (refine-exact w room m marks 0 .0 e)
           rows-are = refl;
         }
 
--- in each manner
-pub manner-done : (k : Manner) (room : Room) (m : Mesh) (marks : List ℕ) → refineNo (wayOf k) room m marks ≡ 0 → Refined (wayOf k) room m marks (refined (wayOf k) m marks)
-manner-done k = refine-done (wayOf k) bisected-laws
+-- in each manner, and however triangles are quartered
+pub manner-done : (k : Manner) (q : Quarters) (room : Room) (m : Mesh) (marks : List ℕ) → refineNo (wayOf k q) room m marks ≡ 0 → Refined (wayOf k q) room m marks (refined (wayOf k q) m marks)
+manner-done k q = refine-done (wayOf k q) (quarters-laws q)

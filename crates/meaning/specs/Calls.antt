@@ -7,9 +7,13 @@ use lib.IntN.{ℤ, pos}
 use lib.ListN.{length}
 use Rattle.lists.specs.Lists.{all, cases, isFound}
 use Rattle.meaning.specs.declared.Told.{Told}
-use Rattle.meaning.specs.Mesh.{Place, Correction, Mesh, correction}
+use Rattle.meaning.specs.Mesh.{Place, Correction, Tri, Mesh, correction}
 use Rattle.meaning.specs.Lawful.{faultOf, refusal, compatible}
-use Rattle.meaning.specs.Split.{Way, splitEdges, started, refined, halves}
+use Rattle.meaning.specs.declared.Manner.{Manner}
+use Rattle.meaning.specs.declared.Manner.the-variants.{AllThree}
+use Rattle.meaning.specs.declared.Quarters.{Quarters}
+use Rattle.meaning.specs.declared.Quarters.the-variants.{Red}
+use Rattle.meaning.specs.Split.{Way, startsOf, wayOf, splitEdges, started, refined, redMade, halves}
 use Rattle.meaning.specs.Coarsen.{coarsened, restored}
 use Rattle.meaning.specs.Setting.{corrected, setFault}
 use Rattle.meaning.specs.Proper.{uncrowded, disjoint}
@@ -73,7 +77,7 @@ unfoldable pub refineNo : Way → Room → Mesh → List ℕ → ℕ
 refineNo w room m marks =
     unless (marksFit (length (m .tris)) marks) 2
     (orElse (refusal m)
-    (unless (all (halves m) (splitEdges m (started w marks (m .tris)))) 8
+    (unless (all (halves m) (splitEdges m (started (w .starts) marks (m .tris)))) 8
     (unless (fits room (refined w m marks)) 9
     0)))
 
@@ -155,6 +159,30 @@ checkOut g = sized g 0 (untouched g (checkNo (meshOf g)) (culpritOf (meshOf g) (
 
 unfoldable pub refineOut : Way → Given → ℕ → List ℕ → Outcome
 refineOut w g n0 marks = sized g n0 (leaves g (refines w (roomOf g) (meshOf g) marks))
+
+-- W8: an outcome, and the new field
+pub record TintedOut : Type 0 where
+  pub outcome : Outcome
+  pub red : ℕ
+
+abbrev pub tinted : Outcome → ℕ → TintedOut
+tinted o r = record { outcome = o; red = r }
+
+-- a refusal cuts nothing
+abbrev pub ifDone : ℕ → ℕ → ℕ
+ifDone zero r = r
+ifDone (suc j) r = 0
+
+-- "the answer says 1 in a new field when it made a red cut, else 0"
+unfoldable pub refineByOut : Manner → Quarters → Given → ℕ → List ℕ → TintedOut
+refineByOut k q g n0 marks =
+    let o : Outcome = refineOut (wayOf k q) g n0 marks in
+    let ts : List Tri = meshOf g .tris in
+    tinted o (ifDone (o .answer .number) (redMade q (splitEdges (meshOf g) (started (startsOf k) marks ts)) ts))
+
+-- W8's call
+abbrev pub redOut : Given → ℕ → List ℕ → TintedOut
+redOut = refineByOut AllThree Red
 
 unfoldable pub coarsenOut : Given → ℕ → List ℕ → Outcome
 coarsenOut g n0 marks = sized g n0 (leaves g (coarsens n0 (meshOf g) marks))

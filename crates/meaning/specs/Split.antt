@@ -10,9 +10,11 @@ use lib.Signed.{quotZ}
 use lib.ListN.{length}
 use Rattle.lists.specs.declared.Found.{Found}
 use Rattle.lists.specs.declared.Found.the-variants.{At, Nothing}
-use Rattle.lists.specs.Lists.{any, only, once, first, whereFirst, joined, All}
+use Rattle.lists.specs.Lists.{all, any, cases, only, once, first, whereFirst, joined, All}
 use Rattle.meaning.specs.declared.Manner.{Manner}
 use Rattle.meaning.specs.declared.Manner.the-variants.{Newest, AllThree}
+use Rattle.meaning.specs.declared.Quarters.{Quarters}
+use Rattle.meaning.specs.declared.Quarters.the-variants.{Bisected, Red}
 use Rattle.meaning.specs.Rounding.{floor}
 use Rattle.meaning.specs.Mesh.{Place, Correction, Node, Tri, Mesh, Edge, place, correction, node, tri, edge, edges, base, sameEdge, nodeOf, at, mesh}
 
@@ -107,6 +109,18 @@ bisected t (some m) (some u) none = cut (tri u m (t .p)) (tri m (t .r) (t .p) �
 bisected t (some m) none (some v) = cut (tri m (t .p) (t .q)) (tri v m (t .r) ∷ tri v (t .p) m ∷ [])
 bisected t (some m) (some u) (some v) = cut (tri u m (t .p)) (tri v m (t .r) ∷ tri u (t .q) m ∷ tri v (t .p) m ∷ [])
 
+-- W8: "a triangle with all three edges split becomes (p,u,v) on the father's row and then (u,q,m), (v,m,r), (m,v,u) appended. One or two split
+-- edges are cut as in 01."
+abbrev pub red : Cutting
+red t none u v = bisected t none u v
+red t (some m) none v = bisected t (some m) none v
+red t (some m) (some u) none = bisected t (some m) (some u) none
+red t (some m) (some u) (some v) = cut (tri (t .p) u v) (tri u (t .q) m ∷ tri v m (t .r) ∷ tri m v u ∷ [])
+
+abbrev pub cuttingOf : Quarters → Cutting
+cuttingOf Bisected = bisected
+cuttingOf Red = red
+
 -- the cut of one triangle, s being the split edges in order
 abbrev pub cutOf : Cutting → ℕ → List Edge → Tri → Cut
 cutOf c n s t =
@@ -138,27 +152,41 @@ abbrev pub startsOf : Manner → Tri → List Edge
 startsOf Newest t = base t ∷ []
 startsOf AllThree t = edges t
 
--- both cut by bisection. W1: "closure, numbering and row order stay"
-abbrev pub wayOf : Manner → Way
-wayOf k = record { starts = startsOf k; cutting = bisected }
+abbrev pub wayOf : Manner → Quarters → Way
+wayOf k q = record { starts = startsOf k; cutting = cuttingOf q }
 
 -- 01's way
 abbrev pub newest : Way
-newest = wayOf Newest
+newest = wayOf Newest Bisected
 
--- W1's way: "a marked triangle cut in four at once"
+-- W1's way: "a marked triangle cut in four at once"; "closure, numbering and row order stay"
 abbrev pub allThree : Way
-allThree = wayOf AllThree
+allThree = wayOf AllThree Bisected
+
+-- W8's way: "start and close as in W1, but a triangle with all three edges split" is cut red
+abbrev pub inRed : Way
+inRed = wayOf AllThree Red
 
 abbrev pub ifMarked : Bool → List Edge → List Edge → List Edge
 ifMarked true e s = e ++ s
 ifMarked false e s = s
 
 -- the starting edges of the marked rows
-abbrev pub started : Way → List ℕ → List Tri → List Edge
-started w [] ts = []
-started w (k ∷ ks) [] = []
-started w (k ∷ ks) (t ∷ ts) = ifMarked (eqb k 1) (w .starts t) (started w ks ts)
+abbrev pub started : (Tri → List Edge) → List ℕ → List Tri → List Edge
+started f [] ts = []
+started f (k ∷ ks) [] = []
+started f (k ∷ ks) (t ∷ ts) = ifMarked (eqb k 1) (f t) (started f ks ts)
 
 unfoldable pub refined : Way → Mesh → List ℕ → Mesh
-refined w m marks = split (w .cutting) m (started w marks (m .tris))
+refined w m marks = split (w .cutting) m (started (w .starts) marks (m .tris))
+
+-- ---- red cuts
+
+-- "with all three edges split", s being the split edges
+abbrev pub wholly : List Edge → Tri → Bool
+wholly s t = all (λ e. memEdge e s) (edges t)
+
+-- W8: 1 "when it made a red cut, else 0"
+abbrev pub redMade : Quarters → List Edge → List Tri → ℕ
+redMade Bisected s ts = 0
+redMade Red s ts = cases (any (wholly s) ts) 1 0

@@ -39,10 +39,16 @@ pub struct Mids {
     pub v: u32,
 }
 
-// How to refine: by 01 the refinement edge of a marked triangle starts the split set, by W1 all three of its edges do.
+// Which edges of a marked triangle start the split set: by 01 its refinement edge, by W1 all three.
 pub enum Manner {
     Newest,
     AllThree,
+}
+
+// How a triangle with all three edges split becomes four: bisected, by 01, or red, by W8.
+pub enum Quarters {
+    Bisected,
+    Red,
 }
 
 // What stands in the way of a mesh: the number of a refusal, with the lowest node or row at fault. 0 at 0: nothing does.
@@ -59,6 +65,12 @@ pub struct Answer {
     pub t: usize,
     pub passes: usize,
     pub culprit: usize,
+}
+
+// W8: what a call says that may cut red: an answer, and 1 where it made a red cut, else 0.
+pub struct Tinted {
+    pub answer: Answer,
+    pub red: u32,
 }
 
 // W6: what a question about a point is told: a number, the correction there, 0 and 0 with any number but 0, and the culprit, as of any call.

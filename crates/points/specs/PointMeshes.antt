@@ -127,7 +127,7 @@ even-accepted : refineNo newest room smooth (1 ∷ []) ≡ 0
 unfolding lowest lowestFrom twiceArea firstOutside firstMisnamed firstRepeat firstFlat firstUnused faultOf refusal closure splitEdges splitAt split refined refineNo
 even-accepted = refl
 
-even-ends : All (EvenEnds smooth) (splitEdges smooth (started newest (1 ∷ []) (tri 0 1 2 ∷ [])))
+even-ends : All (EvenEnds smooth) (splitEdges smooth (started (newest .starts) (1 ∷ []) (tri 0 1 2 ∷ [])))
 unfolding closure splitEdges
 even-ends = cons (record { even-dx = refl; even-dy = refl }) nil
 

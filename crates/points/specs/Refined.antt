@@ -149,8 +149,8 @@ module _ (m : Mesh) (start : List Edge) (law : Lawful m) (exact : all (halves m)
 
 -- SO DOES EVERY ACCEPTED REFINE THAT CUTS BY BISECTION, where the sums of the corrections of the ends of every split edge are even.
 pub refined-asked : (w : Way) → w .cutting ≡ bisected → (room : Room) (m : Mesh) (marks : List ℕ) → Lawful m → Proper m → refineNo w room m marks ≡ 0 →
-    All (EvenEnds m) (splitEdges m (started w marks (m .tris))) → (P : Place) → asks (refined w m marks) P ≡ asks m P
+    All (EvenEnds m) (splitEdges m (started (w .starts) marks (m .tris))) → (P : Place) → asks (refined w m marks) P ≡ asks m P
 unfolding refined
 refined-asked w cuts room m marks law proper e evens P =
-    let start = started w marks (m .tris) in
+    let start = started (w .starts) marks (m .tris) in
     ap (λ c. asks (split c m start) P) cuts ∙ split-asked m start law (refine-halves w room m marks e) evens proper P

@@ -40,7 +40,7 @@ pub record Dissects (c : Cutting) : Type 0 where
 
 -- ---- how a piece is given: its weights at p, q, r and at m, u, v
 
-piece : (B : Back) (t : Tri) (m : ℕ) (u v : Option ℕ) {F : Sum} (p q r m′ u′ v′ : ℕ) → Absent u u′ → Absent v v′ → (q ≡ 0) ⊎ (r ≡ 0) → Parted u p q → Parted v r p
+pub piece : (B : Back) (t : Tri) (m : ℕ) (u v : Option ℕ) {F : Sum} (p q r m′ u′ v′ : ℕ) → Absent u u′ → Absent v v′ → (q ≡ 0) ⊎ (r ≡ 0) → Parted u p q → Parted v r p
     → SameSum F (λ φ. pos p *ℤ φ (t .p) +ℤ pos q *ℤ φ (t .q) +ℤ pos r *ℤ φ (t .r) +ℤ (pos m′ *ℤ φ m +ℤ onto u u′ φ +ℤ onto v v′ φ))
     → 4 * m′ ≡ B .qr u v (4 * p + 2 * u′ + 2 * v′) (4 * q + 2 * m′ + 2 * u′) (4 * r + 2 * m′ + 2 * v′)
     → 4 * u′ ≡ B .pq u v (4 * p + 2 * u′ + 2 * v′) (4 * q + 2 * m′ + 2 * u′) (4 * r + 2 * m′ + 2 * v′)
@@ -76,7 +76,7 @@ at-nine q = q (X 0) (X 1) (X 2) (X 3) (X 4) (X 5) (X 6) (X 7) (X 8)
 abbrev numbers : Tri → ℕ → ℕ → ℕ → ℕ → ℕ → ℕ → (ℕ → ℤ) → List ℤ
 numbers t m u v a b c φ = pos a ∷ pos b ∷ pos c ∷ φ (t .p) ∷ φ (t .q) ∷ φ (t .r) ∷ φ m ∷ φ u ∷ φ v ∷ []
 
-nine : (t : Tri) (m u v a b c : ℕ) (φ : ℕ → ℤ) (q : Nine) → Checks (numbers t m u v a b c φ) (at-nine q) → Holds (numbers t m u v a b c φ) (at-nine q)
+pub nine : (t : Tri) (m u v a b c : ℕ) (φ : ℕ → ℤ) (q : Nine) → Checks (numbers t m u v a b c φ) (at-nine q) → Holds (numbers t m u v a b c φ) (at-nine q)
 nine t m u v a b c φ q h = ring9 q (pos a) (pos b) (pos c) (φ (t .p)) (φ (t .q)) (φ (t .r)) (φ m) (φ u) (φ v) h
 
 abbrev O : Expr
@@ -88,10 +88,10 @@ abbrev bisected-u : Option ℕ → ℕ → ℕ → ℕ → ℕ
 bisected-u none A B C = 0
 bisected-u (some u) A B C = 2 * min A (B - min B C)
 
-abbrev bisected-back : Back
+abbrev pub bisected-back : Back
 bisected-back = record { qr = λ u v A B C. 2 * min B C; pq = λ u v A B C. bisected-u u A B C; rp = λ u v A B C. bisected-u v A C B }
 
-bisected-pieces : (t : Tri) (m : ℕ) (u v : Option ℕ) → All (λ k. (a b c : ℕ) → Piece bisected-back t (some m) u v (level (mix k a b c))) (parts (bisected t (some m) u v))
+pub bisected-pieces : (t : Tri) (m : ℕ) (u v : Option ℕ) → All (λ k. (a b c : ℕ) → Piece bisected-back t (some m) u v (level (mix k a b c))) (parts (bisected t (some m) u v))
 bisected-pieces t m none none =
     cons (λ a b c. piece bisected-back t m none none b c 0 a 0 0 refl refl (inr refl) tt tt
     (λ φ. nine t m m m a b c φ (λ a b c p q r m u v. (a :* m :+ b :* p :+ c :* q, b :* p :+ c :* q :+ O :* r :+ (a :* m :+ O :+ O))) tt) (omega arith) (omega arith) (omega arith))

@@ -1,5 +1,5 @@
 -- W7: "Show instead that a mesh grown from a base so admitted has no node strictly inside an edge." A mesh that is lawful and proper stays so: by every
--- accepted refine whose cut dissects (bisection does), by every coarsen, full pass and restore, and by setting a correction, whatever is marked or set.
+-- accepted refine whose cut dissects (bisection does, and so does the red cut), by every coarsen, full pass and restore, and by setting a correction, whatever is marked or set.
 -- Assumes nothing.
 use mathlib.Core.Bool.{true}
 use mathlib.Core.List.{List}
@@ -13,7 +13,8 @@ use Rattle.meaning.specs.declared.Place.{Place}
 use Rattle.meaning.specs.declared.Tri.{Tri}
 use Rattle.meaning.specs.Mesh.{Mesh, arrows, at}
 use Rattle.meaning.specs.Lawful.{InBounds, Lawful, rowOf, refusal}
-use Rattle.meaning.specs.Split.{Way, bisected, halves, splitEdges, started, refined}
+use Rattle.meaning.specs.declared.Quarters.{Quarters}
+use Rattle.meaning.specs.Split.{Way, cuttingOf, halves, splitEdges, started, refined}
 use Rattle.meaning.specs.Coarsen.{coarsened, pass, restored, allMarked}
 use Rattle.meaning.specs.Tables.{Room}
 use Rattle.meaning.specs.Calls.{refineNo}
@@ -21,7 +22,7 @@ use Rattle.meaning.specs.Setting.{corrected, setFault}
 use Rattle.meaning.specs.Proper.{shapeBy, StrictlyInside, Share, Proper, uncrowded, disjoint}
 use Rattle.laws.specs.Lawful.{refusal-lawful, lawful-refusal}
 use Rattle.laws.specs.Cut.{CutLaws}
-use Rattle.laws.specs.Bisected.{bisected-laws}
+use Rattle.laws.specs.Red.{quarters-laws}
 use Rattle.laws.specs.SplitLaw.{split-lawful}
 use Rattle.laws.specs.Refine.{refine-halves}
 use Rattle.laws.specs.Coarsen.{coarsened-lawful}
@@ -29,7 +30,8 @@ use Rattle.laws.specs.Restore.{restored-keeps}
 use Rattle.laws.specs.PlaceOnly.{SamePlaces, at-same, count-same}
 use Rattle.laws.specs.Setting.{corrected-places, corrected-lawful, set-0}
 use Rattle.proper.specs.ProperLaw.{proper-exact}
-use Rattle.proper.specs.Dissects.{Dissects, bisected-dissects}
+use Rattle.proper.specs.Dissects.{Dissects}
+use Rattle.proper.specs.RedDissects.{quarters-dissect}
 use Rattle.proper.specs.SplitProper.{split-proper}
 use Rattle.proper.specs.WithoutProper.{coarsened-proper}
 
@@ -48,18 +50,18 @@ flawless-exact m = (
 -- ---- refine
 
 -- REFINING KEEPS IT, by any way whose cut has the laws and dissects, where every edge to be split has an exact midpoint
-pub refined-flawless : (w : Way) → CutLaws (w .cutting) → Dissects (w .cutting) → (m : Mesh) (marks : List ℕ) → all (halves m) (splitEdges m (started w marks (m .tris))) ≡ true →
+pub refined-flawless : (w : Way) → CutLaws (w .cutting) → Dissects (w .cutting) → (m : Mesh) (marks : List ℕ) → all (halves m) (splitEdges m (started (w .starts) marks (m .tris))) ≡ true →
     Flawless m → Flawless (refined w m marks)
 unfolding refined
 refined-flawless w laws D m marks even F = record {
-  lawful = split-lawful laws m (started w marks (m .tris)) (F .lawful) even;
-  proper = split-proper laws D m (started w marks (m .tris)) (F .lawful) even (F .proper);
+  lawful = split-lawful laws m (started (w .starts) marks (m .tris)) (F .lawful) even;
+  proper = split-proper laws D m (started (w .starts) marks (m .tris)) (F .lawful) even (F .proper);
 }
 
--- so does every accepted refine that cuts by bisection
-pub refine-flawless : (w : Way) → w .cutting ≡ bisected → (room : Room) (m : Mesh) (marks : List ℕ) → refineNo w room m marks ≡ 0 → Flawless m → Flawless (refined w m marks)
-refine-flawless w cuts room m marks e =
-    refined-flawless w (subst CutLaws (sym cuts) bisected-laws) (subst Dissects (sym cuts) bisected-dissects) m marks (refine-halves w room m marks e)
+-- so does every accepted refine, however it quarters
+pub refine-flawless : (w : Way) (q : Quarters) → w .cutting ≡ cuttingOf q → (room : Room) (m : Mesh) (marks : List ℕ) → refineNo w room m marks ≡ 0 → Flawless m → Flawless (refined w m marks)
+refine-flawless w q cuts room m marks e =
+    refined-flawless w (subst CutLaws (sym cuts) (quarters-laws q)) (subst Dissects (sym cuts) (quarters-dissect q)) m marks (refine-halves w room m marks e)
 
 -- ---- coarsen and restore
 

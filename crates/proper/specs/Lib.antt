@@ -21,6 +21,7 @@ pub mod FaithfulProper
 pub mod Fine
 pub mod FineEdges
 pub mod Dissects
+pub mod RedDissects
 pub mod SplitProper
 pub mod WithoutProper
 pub mod Flawless

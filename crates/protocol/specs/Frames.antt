@@ -1,4 +1,4 @@
--- Document 01, 'The line program', W1's `09`, W2's culprit, W5's corrections and `08`: what one line does to what the program holds, and
+-- Document 01, 'The line program', W1's `09`, W2's culprit, W5's corrections and `08`, W8's `0a`: what one line does to what the program holds, and
 -- what it writes. Every definition takes any tables and any bytes. Assumes nothing.
 use mathlib.Core.Bool.{Bool, true, false, not, _&&_}
 use mathlib.Core.List.{List, []}
@@ -11,9 +11,11 @@ use Rattle.lists.specs.Search.{items}
 use Rattle.meaning.specs.declared.Answer.{Answer}
 use Rattle.meaning.specs.declared.Manner.{Manner}
 use Rattle.meaning.specs.declared.Manner.the-variants.{Newest, AllThree}
-use Rattle.meaning.specs.Split.{wayOf}
+use Rattle.meaning.specs.declared.Quarters.{Quarters}
+use Rattle.meaning.specs.declared.Quarters.the-variants.{Bisected, Red}
+use Rattle.meaning.specs.declared.Tinted.{Tinted}
 use Rattle.meaning.specs.Tables.{Given, given, Outcome, outcome, answer, filled}
-use Rattle.meaning.specs.Calls.{checkOut, refineOut, coarsenOut, restoreOut, setOut}
+use Rattle.meaning.specs.Calls.{TintedOut, tinted, checkOut, refineByOut, coarsenOut, restoreOut, setOut}
 use Rattle.tables.specs.Put.{setNode, setRow}
 use Rattle.text.specs.Digits.{isDigit, number, field, listed}
 use Rattle.text.specs.Lines.{correctionIn, nodeIn, rowIn, ffLine, answerLine, allLines}
@@ -53,19 +55,21 @@ ff h = step h ffLine
 
 -- ---- the kinds that refine
 
--- each in its manner. 01: "`04` refines the triangles listed"; W1: "The line program gets `09`, laid out and answered like `04`."
+-- each in its way. 01: "`04` refines the triangles listed"; W1: "The line program gets `09`, laid out and answered like `04`."; W8: "gets `0a`,
+-- laid out like `04`"
 unfoldable pub refinesIn : ℕ → Refines
 refinesIn kind =
-    cases (eqb kind 4) (In Newest)
-    (cases (eqb kind 9) (In AllThree)
-    Never)
+    cases (eqb kind 4) (In Newest Bisected)
+    (cases (eqb kind 9) (In AllThree Bisected)
+    (cases (eqb kind 0x0a) (In AllThree Red)
+    Never))
 
-abbrev pub ifRefines : {A : Type 0} → Refines → (Manner → A) → A → A
-ifRefines (In k) f a = f k
+abbrev pub ifRefines : {A : Type 0} → Refines → (Manner → Quarters → A) → A → A
+ifRefines (In k q) f a = f k q
 ifRefines Never f a = a
 
 abbrev pub isRefining : ℕ → Bool
-isRefining kind = ifRefines (refinesIn kind) (λ _. true) false
+isRefining kind = ifRefines (refinesIn kind) (λ _ _. true) false
 
 -- ---- which lines are taken
 
@@ -81,7 +85,7 @@ unfoldable pub listsBelow : ℕ → List ℕ → Bool
 listsBelow end fields = eqb (length fields % 4) 0 && allBelow end (listed fields)
 
 -- The other reasons for `ff`: fields of another length, "a number listed in `04` not below t or in `05` not below n, a row past 512 nodes
--- or 1,024 triangles, 01 to 03 after an accepted 03, or 04 to 06 before one". `03`, `06` and `07` have no fields; `09` is "laid out .. like `04`".
+-- or 1,024 triangles, 01 to 03 after an accepted 03, or 04 to 06 before one". `03`, `06` and `07` have no fields; `09` and `0a` are "laid out .. like `04`".
 -- W5: "Frame 01 grows by eight digits; `08` node dx dy (4 digits each) .. `ff` only if malformed or before an accepted 03": its node may be any.
 unfoldable pub admits : Session → ℕ → List ℕ → Bool
 admits s kind fields =
@@ -118,7 +122,7 @@ addRow h fields =
     held (h .nodes) (setRow (h .rows) (h .session .t) (rowIn fields)) (h .scratch)
     (session (h .session .n) (h .session .t + 1) (h .session .n0) (h .session .accepted))
 
--- ---- the calls: 03 to 06, 08 and 09
+-- ---- the calls: 03 to 06, 08 to 0a
 
 -- "A refused 03 drops all rows and shows zero counts." The culprit is shown all the same: the node or row, counted as they were added
 abbrev pub orDropped : Outcome → Outcome
@@ -130,15 +134,19 @@ orDropped o =
 unfoldable pub marksOf : ℕ → List ℕ → List ℕ
 marksOf k l = items (λ i. cases (any (eqb i) l) 1 0) 0 k
 
--- "`03` ends the base and checks it; `04` refines the triangles listed; `05` coarsens the nodes listed; `06` restores"; `09` refines like `04`;
+-- a call that cuts no triangle
+abbrev pub plain : Outcome → TintedOut
+plain o = tinted o 0
+
+-- "`03` ends the base and checks it; `04` refines the triangles listed; `05` coarsens the nodes listed; `06` restores"; `09` and `0a` refine like `04`;
 -- W5: "`08` node dx dy (4 digits each) sets and answers as `04` does"
-unfoldable pub called : Held → ℕ → List ℕ → Outcome
+unfoldable pub called : Held → ℕ → List ℕ → TintedOut
 called h kind fields =
-    cases (eqb kind 3) (orDropped (checkOut (givenBy h)))
-    (ifRefines (refinesIn kind) (λ k. refineOut (wayOf k) (givenBy h) (h .session .n0) (marksOf (h .session .t) (listed fields)))
-    (cases (eqb kind 5) (coarsenOut (givenBy h) (h .session .n0) (marksOf (h .session .n) (listed fields)))
-    (cases (eqb kind 8) (setOut (givenBy h) (h .session .n0) (field 4 fields 0) (correctionIn fields 1))
-    (restoreOut (givenBy h) (h .session .n0)))))
+    cases (eqb kind 3) (plain (orDropped (checkOut (givenBy h))))
+    (ifRefines (refinesIn kind) (λ k q. refineByOut k q (givenBy h) (h .session .n0) (marksOf (h .session .t) (listed fields)))
+    (cases (eqb kind 5) (plain (coarsenOut (givenBy h) (h .session .n0) (marksOf (h .session .n) (listed fields))))
+    (cases (eqb kind 8) (plain (setOut (givenBy h) (h .session .n0) (field 4 fields 0) (correctionIn fields 1)))
+    (plain (restoreOut (givenBy h) (h .session .n0))))))
 
 -- the counts are the answer's; a 03 that says 0 is accepted, and its nodes are the base's
 unfoldable pub sessionAfter : Session → ℕ → Answer → Session
@@ -146,8 +154,10 @@ sessionAfter s kind a =
     cases (eqb kind 3) (session (a .n) (a .t) (a .n) (eqb (a .number) 0))
     (session (a .n) (a .t) (s .n0) (s .accepted))
 
-abbrev pub answering : Held → ℕ → Outcome → Step
-answering h kind o = step (held (o .nodes) (o .rows) (o .scratch) (sessionAfter (h .session) kind (o .answer))) (answerLine kind (o .answer))
+abbrev pub answering : Held → ℕ → TintedOut → Step
+answering h kind x =
+    let o : Outcome = x .outcome in
+    step (held (o .nodes) (o .rows) (o .scratch) (sessionAfter (h .session) kind (o .answer))) (answerLine kind (record { answer = o .answer; red = x .red }))
 
 -- ---- a line
 

@@ -1,6 +1,7 @@
 // The line program of document 01: what it knows between lines. What each line does is in specs/.
 
 use meaning::Manner;
+use meaning::Quarters;
 
 // What the program knows beside its tables: how many nodes and rows they hold, whether a base is accepted, and its node count.
 pub struct Session {
@@ -10,8 +11,8 @@ pub struct Session {
     pub accepted: bool,
 }
 
-// Whether a frame of a kind refines, and in which manner.
+// Whether a frame of a kind refines, in which manner, and how it quarters.
 pub enum Refines {
-    In(Manner),
+    In(Manner, Quarters),
     Never,
 }

@@ -1,12 +1,13 @@
--- Document 01, 'The line program', W2 and W5: the lines that the program reads and writes. Assumes nothing.
+-- Document 01, 'The line program', W2, W5 and W8: the lines that the program reads and writes. Assumes nothing.
 use mathlib.Core.List.{List, [], _∷_, _++_}
 use Prim.Native.Nat.{ℕ, _+_}
+use lib.Dec.{eqb}
 use lib.IntN.{ℤ}
-use Rattle.lists.specs.Lists.{joined}
+use Rattle.lists.specs.Lists.{cases, joined}
 use Rattle.lists.specs.Search.{items}
-use Rattle.meaning.specs.declared.Answer.{Answer}
 use Rattle.meaning.specs.declared.Correction.{Correction}
 use Rattle.meaning.specs.declared.Node.{Node}
+use Rattle.meaning.specs.declared.Tinted.{Tinted}
 use Rattle.meaning.specs.declared.Tri.{Tri}
 use Rattle.meaning.specs.Mesh.{place, correction, node, tri}
 use Rattle.meaning.specs.Tables.{nodeAt, rowAt}
@@ -37,9 +38,16 @@ abbrev pub ffLine : List ℕ
 ffLine = bytes "ff\n"
 
 -- "Frames 03 to 06 answer kind, number (2 digits each), n, t, passes (4 each)." W2: "Answer lines but `ff` grow by four digits at their end":
--- the culprit.
-unfoldable pub answerLine : ℕ → Answer → List ℕ
-answerLine kind a = ended (hex 2 kind ++ hex 2 (a .number) ++ hex 4 (a .n) ++ hex 4 (a .t) ++ hex 4 (a .passes) ++ hex 4 (a .culprit))
+-- the culprit. W8: "The line program gets `0a` ..; its answer alone ends with that field, two digits."
+abbrev pub redField : ℕ → ℕ → List ℕ
+redField kind r = cases (eqb kind 0x0a) (hex 2 r) []
+
+unfoldable pub answerLine : ℕ → Tinted → List ℕ
+answerLine kind a =
+    ended
+    (hex 2 kind ++
+    hex 2 (a .answer .number) ++ hex 4 (a .answer .n) ++ hex 4 (a .answer .t) ++ hex 4 (a .answer .passes) ++ hex 4 (a .answer .culprit) ++
+    redField kind (a .red))
 
 -- a node "as `01` frames", a triangle "as `02` frames"
 unfoldable pub nodeLine : Node → List ℕ

@@ -13,7 +13,7 @@ use Rattle.meaning.specs.Split.{closure, splitEdges, splitAt, split, ref
 use Rattle.meaning.specs.Good.{pairs, span, G1-4, good}
 use Rattle.meaning.specs.Coarsen.{taken, without, coarsened, goodNodes, pass, restored}
 use Rattle.meaning.specs.Calls.{culpritOf, checkNo, refineNo, coarsenNo, checks, refines, coarsens, restores}
-use Rattle.meaning.specs.HandCase.{Case, check, refine, quarter, coarsen, restore, computed, says, blames, case, within, at, spot}
+use Rattle.meaning.specs.HandCase.{Case, check, refine, quarter, refineRed, coarsen, restore, computed, says, blames, case, within, at, spot}
 use Rattle.meaning.specs.HandMeshes.{square, S, after2}
 
 -- ---- several at fault: one is named, and later numbers apply to a lower row or node
@@ -55,6 +55,7 @@ throughAll k z m twice =
     case 0 m check (blames k z m twice) ∷
     case 0 m (refine (replicate (length (m .tris)) 1)) (blames k z m twice) ∷
     case 0 m (quarter (replicate (length (m .tris)) 1)) (blames k z m twice) ∷
+    case 0 m (refineRed (replicate (length (m .tris)) 1)) (blames k z m twice) ∷
     case 0 m (coarsen (replicate (length (m .nodes)) 1)) (blames k z m twice) ∷
     case 0 m restore (blames k z m twice) ∷
     []

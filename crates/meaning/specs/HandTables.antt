@@ -1,5 +1,5 @@
--- Calls on tables: room to spare, garbage past the counts, scratch that is not clear; every reason for 1; and each call's culprit. Rows of one
--- list, under one claim. Assumes nothing.
+-- Calls on tables: room to spare, garbage past the counts, scratch that is not clear; every reason for 1; each call's culprit; and W8's field.
+-- Rows of one list, under one claim. Assumes nothing.
 use mathlib.Core.Path.{_≡_, refl}
 use mathlib.Core.List.{List, [], _∷_, _++_, map}
 use Prim.Native.Nat.{ℕ}
@@ -7,6 +7,8 @@ use lib.IntN.{pos}
 use lib.ListN.{replicate}
 use Rattle.lists.specs.Search.{lowest, lowestFrom, items, itemsFrom}
 use Rattle.meaning.specs.declared.Told.{Told}
+use Rattle.meaning.specs.declared.Manner.the-variants.{Newest, AllThree}
+use Rattle.meaning.specs.declared.Quarters.the-variants.{Bisected, Red}
 use Rattle.meaning.specs.Mesh.{place, correction, twiceArea}
 use Rattle.meaning.specs.Lawful.{refusal, compatible, faultOf, firstOutside, firstMisnamed, firstRepeat, firstFlat, firstUnused, firstClash}
 use Rattle.meaning.specs.Proper.{noneLeft, partedBy, apart, firstCrowded, firstOverlap, uncrowded, disjoint}
@@ -16,7 +18,7 @@ use Rattle.meaning.specs.Setting.{corrected, setFault}
 use Rattle.meaning.specs.Asking.{weighted, weights, meanIn, rowHolding, correctionAt}
 use Rattle.meaning.specs.Coarsen.{taken, without, coarsened, goodNodes, pass, restored}
 use Rattle.meaning.specs.Tables.{Given, Outcome, given, outcome, answer, nodeAt, rowAt, meshOf}
-use Rattle.meaning.specs.Calls.{culpritOf, checkNo, refineNo, coarsenNo, checks, refines, coarsens, restores, sets, sizesFit, checkOut, refineOut, coarsenOut, restoreOut, setOut, askNo, told, asks, Heard, heard, askOut}
+use Rattle.meaning.specs.Calls.{culpritOf, checkNo, refineNo, coarsenNo, checks, refines, coarsens, restores, sets, sizesFit, checkOut, refineOut, TintedOut, tinted, refineByOut, redOut, coarsenOut, restoreOut, setOut, askNo, told, asks, Heard, heard, askOut}
 
 record Row : Type 0 where
   got : Outcome
@@ -44,6 +46,10 @@ square = 0 ∷ 0 ∷ 3 ∷ 4 ∷ 8 ∷ 0 ∷ 5 ∷ 0 ∷ 8 ∷ 8 ∷ 6 ∷ 1 ∷
 -- the middle of 0–2, with the mean of what they carry
 middle : List ℕ
 middle = 4 ∷ 4 ∷ 4 ∷ 2 ∷ []
+
+-- and those of 1–2 and 0–1
+middles : List ℕ
+middles = middle ++ 8 ∷ 4 ∷ 5 ∷ 0 ∷ 4 ∷ 0 ∷ 4 ∷ 2 ∷ []
 
 spare : List ℕ
 spare = square ++ replicate 4 9
@@ -93,7 +99,7 @@ outcomes =
     (coarsenOut (lent (square ++ middle) (four ++ 7 ∷ 7 ∷ 7 ∷ []) 43 5 4) 4 (1 ∷ 1 ∷ 1 ∷ 1 ∷ 1 ∷ []) is said 0 4 2 0 (square ++ replicate 4 0) (two ++ replicate 9 0) 43) ∷
     (restoreOut (lent (square ++ middle) four 36 5 4) 4 is said 0 4 2 1 (square ++ replicate 4 0) (two ++ replicate 6 0) 36) ∷
     -- from all three edges, in room for 8 nodes and 7 rows
-    (refineOut allThree (lent (square ++ replicate 16 9) (two ++ replicate 15 5) 60 4 2) 4 (1 ∷ 0 ∷ []) is said 0 7 6 0 (square ++ middle ++ 8 ∷ 4 ∷ 5 ∷ 0 ∷ 4 ∷ 0 ∷ 4 ∷ 2 ∷ replicate 4 0) (six ++ 0 ∷ 0 ∷ 0 ∷ []) 60) ∷
+    (refineOut allThree (lent (square ++ replicate 16 9) (two ++ replicate 15 5) 60 4 2) 4 (1 ∷ 0 ∷ []) is said 0 7 6 0 (square ++ middles ++ replicate 4 0) (six ++ 0 ∷ 0 ∷ 0 ∷ []) 60) ∷
     -- refused refines, the second in the room where 01's is done, and a coarsen that takes nothing
     (refineOut newest (lent square two 24 4 2) 4 (1 ∷ 0 ∷ []) is said 9 4 2 0 square two 24) ∷
     (refineOut allThree (lent spare wide 40 4 2) 4 (1 ∷ 0 ∷ []) is said 9 4 2 0 spare wide 40) ∷
@@ -145,8 +151,34 @@ outcomes =
     []
 
 hand-tables : map (λ r. r .got) outcomes ≡ map (λ r. r .expected) outcomes
-unfolding outcomes wrong lent said blamed square middle grown spare two wide four six outside misnamed repeated beyond turned _is_ lowest lowestFrom items itemsFrom nodeAt rowAt meshOf twiceArea firstOutside firstMisnamed firstRepeat firstFlat firstUnused firstClash faultOf refusal compatible noneLeft partedBy apart firstCrowded firstOverlap uncrowded disjoint closure splitEdges splitAt split refined pairs span G1-4 good taken without coarsened goodNodes pass restored culpritOf checkNo refineNo coarsenNo checks refines coarsens restores sizesFit checkOut refineOut coarsenOut restoreOut corrected setFault sets setOut
+unfolding outcomes wrong lent said blamed square middle middles grown spare two wide four six outside misnamed repeated beyond turned _is_ lowest lowestFrom items itemsFrom nodeAt rowAt meshOf twiceArea firstOutside firstMisnamed firstRepeat firstFlat firstUnused firstClash faultOf refusal compatible noneLeft partedBy apart firstCrowded firstOverlap uncrowded disjoint closure splitEdges splitAt split refined pairs span G1-4 good taken without coarsened goodNodes pass restored culpritOf checkNo refineNo coarsenNo checks refines coarsens restores sizesFit checkOut refineOut coarsenOut restoreOut corrected setFault sets setOut
 hand-tables = refl
+
+-- W8: row 0 of the square cut red
+sixRed : List ℕ
+sixRed = 1 ∷ 5 ∷ 6 ∷ 4 ∷ 3 ∷ 0 ∷ 5 ∷ 2 ∷ 4 ∷ 6 ∷ 4 ∷ 0 ∷ 4 ∷ 6 ∷ 5 ∷ 4 ∷ 2 ∷ 3 ∷ []
+
+-- called in red, and what it must leave, with the field
+redCalls : List (TintedOut × TintedOut)
+redCalls =
+    -- 1 "when it made a red cut, else 0": row 0 marked, in room for 8 nodes and 7 rows; nothing marked
+    (redOut (lent (square ++ replicate 16 9) (two ++ replicate 15 5) 60 4 2) 4 (1 ∷ 0 ∷ []), tinted (said 0 7 6 0 (square ++ middles ++ replicate 4 0) (sixRed ++ 0 ∷ 0 ∷ 0 ∷ []) 60) 1) ∷
+    (redOut (lent spare wide 41 4 2) 4 (0 ∷ 0 ∷ []), tinted (said 0 4 2 0 (square ++ replicate 4 0) (two ++ replicate 9 0) 41) 0) ∷
+    -- refused: 1, by scratch, by n0 and by a count; 2; 5; 9
+    (redOut (lent spare wide 39 4 2) 4 (1 ∷ 0 ∷ []), tinted (said 1 4 2 0 spare wide 39) 0) ∷
+    (redOut (lent spare wide 40 4 2) 5 (1 ∷ 0 ∷ []), tinted (said 1 4 2 0 spare wide 40) 0) ∷
+    (redOut (lent spare wide 40 4 6) 4 (1 ∷ 0 ∷ []), tinted (said 1 4 6 0 spare wide 40) 0) ∷
+    (redOut (lent spare wide 40 4 2) 4 (1 ∷ []), tinted (said 2 4 2 0 spare wide 40) 0) ∷
+    (redOut (lent spare repeated 40 4 2) 4 (1 ∷ 0 ∷ []), tinted (blamed 5 1 4 2 spare repeated 40) 0) ∷
+    (redOut (lent spare wide 40 4 2) 4 (1 ∷ 0 ∷ []), tinted (said 9 4 2 0 spare wide 40) 0) ∷
+    -- one split edge a row; three, but cut by bisection
+    (refineByOut Newest Red (lent spare wide 40 4 2) 4 (1 ∷ 0 ∷ []), tinted (said 0 5 4 0 grown (four ++ 0 ∷ 0 ∷ 0 ∷ []) 40) 0) ∷
+    (refineByOut AllThree Bisected (lent (square ++ replicate 12 9) (two ++ replicate 12 5) 52 4 2) 4 (1 ∷ 0 ∷ []), tinted (said 0 7 6 0 (square ++ middles) six 52) 0) ∷
+    []
+
+hand-red : map (λ r. r .0) redCalls ≡ map (λ r. r .1) redCalls
+unfolding redCalls lent said blamed square middle middles grown spare two wide four six sixRed repeated lowest lowestFrom items itemsFrom nodeAt rowAt meshOf twiceArea firstOutside firstMisnamed firstRepeat firstFlat firstUnused faultOf refusal closure splitEdges splitAt split refined culpritOf refineNo refines sizesFit refineOut refineByOut
+hand-red = refl
 
 -- W6: what a question leaves: nodes and rows as they were, past the counts too
 left : Told → List ℕ → List ℕ → ℕ → Heard

@@ -14,6 +14,7 @@ pub mod HandCase
 pub mod HandMeshes
 pub mod OwnMeshes
 pub mod QuarterMeshes
+pub mod RedMeshes
 pub mod CulpritMeshes
 pub mod SettingMeshes
 pub mod AskingMeshes

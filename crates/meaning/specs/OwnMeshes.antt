@@ -75,13 +75,13 @@ wings = at 0 0 ∷ at 16 0 ∷ at 0 16 ∷ spot (pos 8) (negsuc 7) ∷ spot (neg
 abbrev pub winged : Mesh
 winged = mesh wings (tri 0 1 2 ∷ tri 3 1 0 ∷ tri 4 0 2 ∷ [])
 
-abbrev cut-m : Mesh
+abbrev pub cut-m : Mesh
 cut-m = mesh (wings ++ at 8 8 ∷ []) (tri 5 0 1 ∷ tri 3 1 0 ∷ tri 4 0 2 ∷ tri 5 2 0 ∷ [])
 
-abbrev cut-mu : Mesh
+abbrev pub cut-mu : Mesh
 cut-mu = mesh (wings ++ at 8 8 ∷ at 8 0 ∷ []) (tri 6 5 0 ∷ tri 6 3 1 ∷ tri 4 0 2 ∷ tri 5 2 0 ∷ tri 6 1 5 ∷ tri 6 0 3 ∷ [])
 
-abbrev cut-mv : Mesh
+abbrev pub cut-mv : Mesh
 cut-mv = mesh (wings ++ at 8 8 ∷ at 0 8 ∷ []) (tri 5 0 1 ∷ tri 3 1 0 ∷ tri 6 4 0 ∷ tri 6 5 2 ∷ tri 6 0 5 ∷ tri 6 2 4 ∷ [])
 
 abbrev pub cut-all : Mesh
@@ -91,7 +91,7 @@ cut-all =
 
 -- ---- drawing one number
 
-abbrev named : ℕ → ℕ → ℕ → Mesh
+abbrev pub named : ℕ → ℕ → ℕ → Mesh
 named a b c = mesh (at 0 0 ∷ at 8 0 ∷ at 0 8 ∷ []) (tri 0 1 2 ∷ tri a b c ∷ [])
 
 abbrev straight : Mesh

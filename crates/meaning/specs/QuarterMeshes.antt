@@ -95,14 +95,14 @@ wingsQuartered =
 -- ---- 8
 
 -- the refinement edge has even sums, the sides have odd ones
-abbrev oddSides : Mesh
+abbrev pub oddSides : Mesh
 oddSides = mesh (at 1 1 ∷ at 4 0 ∷ at 0 4 ∷ []) (tri 0 1 2 ∷ [])
 
 abbrev oddSidesRefined : Mesh
 oddSidesRefined = mesh (at 1 1 ∷ at 4 0 ∷ at 0 4 ∷ at 2 2 ∷ []) (tri 3 0 1 ∷ tri 3 2 0 ∷ [])
 
 -- the three edges of row 0 have even sums, the refinement edge 0–3 that its side draws in has not
-abbrev oddNeighbour : Mesh
+abbrev pub oddNeighbour : Mesh
 oddNeighbour = mesh (at 0 4 ∷ at 8 4 ∷ at 0 12 ∷ at 3 0 ∷ []) (tri 0 1 2 ∷ tri 1 0 3 ∷ [])
 
 -- ---- what each case calls, and what must come out

@@ -52,8 +52,8 @@ oneRedRefined = mesh (places ++ middles ++ at 6 2 ∷ []) (tri 0 4 5 ∷ tri 6 4
 -- ---- an older node goes, and a triangle comes that never was
 
 -- refined by 01
-abbrev halves : Mesh
-halves = mesh (places ++ at 4 4 ∷ []) (tri 3 0 1 ∷ tri 3 2 0 ∷ [])
+abbrev cutInTwo : Mesh
+cutInTwo = mesh (places ++ at 4 4 ∷ []) (tri 3 0 1 ∷ tri 3 2 0 ∷ [])
 
 -- then both halves cut red: node 3 is the newest vertex of its two rows, 0 and 1, and the midpoint of 6 and 8. On the right, without it:
 --
@@ -66,14 +66,14 @@ halves = mesh (places ++ at 4 4 ∷ []) (tri 3 0 1 ∷ tri 3 2 0 ∷ [])
 --     | 6  5---------6              | 5  4---------5
 --     | /  2  \ 4 /  3  \           | /  1  \ 3 /  2  \
 --     0---------4---------1         0---------3---------1
-abbrev halvesRed : Mesh
-halvesRed =
+abbrev twoRed : Mesh
+twoRed =
     mesh (places ++ at 4 4 ∷ at 4 0 ∷ at 2 2 ∷ at 6 2 ∷ at 0 4 ∷ at 2 6 ∷ [])
     (tri 3 5 6 ∷ tri 3 8 5 ∷ tri 5 0 4 ∷ tri 6 4 1 ∷ tri 4 6 5 ∷ tri 8 2 7 ∷ tri 5 7 0 ∷ tri 7 5 8 ∷ [])
 
--- row 0 is (4,5,7), which no call had cut
-abbrev halvesLeft : Mesh
-halvesLeft =
+-- row 0, (4,5,7), is no triangle that was ever cut
+abbrev twoLeft : Mesh
+twoLeft =
     mesh (places ++ at 4 0 ∷ at 2 2 ∷ at 6 2 ∷ at 0 4 ∷ at 2 6 ∷ [])
     (tri 4 5 7 ∷ tri 4 0 3 ∷ tri 5 3 1 ∷ tri 3 5 4 ∷ tri 7 2 6 ∷ tri 4 6 0 ∷ tri 6 4 7 ∷ [])
 
@@ -153,9 +153,10 @@ redCases =
     case 3 oneRed check (says 0 oneRed 0 64) ∷
     case 3 oneRed (refine (0 ∷ 1 ∷ 0 ∷ 0 ∷ [])) (says 0 oneRedRefined 0 64) ∷
     case 3 oneRedRefined restore (says 0 oneRed 1 64) ∷
-    -- two halves: one pass takes the node that 01 made, and not those of the red cuts
-    case 3 halves (refineRed (1 ∷ 1 ∷ [])) (cutsRed halvesRed 64) ∷
-    case 3 halvesRed restore (says 0 halvesLeft 1 64) ∷
+    -- two halves: one pass takes the node that 01 made, and not those of the red cuts; what is left is not compatible
+    case 3 cutInTwo (refineRed (1 ∷ 1 ∷ [])) (cutsRed twoRed 64) ∷
+    case 3 twoRed restore (says 0 twoLeft 1 64) ∷
+    case 3 twoLeft check (says 10 twoLeft 0 64) ∷
     -- red, green and blue, and by W1
     case 5 flanked (refineRed (1 ∷ 0 ∷ 0 ∷ [])) (cutsRed flankedRed 512) ∷
     case 5 flanked (quarter (1 ∷ 0 ∷ 0 ∷ [])) (says 0 flankedQuartered 0 512) ∷

@@ -7,3 +7,4 @@ pub mod AskAgain
 pub mod ProperCalls
 pub mod PointCalls
 pub mod Demand3CallsExample
+pub mod RedAway

@@ -20,7 +20,7 @@ use Rattle.meaning.specs.declared.Tri.{Tri}
 use Rattle.meaning.specs.Mesh.{Mesh, Edge, tri, edge, edges, base, mesh}
 use Rattle.meaning.specs.Lawful.{rowOf}
 use Rattle.meaning.specs.Split.{Cut, Cutting, Way, cut, bisected, red, numberOf, cutOf, memEdge, startsOf, wayOf, inRed, wholly, redMade, splitEdges, splitAt, started, split, refined}
-use Rattle.meaning.specs.Tables.{Given, Room, meshOf, roomOf}
+use Rattle.meaning.specs.Tables.{Given, meshOf}
 use Rattle.meaning.specs.Calls.{refineNo, refines, refineOut, TintedOut, ifDone, refineByOut, redOut}
 use Rattle.laws.specs.Closure.{splitEdges-least, started-marked, started-only}
 use Rattle.laws.specs.Cut.{CutLaws, there}

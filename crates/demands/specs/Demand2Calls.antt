@@ -2,7 +2,7 @@
 -- the calls themselves: mesh::check, mesh::refine, mesh::quarter, mesh::refine_red, mesh::coarsen, mesh::set_correction, mesh::correction_at (crates/mesh/src/lib.rt;
 -- the last in AskCall) and job::restore (crates/job/src/lib.rt). What `Answers`, `Holds` and `AsGiven` say of tables stands in crates/laws/specs/CallLaw.antt: `Answers` says of every
 -- call which number it gives and, W2, which node or row the culprit is (`Names` in crates/meaning/specs/Lawful.antt). Assumes nothing.
-use mathlib.Core.Bool.{true}
+use mathlib.Core.Bool.{true, false}
 use mathlib.Core.List.{List, [], _∷_, List·Memᴰ}
 use mathlib.Core.Logic.{_↔_, _≢_, _⊎_}
 use mathlib.Core.Option.{some}
@@ -22,7 +22,7 @@ use Rattle.meaning.specs.declared.Node.{Node}
 use Rattle.meaning.specs.declared.Place.{Place}
 use Rattle.meaning.specs.Mesh.{Mesh, Edge, tri, node, nodeOf, origin, edges, base}
 use Rattle.meaning.specs.Lawful.{InBounds, Lawful, Compatible, Lowest, Names, refusal, rowOf}
-use Rattle.meaning.specs.Split.{Way, startsOf, wayOf, newest, allThree, inRed, red, wholly, started, refined}
+use Rattle.meaning.specs.Split.{Way, startsOf, wayOf, newest, allThree, inRed, bisected, red, cutOf, wholly, started, refined}
 use Rattle.meaning.specs.Coarsen.{coarsened, restored}
 use Rattle.meaning.specs.Setting.{SetSays, SetNames, corrected, setFault}
 use Rattle.meaning.specs.Tables.{Given, Outcome, given, nodeForm, rowForm, nodeAt, placeAt, rowAt, meshOf, roomOf}
@@ -35,7 +35,7 @@ use Rattle.laws.specs.Marks.{WellMarked}
 use Rattle.laws.specs.Cut.{CutLaws, parts}
 use Rattle.laws.specs.Red.{quarters-laws}
 use Rattle.laws.specs.RedShape.{ShapedLike}
-use Rattle.laws.specs.RedTold.{SomeMarked, marked-wholly, unmarked-stays, tinted-outcome, says-1-exactly, else-0}
+use Rattle.laws.specs.RedTold.{SomeMarked, marked-wholly, else-as-01, quarters-answer, unmarked-stays, tinted-outcome, says-1-exactly, else-0}
 use Rattle.laws.specs.Refine.{toSplit, Least, OddSum, Fits, TooMany, RefineSays, unlawful, Refined, refine-splits, started-exactly, starts-own, refine-exact, refine-8, refine-9, refine-0, refine-only-8-9, refine-done}
 use Rattle.laws.specs.CoarsenCalls.{Coarsened, CoarsenSays, well-marked, RestoreDone, coarsen-exact, coarsen-0, coarsen-done, restore-done}
 use Rattle.laws.specs.Restore.{LooksAt, looks-lawful, restored-fewer, restored-rows}
@@ -106,6 +106,10 @@ pub record RedMade (g : Given) (n0 : ℕ) (marks : List ℕ) (x : TintedOut) : T
   pub cuts-red : x .outcome .answer .number ≡ 0 → (i : ℕ) → i < g .t → wholly (toSplit inRed (meshOf g) marks) (rowOf (meshOf g .tris) i) ≡ true →
       CutRed (rowOf (meshOf g .tris) i) i (meshOf (tablesAfter (x .outcome)))
   pub marked-wholly : (i : ℕ) → i < g .t → getD marks i 0 ≡ 1 → wholly (toSplit inRed (meshOf g) marks) (rowOf (meshOf g .tris) i) ≡ true
+  -- "One or two split edges are cut as in 01."
+  pub others-as-01 : (t : Tri) → wholly (toSplit inRed (meshOf g) marks) t ≡ false → cutOf red (length (meshOf g .nodes)) (toSplit inRed (meshOf g) marks) t ≡ cutOf bisected (length (meshOf g .nodes)) (toSplit inRed (meshOf g) marks) t
+  -- number, counts and culprit are those of W1's call
+  pub answers-as-W1 : (o : Outcome) → o ≡ refineOut allThree g n0 marks → x .outcome .answer ≡ o .answer
   -- "the answer says 1 in a new field when it made a red cut": that is, if it was not refused and a row is marked; "else 0"
   pub says-1-exactly : (x .red ≡ 1) ↔ ((x .outcome .answer .number ≡ 0) × SomeMarked marks (g .t))
   pub else-0 : x .red ≢ 1 → x .red ≡ 0
@@ -266,6 +270,8 @@ red-call g n0 marks x by = record {
   made = as-refine;
   cuts-red = λ z i l all. (let f = cut z i l all in record { in-four = f; shaped = four-shaped f });
   marked-wholly = λ i l one. marked-wholly Red (meshOf g) marks i (omega (arith, rows-count g)) one;
+  others-as-01 = else-as-01 (length (meshOf g .nodes)) (toSplit inRed (meshOf g) marks);
+  answers-as-W1 = λ o f. ap (λ (y : Outcome). y .answer) e ∙ quarters-answer AllThree Red Bisected g n0 marks ∙ ap (λ (y : Outcome). y .answer) (sym f);
   says-1-exactly = says-1-exactly g n0 marks x by;
   else-0 = else-0 g n0 marks x by;
   says-0-same = same (x .outcome .answer .number) refl;

@@ -59,7 +59,7 @@ T-cut-red = let r = demand2-calls .of-red T 3 (1 ∷ []) (tinted inFour 1) T-red
 
 -- Restore says 0 after no pass, and leaves what the red refine left: six nodes.
 T-stays : inFour ≡ restoreOut (tablesAfter inFour) 3
-unfolding stands corners leaving inFour lowest lowestFrom items itemsFrom nodeAt rowAt meshOf twiceArea firstOutside firstMisnamed firstRepeat firstFlat firstUnused faultOf refusal pairs span G1-4 good taken without coarsened goodNodes pass restored restores culpritOf sizesFit restoreOut
+unfolding stands corners leaving whole inFour lowest lowestFrom items itemsFrom nodeAt rowAt meshOf twiceArea firstOutside firstMisnamed firstRepeat firstFlat firstUnused faultOf refusal pairs span G1-4 good taken without coarsened goodNodes pass restored restores culpritOf sizesFit restoreOut
 T-stays = refl
 
 -- SO IT IS NOT THE BASE,

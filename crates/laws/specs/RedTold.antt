@@ -1,5 +1,5 @@
 -- W8: "the answer says 1 in a new field when it made a red cut, else 0". What that tells: it is 1 exactly if a row is marked; and with no row marked a refine,
--- by whatever way, leaves the mesh as it is. Assumes nothing.
+-- by whatever way, leaves the mesh as it is. But for that field the answer is W1's. Assumes nothing.
 use mathlib.Core.Bool.{Bool, true, false, _&&_}
 use mathlib.Core.List.{List, [], _∷_, _++_, map, append-nil}
 use mathlib.Core.Logic.{_↔_, _≢_}
@@ -19,13 +19,14 @@ use Rattle.meaning.specs.declared.Quarters.the-variants.{Bisected, Red}
 use Rattle.meaning.specs.declared.Tri.{Tri}
 use Rattle.meaning.specs.Mesh.{Mesh, Edge, tri, edge, edges, base, mesh}
 use Rattle.meaning.specs.Lawful.{rowOf}
-use Rattle.meaning.specs.Split.{Cut, Cutting, Way, cut, bisected, red, numberOf, cutOf, memEdge, startsOf, wayOf, inRed, wholly, redMade, splitEdges, splitAt, started, split, refined}
-use Rattle.meaning.specs.Tables.{Given, meshOf}
-use Rattle.meaning.specs.Calls.{refineNo, refines, refineOut, TintedOut, ifDone, refineByOut, redOut}
+use Rattle.meaning.specs.Split.{Cut, Cutting, Way, cut, bisected, red, cuttingOf, numberOf, cutOf, memEdge, startsOf, wayOf, inRed, wholly, redMade, splitEdges, splitAt, started, split, refined}
+use Rattle.meaning.specs.Tables.{Given, Room, meshOf, roomOf}
+use Rattle.meaning.specs.Calls.{says, refineNo, refines, sizesFit, untouched, leaves, refineOut, TintedOut, ifDone, refineByOut, redOut}
 use Rattle.laws.specs.Closure.{splitEdges-least, started-marked, started-only}
 use Rattle.laws.specs.Cut.{CutLaws, there}
 use Rattle.laws.specs.Edges.{memEdge-at}
-use Rattle.laws.specs.SplitLaw.{number-there}
+use Rattle.laws.specs.SplitLaw.{number-there, split-nodes, split-rows}
+use Rattle.laws.specs.Red.{quarters-laws}
 use Rattle.laws.specs.Refine.{toSplit, manner-splits}
 use Rattle.laws.specs.TableMesh.{rows-count}
 
@@ -114,6 +115,31 @@ red-exactly m marks = (λ e. onward (any (wholly s) (m .tris)) refl e, back)
 
     back : SomeMarked marks (length (m .tris)) → cases {A = ℕ} (any (wholly s) (m .tris)) 1 0 ≡ 1
     back (i, l, one) = rw (any-at (wholly s) (marked-wholly Red m marks i l one) (at-mem (m .tris) i (tri 0 0 0) l))
+
+-- ---- the same answer, however triangles are quartered
+
+-- as many nodes and rows are made
+quarters-count : (k : Manner) (q q′ : Quarters) (m : Mesh) (marks : List ℕ) →
+    (length (refined (wayOf k q) m marks .nodes) ≡ length (refined (wayOf k q′) m marks .nodes)) × (length (refined (wayOf k q) m marks .tris) ≡ length (refined (wayOf k q′) m marks .tris))
+unfolding refined
+quarters-count k q q′ m marks =
+    let start = started (startsOf k) marks (m .tris) in
+    (split-nodes (cuttingOf q) m start ∙ sym (split-nodes (cuttingOf q′) m start), split-rows (quarters-laws q) m start ∙ sym (split-rows (quarters-laws q′) m start))
+
+quarters-number : (k : Manner) (q q′ : Quarters) (room : Room) (m : Mesh) (marks : List ℕ) → refineNo (wayOf k q) room m marks ≡ refineNo (wayOf k q′) room m marks
+unfolding refineNo
+quarters-number k q q′ room m marks = let (a, b) = quarters-count k q q′ m marks in rw (a, b)
+
+-- THE ANSWER IS THE SAME, HOWEVER TRIANGLES ARE QUARTERED: number, counts and culprit. So a red refine answers as W1's does, but for the new field.
+pub quarters-answer : (k : Manner) (q q′ : Quarters) (g : Given) (n0 : ℕ) (marks : List ℕ) → refineOut (wayOf k q) g n0 marks .answer ≡ refineOut (wayOf k q′) g n0 marks .answer
+unfolding refineOut refines
+quarters-answer k q q′ g n0 marks = rw (quarters-number k q q′ (roomOf g) (meshOf g) marks) (go (sizesFit g n0) (refineNo (wayOf k q′) (roomOf g) (meshOf g) marks))
+  where
+    go : (b : Bool) (j : ℕ) →
+        cases b (leaves g (says j (meshOf g) (refined (wayOf k q) (meshOf g) marks) 0)) (untouched g 1 0) .answer ≡ cases b (leaves g (says j (meshOf g) (refined (wayOf k q′) (meshOf g) marks) 0)) (untouched g 1 0) .answer
+    go true zero = let (a, b) = quarters-count k q q′ (meshOf g) marks in rw (a, b)
+    go true (suc j) = refl
+    go false j = refl
 
 -- ---- of a call
 

@@ -1,4 +1,4 @@
--- What the calls promise, in one statement for each demand: the theorems of the product, and an example that meets their premises.
+-- What the calls promise, in one statement for each demand: the theorems of the product, and examples that meet their premises.
 pub mod InFour
 pub mod AskCall
 pub mod Demand2Calls

@@ -1,9 +1,9 @@
 -- W8: "Demand 3 doesn't hold for a sequence with such a refinement": it cannot. One triangle, which the check admits; a red refine of it, which says 1 in the new field; then a
 -- restore with the base's node count says 0, makes no pass and leaves all three added nodes, for none is the newest vertex of every row that holds it (G1). With nothing
--- marked a red refine says 0 there, and restore ends with the base. Assumes nothing.
+-- marked, or refused, a red refine says 0 there, and restore ends with the base. Assumes nothing.
 use mathlib.Core.List.{List, [], _∷_, _++_}
 use mathlib.Core.Path.{_≡_, refl, sym, ap, _∙_}
-use Prim.Native.Nat.{ℕ, _<_}
+use Prim.Native.Nat.{ℕ}
 use native.Mathlib.Omega.{arith}
 use lib.IntN.{ℤ, pos}
 use lib.ListN.{length, replicate}
@@ -15,10 +15,10 @@ use Rattle.meaning.specs.Split.{closure, splitEdges, splitAt, split, refined}
 use Rattle.meaning.specs.Good.{pairs, span, G1-4, good}
 use Rattle.meaning.specs.Coarsen.{taken, without, coarsened, goodNodes, pass, restored}
 use Rattle.meaning.specs.Tables.{Given, Outcome, given, outcome, answer, nodeAt, rowAt, meshOf}
-use Rattle.meaning.specs.Calls.{culpritOf, checkNo, refineNo, refines, restores, sizesFit, checkOut, refineOut, TintedOut, tinted, refineByOut, redOut, restoreOut}
+use Rattle.meaning.specs.Calls.{culpritOf, checkNo, refineNo, refines, restores, sizesFit, checkOut, refineOut, tinted, refineByOut, redOut, restoreOut}
 use Rattle.laws.specs.TableMesh.{nodes-count, tablesAfter}
 use Rattle.demands.specs.Demand2Calls.{CutRed, demand2-calls}
-use Rattle.demands.specs.Demand3Calls.{Held, base-held, red-0-held, demand3-calls}
+use Rattle.demands.specs.Demand3Calls.{Held, base-held, scratch-anew, after-refusal, red-made, red-0-held, demand3-calls}
 
 -- a node at (a, b) that carries no correction
 stands : ℕ → ℕ → List ℤ
@@ -81,7 +81,19 @@ T-unmarked : tinted whole 0 ≡ redOut T 3 (0 ∷ [])
 unfolding stands corners T leaving whole lowest lowestFrom items itemsFrom nodeAt rowAt meshOf twiceArea firstOutside firstMisnamed firstRepeat firstFlat firstUnused faultOf refusal closure splitEdges splitAt split refined culpritOf refineNo refines sizesFit refineOut refineByOut
 T-unmarked = refl
 
--- A restore after it that says 0 ends with the base.
+-- The triangle is marked, but there is no scratch: refused as 1, and 0 in the new field.
+T-refused : tinted (outcome (answer 1 3 1 0 0) (corners ++ replicate 12 (pos 0)) (0 ∷ 1 ∷ 2 ∷ replicate 9 0) []) 0 ≡ redOut (given (corners ++ replicate 12 (pos 0)) (0 ∷ 1 ∷ 2 ∷ replicate 9 0) [] 3 1) 3 (1 ∷ [])
+unfolding stands corners meshOf items itemsFrom nodeAt rowAt closure splitEdges sizesFit refineOut refineByOut
+T-refused = refl
+
+-- Both are among the sequences of demand 3,
+T-held : Held T (tablesAfter whole)
+unfolding T leaving whole
+T-held =
+    let a = after-refusal base-held [] 3 1 _ (red-made 3 (1 ∷ []) _ T-refused) (λ z. omega arith) in
+    red-0-held (scratch-anew a (replicate 40 7)) (0 ∷ []) (tinted whole 0) T-unmarked refl
+
+-- so that a restore which says 0 ends with the base.
 T-again : (o : Outcome) → o ≡ restoreOut (tablesAfter whole) 3 → o .answer .number ≡ 0 → meshOf (tablesAfter o) ≡ meshOf T
 unfolding T leaving whole
-T-again = demand3-calls T whole T-checked refl (red-0-held base-held (0 ∷ []) (tinted whole 0) T-unmarked refl) .mesh-again
+T-again = demand3-calls T whole T-checked refl T-held .mesh-again

@@ -35,7 +35,7 @@ use Rattle.laws.specs.Marks.{WellMarked}
 use Rattle.laws.specs.Cut.{CutLaws, parts}
 use Rattle.laws.specs.Red.{quarters-laws}
 use Rattle.laws.specs.RedShape.{ShapedLike}
-use Rattle.laws.specs.RedTold.{SomeMarked, marked-wholly, else-as-01, quarters-answer, unmarked-stays, tinted-outcome, says-1-exactly, else-0}
+use Rattle.laws.specs.RedTold.{SomeMarked, SomeWholly, marked-wholly, else-as-01, quarters-answer, unmarked-stays, red-outcome, says-1-exactly, says-1-marked, else-0}
 use Rattle.laws.specs.Refine.{toSplit, Least, OddSum, Fits, TooMany, RefineSays, unlawful, Refined, refine-splits, started-exactly, starts-own, refine-exact, refine-8, refine-9, refine-0, refine-only-8-9, refine-done}
 use Rattle.laws.specs.CoarsenCalls.{Coarsened, CoarsenSays, well-marked, RestoreDone, coarsen-exact, coarsen-0, coarsen-done, restore-done}
 use Rattle.laws.specs.Restore.{LooksAt, looks-lawful, restored-fewer, restored-rows}
@@ -110,8 +110,9 @@ pub record RedMade (g : Given) (n0 : ℕ) (marks : List ℕ) (x : TintedOut) : T
   pub others-as-01 : (t : Tri) → wholly (toSplit inRed (meshOf g) marks) t ≡ false → cutOf red (length (meshOf g .nodes)) (toSplit inRed (meshOf g) marks) t ≡ cutOf bisected (length (meshOf g .nodes)) (toSplit inRed (meshOf g) marks) t
   -- number, counts and culprit are those of W1's call
   pub answers-as-W1 : (o : Outcome) → o ≡ refineOut allThree g n0 marks → x .outcome .answer ≡ o .answer
-  -- "the answer says 1 in a new field when it made a red cut": that is, if it was not refused and a row is marked; "else 0"
-  pub says-1-exactly : (x .red ≡ 1) ↔ ((x .outcome .answer .number ≡ 0) × SomeMarked marks (g .t))
+  -- "the answer says 1 in a new field when it made a red cut": if it was not refused and a row had all three edges split, that is, if a row is marked; "else 0"
+  pub says-1-exactly : (x .red ≡ 1) ↔ ((x .outcome .answer .number ≡ 0) × SomeWholly (toSplit inRed (meshOf g) marks) (meshOf g .tris))
+  pub says-1-marked : (x .red ≡ 1) ↔ ((x .outcome .answer .number ≡ 0) × SomeMarked marks (g .t))
   pub else-0 : x .red ≢ 1 → x .red ≡ 0
   -- what says 0 there left the mesh as it was
   pub says-0-same : x .red ≡ 0 → SameMesh g (x .outcome)
@@ -273,12 +274,13 @@ red-call g n0 marks x by = record {
   others-as-01 = else-as-01 (length (meshOf g .nodes)) (toSplit inRed (meshOf g) marks);
   answers-as-W1 = λ o f. ap (λ (y : Outcome). y .answer) e ∙ quarters-answer AllThree Red Bisected g n0 marks ∙ ap (λ (y : Outcome). y .answer) (sym f);
   says-1-exactly = says-1-exactly g n0 marks x by;
+  says-1-marked = says-1-marked g n0 marks x by;
   else-0 = else-0 g n0 marks x by;
   says-0-same = same (x .outcome .answer .number) refl;
 }
   where
     e : x .outcome ≡ refineOut inRed g n0 marks
-    e = tinted-outcome AllThree Red g n0 marks x by
+    e = red-outcome g n0 marks x by
 
     as-refine : RefineMade inRed edges g n0 marks (x .outcome)
     as-refine = manner-call AllThree Red g n0 marks (x .outcome) e
@@ -288,7 +290,7 @@ red-call g n0 marks x by = record {
 
     same : (j : ℕ) → x .outcome .answer .number ≡ j → x .red ≡ 0 → SameMesh g (x .outcome)
     same zero z r =
-        let unmarked : ¬ SomeMarked marks (length (meshOf g .tris)) = λ h. (let one = says-1-exactly g n0 marks x by .1 (z, rw (rows-count g) at h) in omega arith) in
+        let unmarked : ¬ SomeMarked marks (length (meshOf g .tris)) = λ h. (let one = says-1-marked g n0 marks x by .1 (z, rw (rows-count g) at h) in omega arith) in
         let m : meshOf (tablesAfter (x .outcome)) ≡ meshOf g = left-is AllThree Red g n0 marks (x .outcome) e z ∙ unmarked-stays inRed (quarters-laws Red) (meshOf g) marks unmarked in
         record {
           mesh-same = m;

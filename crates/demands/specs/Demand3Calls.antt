@@ -14,7 +14,6 @@ use lib.Dec.{leb}
 use lib.ListN.{length, replicate}
 use Rattle.lists.specs.Lists.{cases}
 use Rattle.meaning.specs.declared.Correction.{Correction}
-use Rattle.meaning.specs.declared.Manner.the-variants.{AllThree}
 use Rattle.meaning.specs.declared.Quarters.the-variants.{Bisected, Red}
 use Rattle.meaning.specs.Split.{Way, bisected, newest, inRed}
 use Rattle.meaning.specs.Coarsen.{restored}
@@ -22,7 +21,7 @@ use Rattle.meaning.specs.declared.Place.{Place}
 use Rattle.meaning.specs.Tables.{Given, Outcome, given, meshOf, roomOf, cleared}
 use Rattle.meaning.specs.Calls.{sizesFit, checkOut, refineOut, TintedOut, redOut, coarsenOut, restoreOut, setOut, Heard, askOut}
 use Rattle.laws.specs.Red.{quarters-laws}
-use Rattle.laws.specs.RedTold.{SomeMarked, unmarked-alike, tinted-outcome, says-1-exactly}
+use Rattle.laws.specs.RedTold.{SomeMarked, unmarked-alike, red-outcome, says-1-marked}
 use Rattle.laws.specs.TableMesh.{tablesAfter}
 use Rattle.laws.specs.CallLaw.{AsGiven, refine-leaves}
 use Rattle.growth.specs.Demand3.{Removals, TablesReached, begin, lent, refined-by, coarsened-by, set-by, restored-by, refused-by, checked-by, a-refine, a-coarsen, a-set, a-restore, still, baseAgain, Restores, demand3-tables}
@@ -59,7 +58,7 @@ pub data Held (g₀ : Given) : Given → Type 0 where
 
 -- W8's call, whatever the new field says: refused, it is among those of `after-refusal`
 pub red-made : {g : Given} (n0 : ℕ) (marks : List ℕ) (x : TintedOut) → x ≡ redOut g n0 marks → Made g (x .outcome)
-red-made {g} n0 marks x e = refine-made inRed n0 marks (tinted-outcome AllThree Red g n0 marks x e)
+red-made {g} n0 marks x e = refine-made inRed n0 marks (red-outcome g n0 marks x e)
 
 -- What the user then finds.
 pub record Ends (g₀ g : Given) : Type 0 where
@@ -111,11 +110,11 @@ red-0-held {g₀} {g} h marks x e r = go (o .answer .number) refl
     o = x .outcome
 
     by : o ≡ refineOut inRed g (g₀ .n) marks
-    by = tinted-outcome AllThree Red g (g₀ .n) marks x e
+    by = red-outcome g (g₀ .n) marks x e
 
     go : (k : ℕ) → o .answer .number ≡ k → Held g₀ (tablesAfter o)
     go zero z =
-        let unmarked : ¬ SomeMarked marks (g .t) = λ s. (let one = says-1-exactly g (g₀ .n) marks x e .1 (z, s) in omega arith) in
+        let unmarked : ¬ SomeMarked marks (g .t) = λ s. (let one = says-1-marked g (g₀ .n) marks x e .1 (z, s) in omega arith) in
         after-refine h newest refl marks o (by ∙ unmarked-alike inRed newest (quarters-laws Red) (quarters-laws Bisected) g (g₀ .n) marks unmarked) z
     go (suc k) z =
         let refused : o .answer .number ≢ 0 = λ y. omega arith in

@@ -11,7 +11,6 @@ use lib.IntN.{ℤ}
 use Rattle.lists.specs.Lists.{cases, All}
 use Rattle.meaning.specs.declared.Correction.{Correction}
 use Rattle.meaning.specs.declared.Place.{Place}
-use Rattle.meaning.specs.declared.Manner.the-variants.{AllThree}
 use Rattle.meaning.specs.declared.Quarters.{Quarters}
 use Rattle.meaning.specs.declared.Quarters.the-variants.{Bisected, Red}
 use Rattle.meaning.specs.Mesh.{Mesh, arrows, at}
@@ -23,7 +22,7 @@ use Rattle.meaning.specs.Tables.{Given, Outcome, given, meshOf, roomOf}
 use Rattle.meaning.specs.Calls.{sizesFit, checkNo, checkOut, refineOut, TintedOut, redOut, coarsenOut, restoreOut, setOut, Heard, askOut}
 use Rattle.laws.specs.TableMesh.{nodes-count, tablesAfter, done-mesh}
 use Rattle.laws.specs.CallLaw.{AsGiven, CallLeaves, check-leaves, refine-leaves, coarsen-leaves, restore-leaves, set-leaves, ask-leaves}
-use Rattle.laws.specs.RedTold.{tinted-outcome}
+use Rattle.laws.specs.RedTold.{red-outcome}
 use Rattle.growth.specs.Demand3.{still}
 use Rattle.proper.specs.Flawless.{Flawless, refine-flawless, coarsened-flawless, restored-flawless, set-flawless}
 use Rattle.proper.specs.Check.{check-0}
@@ -40,7 +39,7 @@ pub data Works (g : Given) (o : Outcome) : Type 0 where
 
 -- what W8's call leaves, whatever the new field says
 pub red-works : {g : Given} (n0 : ℕ) (marks : List ℕ) (x : TintedOut) → x ≡ redOut g n0 marks → Works g (x .outcome)
-red-works {g} n0 marks x e = refines-by inRed Red refl n0 marks (tinted-outcome AllThree Red g n0 marks x e)
+red-works {g} n0 marks x e = refines-by inRed Red refl n0 marks (red-outcome g n0 marks x e)
 
 -- The tables that such calls, accepted, leave one after the other of a base's, with refused calls of any kind, checks and questions between.
 pub data Grew (g₀ : Given) : Given → Type 0 where

@@ -1,5 +1,5 @@
--- W8: "the answer says 1 in a new field when it made a red cut, else 0". What that tells: it is 1 exactly if a row is marked; and with no row marked a refine,
--- by whatever way, leaves the mesh as it is. But for that field the answer is W1's. Assumes nothing.
+-- W8: "the answer says 1 in a new field when it made a red cut, else 0". What that tells: it is 1 exactly if the call was not refused and a row is marked; and with no row
+-- marked a refine, by whatever way, leaves the mesh as it is. But for that field the answer is W1's. Assumes nothing.
 use mathlib.Core.Bool.{Bool, true, false, _&&_}
 use mathlib.Core.List.{List, [], _∷_, _++_, map, append-nil}
 use mathlib.Core.Logic.{_↔_, _≢_}
@@ -8,8 +8,9 @@ use mathlib.Core.Path.{_≡_, refl, sym, subst, ap, ap₂, _∙_}
 use Prim.Native.Nat.{ℕ, zero, suc, _<_}
 use native.Mathlib.Omega.{arith}
 use lib.ListN.{length, getD}
+use Rattle.lists.specs.declared.Found.{Found}
 use Rattle.lists.specs.Lists.{any, cases, joined, All, nil, cons}
-use Rattle.lists.specs.ListsLaw.{clash, All-imp, All-at, All-of, yes-all, and-left, any-at, any-row}
+use Rattle.lists.specs.ListsLaw.{clash, All-imp, All-at, All-of, yes-all, and-left, any-at, any-row, WhereIs, nowhere, place-of, where-is}
 use Rattle.lists.specs.MembersLaw.{at-mem}
 use Rattle.lists.specs.Tally.{bit}
 use Rattle.meaning.specs.declared.Manner.{Manner}
@@ -94,7 +95,7 @@ else-as-01 n s t h =
     go (some m) (some u) (some v) true false c e f g h = absurd (omega arith)
     go (some m) (some u) (some v) true true false e f g h = absurd (omega arith)
 
-pub red-0-or-1 : (q : Quarters) (s : List Edge) (ts : List Tri) → redMade q s ts ≢ 1 → redMade q s ts ≡ 0
+red-0-or-1 : (q : Quarters) (s : List Edge) (ts : List Tri) → redMade q s ts ≢ 1 → redMade q s ts ≡ 0
 red-0-or-1 Bisected s ts n = refl
 red-0-or-1 Red s ts n = go (any (wholly s) ts) n
   where
@@ -102,19 +103,27 @@ red-0-or-1 Red s ts n = go (any (wholly s) ts) n
     go true n = absurd (n refl)
     go false n = refl
 
--- A RED CUT IS MADE EXACTLY IF A ROW IS MARKED.
-pub red-exactly : (m : Mesh) (marks : List ℕ) → (redMade Red (toSplit (inRed) m marks) (m .tris) ≡ 1) ↔ SomeMarked marks (length (m .tris))
-red-exactly m marks = (λ e. onward (any (wholly s) (m .tris)) refl e, back)
+-- one of the rows has all three edges split, s being the split edges
+abbrev pub SomeWholly : List Edge → List Tri → Type 0
+SomeWholly s ts = (i : ℕ) × (i < length ts) × (wholly s (rowOf ts i) ≡ true)
+
+-- A RED CUT IS MADE EXACTLY IF A ROW HAS ALL THREE EDGES SPLIT,
+pub red-wholly : (s : List Edge) (ts : List Tri) → (redMade Red s ts ≡ 1) ↔ SomeWholly s ts
+red-wholly s ts = (onward (any (wholly s) ts) refl (where-is (wholly s) ts (tri 0 0 0)), λ r. rw (any-at (wholly s) (r .2) (at-mem ts (r .0) (tri 0 0 0) (r .1))))
   where
-    s : List Edge
-    s = toSplit (inRed) m marks
+    onward : (b : Bool) → any (wholly s) ts ≡ b → {o : Found} → WhereIs (wholly s) ts (tri 0 0 0) o → cases {A = ℕ} b 1 0 ≡ 1 → SomeWholly s ts
+    onward true q (place-of i l t) e = (i, l, t)
+    onward true q (nowhere h) e = let (t, i, w) = any-row (wholly s) ts q in clash (sym w ∙ All-at h i)
+    onward false q w e = absurd (omega arith)
 
-    onward : (b : Bool) → any (wholly s) (m .tris) ≡ b → cases {A = ℕ} b 1 0 ≡ 1 → SomeMarked marks (length (m .tris))
-    onward true q e = let (t, i, w) = any-row (wholly s) (m .tris) q in memEdge-at (base t) (marked-by (startsOf AllThree) m marks) (and-left (memEdge (base t) s) _ w)
-    onward false q e = absurd (omega arith)
-
-    back : SomeMarked marks (length (m .tris)) → cases {A = ℕ} (any (wholly s) (m .tris)) 1 0 ≡ 1
-    back (i, l, one) = rw (any-at (wholly s) (marked-wholly Red m marks i l one) (at-mem (m .tris) i (tri 0 0 0) l))
+-- AND FROM ALL THREE EDGES EXACTLY IF A ROW IS MARKED.
+pub red-marked : (m : Mesh) (marks : List ℕ) → (redMade Red (toSplit inRed m marks) (m .tris) ≡ 1) ↔ SomeMarked marks (length (m .tris))
+red-marked m marks =
+    let s = toSplit inRed m marks in
+    let w = red-wholly s (m .tris) in (
+      λ e. (let (i, l, t) = w .0 e in memEdge-at (base (rowOf (m .tris) i)) (marked-by (startsOf AllThree) m marks) (and-left (memEdge (base (rowOf (m .tris) i)) s) _ t)),
+      λ r. w .1 (r .0, r .1, marked-wholly Red m marks (r .0) (r .1) (r .2)),
+    )
 
 -- ---- the same answer, however triangles are quartered
 
@@ -143,11 +152,6 @@ quarters-answer k q q′ g n0 marks = rw (quarters-number k q q′ (roomOf g) (m
 
 -- ---- of a call
 
--- what the call leaves but for the field
-pub tinted-outcome : (k : Manner) (q : Quarters) (g : Given) (n0 : ℕ) (marks : List ℕ) (x : TintedOut) → x ≡ refineByOut k q g n0 marks → x .outcome ≡ refineOut (wayOf k q) g n0 marks
-unfolding refineByOut
-tinted-outcome k q g n0 marks x e = ap (λ (y : TintedOut). y .outcome) e
-
 done-1 : (k r : ℕ) → (ifDone k r ≡ 1) ↔ ((k ≡ 0) × (r ≡ 1))
 done-1 zero r = (λ e. (refl, e), λ h. h .1)
 done-1 (suc k) r = (λ e. absurd (omega arith), λ h. absurd (omega (arith, h .0)))
@@ -157,6 +161,11 @@ done-else-0 zero r f n = f n
 done-else-0 (suc k) r f n = refl
 
 module _ (g : Given) (n0 : ℕ) (marks : List ℕ) (x : TintedOut) (made : x ≡ redOut g n0 marks) where
+  -- what the call leaves but for the field
+  pub red-outcome : x .outcome ≡ refineOut inRed g n0 marks
+  unfolding refineByOut
+  red-outcome = ap (λ (y : TintedOut). y .outcome) made
+
   abbrev cuts : ℕ
   cuts = redMade Red (toSplit inRed (meshOf g) marks) (meshOf g .tris)
 
@@ -164,12 +173,18 @@ module _ (g : Given) (n0 : ℕ) (marks : List ℕ) (x : TintedOut) (made : x ≡
   unfolding refineByOut
   field-is = ap (λ (y : TintedOut). y .red) made ∙ ap (λ (y : TintedOut). ifDone (y .outcome .answer .number) cuts) (sym made)
 
-  -- W8: "SAYS 1 .. WHEN IT MADE A RED CUT": exactly if it was not refused and a row is marked,
-  pub says-1-exactly : (x .red ≡ 1) ↔ ((x .outcome .answer .number ≡ 0) × SomeMarked marks (g .t))
-  says-1-exactly =
+  says-1 : {A : Type 0} → (cuts ≡ 1) ↔ A → (x .red ≡ 1) ↔ ((x .outcome .answer .number ≡ 0) × A)
+  says-1 r =
       let d = done-1 (x .outcome .answer .number) cuts in
-      let r = subst (λ k. (cuts ≡ 1) ↔ SomeMarked marks k) (rows-count g) (red-exactly (meshOf g) marks) in
       (λ e. (let (z, o) = d .0 (sym field-is ∙ e) in (z, r .0 o)), λ h. field-is ∙ d .1 (h .0, r .1 (h .1)))
+
+  -- W8: "SAYS 1 .. WHEN IT MADE A RED CUT": exactly if it was not refused and a row has all three edges split,
+  pub says-1-exactly : (x .red ≡ 1) ↔ ((x .outcome .answer .number ≡ 0) × SomeWholly (toSplit inRed (meshOf g) marks) (meshOf g .tris))
+  says-1-exactly = says-1 (red-wholly (toSplit inRed (meshOf g) marks) (meshOf g .tris))
+
+  -- that is, if a row is marked;
+  pub says-1-marked : (x .red ≡ 1) ↔ ((x .outcome .answer .number ≡ 0) × SomeMarked marks (g .t))
+  says-1-marked = says-1 (subst (λ k. (cuts ≡ 1) ↔ SomeMarked marks k) (rows-count g) (red-marked (meshOf g) marks))
 
   -- "ELSE 0"
   pub else-0 : x .red ≢ 1 → x .red ≡ 0

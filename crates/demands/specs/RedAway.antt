@@ -17,8 +17,10 @@ use Rattle.meaning.specs.Coarsen.{taken, without, coarsened, goodNodes, pass, r
 use Rattle.meaning.specs.Tables.{Given, Outcome, given, outcome, answer, nodeAt, rowAt, meshOf}
 use Rattle.meaning.specs.Calls.{culpritOf, checkNo, refineNo, refines, restores, sizesFit, checkOut, refineOut, tinted, refineByOut, redOut, restoreOut}
 use Rattle.laws.specs.TableMesh.{nodes-count, tablesAfter}
+use Rattle.proper.specs.Flawless.{Flawless}
 use Rattle.demands.specs.Demand2Calls.{CutRed, demand2-calls}
 use Rattle.demands.specs.Demand3Calls.{Held, base-held, scratch-anew, after-refusal, red-made, red-0-held, demand3-calls}
+use Rattle.demands.specs.ProperCalls.{the-base, accepted, red-works, grew-flawless}
 
 -- a node at (a, b) that carries no correction
 stands : ℕ → ℕ → List ℤ
@@ -73,6 +75,11 @@ T-away e =
 T-not-held : ¬ Held T (tablesAfter inFour)
 unfolding T leaving whole inFour
 T-not-held h = T-away (demand3-calls T whole T-checked refl h .mesh-again inFour T-stays refl)
+
+-- W7 of it, all the same: it grew from a base that the check admits, and is lawful and proper.
+T-flawless : Flawless (meshOf (tablesAfter inFour))
+unfolding T leaving whole inFour
+T-flawless = grew-flawless T whole T-checked refl (accepted the-base inFour (red-works 3 (1 ∷ []) (tinted inFour 1) T-red) refl)
 
 -- ---- and not
 

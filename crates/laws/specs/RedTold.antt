@@ -128,14 +128,15 @@ red-marked m marks =
 -- ---- the same answer, however triangles are quartered
 
 -- as many nodes and rows are made
-quarters-count : (k : Manner) (q q′ : Quarters) (m : Mesh) (marks : List ℕ) →
+pub quarters-count : (k : Manner) (q q′ : Quarters) (m : Mesh) (marks : List ℕ) →
     (length (refined (wayOf k q) m marks .nodes) ≡ length (refined (wayOf k q′) m marks .nodes)) × (length (refined (wayOf k q) m marks .tris) ≡ length (refined (wayOf k q′) m marks .tris))
 unfolding refined
 quarters-count k q q′ m marks =
     let start = started (startsOf k) marks (m .tris) in
     (split-nodes (cuttingOf q) m start ∙ sym (split-nodes (cuttingOf q′) m start), split-rows (quarters-laws q) m start ∙ sym (split-rows (quarters-laws q′) m start))
 
-quarters-number : (k : Manner) (q q′ : Quarters) (room : Room) (m : Mesh) (marks : List ℕ) → refineNo (wayOf k q) room m marks ≡ refineNo (wayOf k q′) room m marks
+-- so that the same calls are refused, with the same number
+pub quarters-number : (k : Manner) (q q′ : Quarters) (room : Room) (m : Mesh) (marks : List ℕ) → refineNo (wayOf k q) room m marks ≡ refineNo (wayOf k q′) room m marks
 unfolding refineNo
 quarters-number k q q′ room m marks = let (a, b) = quarters-count k q q′ m marks in rw (a, b)
 

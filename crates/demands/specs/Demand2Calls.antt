@@ -1,35 +1,41 @@
 -- DEMAND 2 OF THE CALLS. Every premise on a call is the equation that its contract ensures, so that what is said here holds of any run of
--- the calls themselves: mesh::check, mesh::refine, mesh::quarter, mesh::coarsen, mesh::set_correction, mesh::correction_at (crates/mesh/src/lib.rt;
+-- the calls themselves: mesh::check, mesh::refine, mesh::quarter, mesh::refine_red, mesh::coarsen, mesh::set_correction, mesh::correction_at (crates/mesh/src/lib.rt;
 -- the last in AskCall) and job::restore (crates/job/src/lib.rt). What `Answers`, `Holds` and `AsGiven` say of tables stands in crates/laws/specs/CallLaw.antt: `Answers` says of every
 -- call which number it gives and, W2, which node or row the culprit is (`Names` in crates/meaning/specs/Lawful.antt). Assumes nothing.
+use mathlib.Core.Bool.{true, false}
 use mathlib.Core.List.{List, [], _∷_, List·Memᴰ}
 use mathlib.Core.Logic.{_↔_, _≢_, _⊎_}
-use mathlib.Core.Path.{_≡_, sym, subst, ap, _∙_}
-use Prim.Native.Nat.{ℕ, _*_, _/_, _≤_, _<_}
+use mathlib.Core.Option.{some}
+use mathlib.Core.Path.{_≡_, refl, sym, subst, ap, _∙_}
+use Prim.Native.Nat.{ℕ, zero, suc, _*_, _/_, _≤_, _<_}
 use native.Mathlib.Omega.{arith}
 use lib.ListN.{length, getD, replicate}
 use Rattle.lists.specs.Lists.{All}
 use Rattle.lists.specs.IterLaw.{getD-items}
 use Rattle.meaning.specs.declared.Manner.{Manner}
 use Rattle.meaning.specs.declared.Manner.the-variants.{Newest, AllThree}
+use Rattle.meaning.specs.declared.Quarters.{Quarters}
+use Rattle.meaning.specs.declared.Quarters.the-variants.{Bisected, Red}
 use Rattle.meaning.specs.declared.Tri.{Tri}
 use Rattle.meaning.specs.declared.Correction.{Correction}
 use Rattle.meaning.specs.declared.Node.{Node}
 use Rattle.meaning.specs.declared.Place.{Place}
 use Rattle.meaning.specs.Mesh.{Mesh, Edge, tri, node, nodeOf, origin, edges, base}
 use Rattle.meaning.specs.Lawful.{InBounds, Lawful, Compatible, Lowest, Names, refusal, rowOf}
-use Rattle.meaning.specs.Split.{Way, startsOf, wayOf, newest, allThree, started, refined}
+use Rattle.meaning.specs.Split.{Way, startsOf, wayOf, newest, allThree, inRed, bisected, red, cutOf, wholly, started, refined}
 use Rattle.meaning.specs.Coarsen.{coarsened, restored}
 use Rattle.meaning.specs.Setting.{SetSays, SetNames, corrected, setFault}
-use Rattle.meaning.specs.Tables.{Given, Outcome, nodeForm, rowForm, nodeAt, placeAt, rowAt, meshOf, roomOf}
-use Rattle.meaning.specs.Calls.{culpritOf, checkNo, refineNo, coarsenNo, checkOut, refineOut, coarsenOut, restoreOut, setOut, Heard, askOut}
+use Rattle.meaning.specs.Tables.{Given, Outcome, given, nodeForm, rowForm, nodeAt, placeAt, rowAt, meshOf, roomOf}
+use Rattle.meaning.specs.Calls.{culpritOf, checkNo, refineNo, coarsenNo, checkOut, refineOut, TintedOut, redOut, coarsenOut, restoreOut, setOut, Heard, askOut}
 use Rattle.laws.specs.Lawful.{refusal-lawful, refusal-exact, applies-from-3}
 use Rattle.laws.specs.Late.{late-not-1}
 use Rattle.proper.specs.Flawless.{Flawless}
 use Rattle.proper.specs.Check.{CheckSays, NoneCrowded, SomeCrowded, SomeOverlap, base-past, check-exact, check-11, check-12, check-10, check-0}
 use Rattle.laws.specs.Marks.{WellMarked}
-use Rattle.laws.specs.Cut.{CutLaws}
-use Rattle.laws.specs.Bisected.{bisected-laws}
+use Rattle.laws.specs.Cut.{CutLaws, parts}
+use Rattle.laws.specs.Red.{quarters-laws}
+use Rattle.laws.specs.RedShape.{ShapedLike}
+use Rattle.laws.specs.RedTold.{SomeMarked, SomeWholly, marked-wholly, else-as-01, quarters-answer, unmarked-stays, red-outcome, says-1-exactly, says-1-marked, else-0}
 use Rattle.laws.specs.Refine.{toSplit, Least, OddSum, Fits, TooMany, RefineSays, unlawful, Refined, refine-splits, started-exactly, starts-own, refine-exact, refine-8, refine-9, refine-0, refine-only-8-9, refine-done}
 use Rattle.laws.specs.CoarsenCalls.{Coarsened, CoarsenSays, well-marked, RestoreDone, coarsen-exact, coarsen-0, coarsen-done, restore-done}
 use Rattle.laws.specs.Restore.{LooksAt, looks-lawful, restored-fewer, restored-rows}
@@ -37,7 +43,7 @@ use Rattle.laws.specs.Setting.{Corrected, set-exact, set-not-1, set-0, set-13, 
 use Rattle.laws.specs.TableMesh.{nodes-count, rows-count, tablesAfter}
 use Rattle.laws.specs.CallLaw.{Sizes, sizes-exact, AsGiven, Holds, AnswersBy, Answers, CallLeaves, call-answers, done-holds, check-leaves, refine-leaves, coarsen-leaves, restore-leaves, set-leaves, check-names, refine-names, coarsen-names, restore-names, set-call-names, set-counts, restore-refused}
 use Rattle.demands.specs.AskCall.{AskMade, ask-call}
-use Rattle.demands.specs.InFour.{InFour, marked-in-four}
+use Rattle.demands.specs.InFour.{InFour, wholly-in-four, marked-in-four, four-shaped}
 
 -- ---- what a user finds
 
@@ -79,6 +85,37 @@ pub record RefineMade (w : Way) (starts : Tri → List Edge) (g : Given) (n0 : �
   pub splits-least : Least (meshOf g .tris) (started (w .starts) marks (meshOf g .tris)) (toSplit w (meshOf g) marks)
   pub of-lawful : Sizes g n0 → WellMarked (g .t) marks → Lawful (meshOf g) → OfLawful w g marks (o .answer .number)
   pub leaves-refined : o .answer .number ≡ 0 → RefineDone w g marks o
+
+-- what a call leaves that changed nothing in the mesh
+pub record SameMesh (g : Given) (o : Outcome) : Type 0 where
+  pub mesh-same : meshOf (tablesAfter o) ≡ meshOf g
+  pub n-same : o .answer .n ≡ g .n
+  pub t-same : o .answer .t ≡ g .t
+
+-- W8: the triangle t, which was row i, is cut red in the mesh new
+pub record CutRed (t : Tri) (i : ℕ) (new : Mesh) : Type 0 where
+  pub in-four : InFour Red t i new
+  -- "children shaped like the father"
+  pub shaped : All (ShapedLike new t) (parts (red t (some (in-four .m)) (some (in-four .u)) (some (in-four .v))))
+
+-- a red refine, with the new field
+pub record RedMade (g : Given) (n0 : ℕ) (marks : List ℕ) (x : TintedOut) : Type 1 where
+  -- "start and close as in W1"; and all that is said of 01's refine and W1's
+  pub made : RefineMade inRed edges g n0 marks (x .outcome)
+  -- "a triangle with all three edges split", as every marked one is
+  pub cuts-red : x .outcome .answer .number ≡ 0 → (i : ℕ) → i < g .t → wholly (toSplit inRed (meshOf g) marks) (rowOf (meshOf g .tris) i) ≡ true →
+      CutRed (rowOf (meshOf g .tris) i) i (meshOf (tablesAfter (x .outcome)))
+  pub marked-wholly : (i : ℕ) → i < g .t → getD marks i 0 ≡ 1 → wholly (toSplit inRed (meshOf g) marks) (rowOf (meshOf g .tris) i) ≡ true
+  -- "One or two split edges are cut as in 01."
+  pub others-as-01 : (t : Tri) → wholly (toSplit inRed (meshOf g) marks) t ≡ false → cutOf red (length (meshOf g .nodes)) (toSplit inRed (meshOf g) marks) t ≡ cutOf bisected (length (meshOf g .nodes)) (toSplit inRed (meshOf g) marks) t
+  -- number, counts and culprit are those of W1's call
+  pub answers-as-W1 : (o : Outcome) → o ≡ refineOut allThree g n0 marks → x .outcome .answer ≡ o .answer
+  -- "the answer says 1 in a new field when it made a red cut": if it was not refused and a row had all three edges split, that is, if a row is marked; "else 0"
+  pub says-1-exactly : (x .red ≡ 1) ↔ ((x .outcome .answer .number ≡ 0) × SomeWholly (toSplit inRed (meshOf g) marks) (meshOf g .tris))
+  pub says-1-marked : (x .red ≡ 1) ↔ ((x .outcome .answer .number ≡ 0) × SomeMarked marks (g .t))
+  pub else-0 : x .red ≢ 1 → x .red ≡ 0
+  -- what says 0 there left the mesh as it was
+  pub says-0-same : x .red ≡ 0 → SameMesh g (x .outcome)
 
 pub record CoarsenDone (g : Given) (n0 : ℕ) (marks : List ℕ) (o : Outcome) : Type 0 where
   -- the tables hold the coarsened mesh, zeros past it
@@ -206,17 +243,61 @@ module _ (w : Way) (laws : CutLaws (w .cutting)) (own : (t : Tri) → All (λ e.
         leaves-refined = made g n0 marks;
       })
 
--- in each manner
-pub manner-call : (k : Manner) (g : Given) (n0 : ℕ) (marks : List ℕ) (o : Outcome) → o ≡ refineOut (wayOf k) g n0 marks → RefineMade (wayOf k) (startsOf k) g n0 marks o
-manner-call k = refine-call (wayOf k) bisected-laws (starts-own k)
+-- in each manner, and however triangles are quartered
+pub manner-call : (k : Manner) (q : Quarters) (g : Given) (n0 : ℕ) (marks : List ℕ) (o : Outcome) → o ≡ refineOut (wayOf k q) g n0 marks → RefineMade (wayOf k q) (startsOf k) g n0 marks o
+manner-call k q = refine-call (wayOf k q) (quarters-laws q) (starts-own k)
+
+-- of an accepted call: what is said of the mesh that it makes is said of the tables that it leaves
+module _ (k : Manner) (q : Quarters) (g : Given) (n0 : ℕ) (marks : List ℕ) (o : Outcome) (e : o ≡ refineOut (wayOf k q) g n0 marks) (z : o .answer .number ≡ 0) where
+  accepted : refineNo (wayOf k q) (roomOf g) (meshOf g) marks ≡ 0
+  accepted = refine-leaves g n0 (wayOf k q) marks .sized-and-0 (ap (λ (x : Outcome). x .answer .number) (sym e) ∙ z) .1
+
+  left-is : meshOf (tablesAfter o) ≡ refined (wayOf k q) (meshOf g) marks
+  left-is = manner-call k q g n0 marks o e .leaves-refined z .holds .mesh-is
 
 -- what was row i, marked, is four rows of the mesh left
 pub quarter-in-four : (g : Given) (n0 : ℕ) (marks : List ℕ) (o : Outcome) → o ≡ refineOut allThree g n0 marks → o .answer .number ≡ 0 → (i : ℕ) → i < g .t → getD marks i 0 ≡ 1 →
-    InFour (rowOf (meshOf g .tris) i) i (meshOf (tablesAfter o))
+    InFour Bisected (rowOf (meshOf g .tris) i) i (meshOf (tablesAfter o))
 quarter-in-four g n0 marks o e z i l one =
-    let done = refine-leaves g n0 allThree marks .sized-and-0 (ap (λ (x : Outcome). x .answer .number) (sym e) ∙ z) .1 in
-    rw (manner-call AllThree g n0 marks o e .leaves-refined z .holds .mesh-is)
-    (marked-in-four (roomOf g) (meshOf g) marks done i (omega (arith, rows-count g)) one)
+    rw (left-is AllThree Bisected g n0 marks o e z) (marked-in-four Bisected (roomOf g) (meshOf g) marks (accepted AllThree Bisected g n0 marks o e z) i (omega (arith, rows-count g)) one)
+
+-- tables as given hold the mesh they held
+given-same : {g : Given} {o : Outcome} → AsGiven g o → SameMesh g o
+unfolding meshOf
+given-same {g} a = record { mesh-same = (λ i. meshOf (given (a .nodes-same i) (a .rows-same i) (g .scratch) (a .n-same i) (a .t-same i))); n-same = a .n-same; t-same = a .t-same }
+
+pub red-call : (g : Given) (n0 : ℕ) (marks : List ℕ) (x : TintedOut) → x ≡ redOut g n0 marks → RedMade g n0 marks x
+red-call g n0 marks x by = record {
+  made = as-refine;
+  cuts-red = λ z i l all. (let f = cut z i l all in record { in-four = f; shaped = four-shaped f });
+  marked-wholly = λ i l one. marked-wholly Red (meshOf g) marks i (omega (arith, rows-count g)) one;
+  others-as-01 = else-as-01 (length (meshOf g .nodes)) (toSplit inRed (meshOf g) marks);
+  answers-as-W1 = λ o f. ap (λ (y : Outcome). y .answer) e ∙ quarters-answer AllThree Red Bisected g n0 marks ∙ ap (λ (y : Outcome). y .answer) (sym f);
+  says-1-exactly = says-1-exactly g n0 marks x by;
+  says-1-marked = says-1-marked g n0 marks x by;
+  else-0 = else-0 g n0 marks x by;
+  says-0-same = same (x .outcome .answer .number) refl;
+}
+  where
+    e : x .outcome ≡ refineOut inRed g n0 marks
+    e = red-outcome g n0 marks x by
+
+    as-refine : RefineMade inRed edges g n0 marks (x .outcome)
+    as-refine = manner-call AllThree Red g n0 marks (x .outcome) e
+
+    cut : x .outcome .answer .number ≡ 0 → (i : ℕ) → i < g .t → wholly (toSplit inRed (meshOf g) marks) (rowOf (meshOf g .tris) i) ≡ true → InFour Red (rowOf (meshOf g .tris) i) i (meshOf (tablesAfter (x .outcome)))
+    cut z i l all = rw (left-is AllThree Red g n0 marks (x .outcome) e z) (wholly-in-four AllThree Red (roomOf g) (meshOf g) marks (accepted AllThree Red g n0 marks (x .outcome) e z) i (omega (arith, rows-count g)) all)
+
+    same : (j : ℕ) → x .outcome .answer .number ≡ j → x .red ≡ 0 → SameMesh g (x .outcome)
+    same zero z r =
+        let unmarked : ¬ SomeMarked marks (length (meshOf g .tris)) = λ h. (let one = says-1-marked g n0 marks x by .1 (z, rw (rows-count g) at h) in omega arith) in
+        let m : meshOf (tablesAfter (x .outcome)) ≡ meshOf g = left-is AllThree Red g n0 marks (x .outcome) e z ∙ unmarked-stays inRed (quarters-laws Red) (meshOf g) marks unmarked in
+        record {
+          mesh-same = m;
+          n-same = sym (nodes-count (tablesAfter (x .outcome))) ∙ ap (λ (y : Mesh). length (y .nodes)) m ∙ nodes-count g;
+          t-same = sym (rows-count (tablesAfter (x .outcome))) ∙ ap (λ (y : Mesh). length (y .tris)) m ∙ rows-count g;
+        }
+    same (suc j) z r = given-same (as-refine .answered .refused-as-given (λ h. omega arith))
 
 pub coarsen-call : (g : Given) (n0 : ℕ) (marks : List ℕ) (o : Outcome) → o ≡ coarsenOut g n0 marks → CoarsenMade g n0 marks o
 coarsen-call g n0 marks o e =
@@ -325,7 +406,9 @@ pub record Demand2 : Type 1 where
   pub of-quarter : (g : Given) (n0 : ℕ) (marks : List ℕ) (o : Outcome) → o ≡ refineOut allThree g n0 marks → RefineMade allThree edges g n0 marks o
   -- W1: "a marked triangle cut in four at once"
   pub cut-in-four : (g : Given) (n0 : ℕ) (marks : List ℕ) (o : Outcome) → o ≡ refineOut allThree g n0 marks → o .answer .number ≡ 0 → (i : ℕ) → i < g .t → getD marks i 0 ≡ 1 →
-      InFour (rowOf (meshOf g .tris) i) i (meshOf (tablesAfter o))
+      InFour Bisected (rowOf (meshOf g .tris) i) i (meshOf (tablesAfter o))
+  -- W8: from all three edges too, in red
+  pub of-red : (g : Given) (n0 : ℕ) (marks : List ℕ) (x : TintedOut) → x ≡ redOut g n0 marks → RedMade g n0 marks x
   pub of-coarsen : (g : Given) (n0 : ℕ) (marks : List ℕ) (o : Outcome) → o ≡ coarsenOut g n0 marks → CoarsenMade g n0 marks o
   pub of-restore : (g : Given) (n0 : ℕ) (o : Outcome) → o ≡ restoreOut g n0 → RestoreMade g n0 o
   -- W5: "A job may set the correction of an added node"
@@ -334,4 +417,4 @@ pub record Demand2 : Type 1 where
   pub of-question : (g : Given) (n0 : ℕ) (P : Place) (o : Heard) → o ≡ askOut g n0 P → AskMade g n0 P o
 
 pub demand2-calls : Demand2
-demand2-calls = record { of-check = check-call; of-refine = manner-call Newest; of-quarter = manner-call AllThree; cut-in-four = quarter-in-four; of-coarsen = coarsen-call; of-restore = restore-call; of-set = set-call; of-question = ask-call }
+demand2-calls = record { of-check = check-call; of-refine = manner-call Newest Bisected; of-quarter = manner-call AllThree Bisected; cut-in-four = quarter-in-four; of-red = red-call; of-coarsen = coarsen-call; of-restore = restore-call; of-set = set-call; of-question = ask-call }

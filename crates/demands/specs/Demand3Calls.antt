@@ -1,29 +1,35 @@
 -- DEMAND 3 OF THE CALLS. Every premise on a call is the equation that its contract ensures, so that what is said here holds of any run of
 -- the calls themselves: mesh::check, mesh::refine, mesh::quarter, mesh::coarsen, mesh::set_correction, mesh::correction_at (crates/mesh/src/lib.rt)
 -- and job::restore (crates/job/src/lib.rt). W1: "Demand 3 then covers sequences that mix both ways." W5: it "now includes in the sequence accepted settings
--- made with the base's node count, and refused settings, and base rows come back with their corrections." Assumes nothing.
+-- made with the base's node count, and refused settings, and base rows come back with their corrections." W8: "Demand 3 doesn't hold for a sequence with such a refinement;
+-- the answer says 1 in a new field when it made a red cut, else 0": so a red call that says 0 there may stand in the sequence (`red-0-held`), and one that says 1 may lead away
+-- from the base (RedAway). Assumes nothing.
 use mathlib.Core.Bool.{Bool, true, false}
 use mathlib.Core.List.{List}
 use mathlib.Core.Logic.{_≢_}
-use mathlib.Core.Path.{_≡_, refl, sym, subst, ap, _∙_}
-use Prim.Native.Nat.{ℕ, _+_, _*_, _≤_, _<_}
+use mathlib.Core.Path.{_≡_, refl, sym, subst, subst₂, ap, _∙_}
+use Prim.Native.Nat.{ℕ, zero, suc, _+_, _*_, _≤_, _<_}
 use native.Mathlib.Omega.{arith}
 use lib.Dec.{leb}
 use lib.ListN.{length, replicate}
 use Rattle.lists.specs.Lists.{cases}
 use Rattle.meaning.specs.declared.Correction.{Correction}
-use Rattle.meaning.specs.Split.{Way, bisected}
+use Rattle.meaning.specs.declared.Quarters.the-variants.{Bisected, Red}
+use Rattle.meaning.specs.Split.{Way, bisected, newest, inRed}
 use Rattle.meaning.specs.Coarsen.{restored}
 use Rattle.meaning.specs.declared.Place.{Place}
 use Rattle.meaning.specs.Tables.{Given, Outcome, given, meshOf, roomOf, cleared}
-use Rattle.meaning.specs.Calls.{sizesFit, checkOut, refineOut, coarsenOut, restoreOut, setOut, Heard, askOut}
+use Rattle.meaning.specs.Calls.{sizesFit, checkOut, refineOut, TintedOut, redOut, coarsenOut, restoreOut, setOut, Heard, askOut}
+use Rattle.laws.specs.Red.{quarters-laws}
+use Rattle.laws.specs.RedTold.{SomeMarked, unmarked-alike, red-outcome, says-1-marked}
 use Rattle.laws.specs.TableMesh.{tablesAfter}
+use Rattle.laws.specs.CallLaw.{AsGiven, refine-leaves}
 use Rattle.growth.specs.Demand3.{Removals, TablesReached, begin, lent, refined-by, coarsened-by, set-by, restored-by, refused-by, checked-by, a-refine, a-coarsen, a-set, a-restore, still, baseAgain, Restores, demand3-tables}
 
 -- A call that was made on the tables g: what it left, o, is what its contract ensures.
 pub data Made (g : Given) (o : Outcome) : Type 0 where
   check-made : o ≡ checkOut g → Made g o
-  -- by `newest`, 01's way, or by `allThree`, W1's
+  -- by `newest`, 01's way, by `allThree`, W1's, or by `inRed`, W8's
   refine-made : (w : Way) (n0 : ℕ) (marks : List ℕ) → o ≡ refineOut w g n0 marks → Made g o
   coarsen-made : (n0 : ℕ) (marks : List ℕ) → o ≡ coarsenOut g n0 marks → Made g o
   set-made : (n0 z : ℕ) (c : Correction) → o ≡ setOut g n0 z c → Made g o
@@ -49,6 +55,10 @@ pub data Held (g₀ : Given) : Given → Type 0 where
   -- W6: a question, answered or refused, with whatever counts, n0 and scratch, about whatever point
   after-question : {g : Given} → Held g₀ g → (scratch : List ℕ) (n t n0 : ℕ) (P : Place) (o : Heard) → o ≡ askOut (given (g .nodes) (g .rows) scratch n t) n0 P →
       Held g₀ (given (o .nodes) (o .rows) (o .scratch) (g .n) (g .t))
+
+-- W8's call, whatever the new field says: refused, it is among those of `after-refusal`
+pub red-made : {g : Given} (n0 : ℕ) (marks : List ℕ) (x : TintedOut) → x ≡ redOut g n0 marks → Made g (x .outcome)
+red-made {g} n0 marks x e = refine-made inRed n0 marks (red-outcome g n0 marks x e)
 
 -- What the user then finds.
 pub record Ends (g₀ g : Given) : Type 0 where
@@ -91,6 +101,25 @@ held-reached g₀ (after-refusal {g = g} h scratch n t o m z) = go m (held-reach
     go (restore-made n0 e) l = subst (λ x. TablesReached g₀ (still g x)) (sym e) (refused-by l scratch n t (a-restore n0) (λ y. z (ap (λ x. x .answer .number) e ∙ y)))
 held-reached g₀ (after-question {g = g} h scratch n t n0 P o e) =
     subst (λ x. TablesReached g₀ (given (x .nodes) (x .rows) (x .scratch) (g .n) (g .t))) (sym e) (lent (held-reached g₀ h) (cleared scratch))
+
+-- A RED CALL THAT SAYS 0 IN THE NEW FIELD IS COVERED: made with the base's node count it leaves what 01's refine leaves, or was refused.
+pub red-0-held : {g₀ g : Given} → Held g₀ g → (marks : List ℕ) (x : TintedOut) → x ≡ redOut g (g₀ .n) marks → x .red ≡ 0 → Held g₀ (tablesAfter (x .outcome))
+red-0-held {g₀} {g} h marks x e r = go (o .answer .number) refl
+  where
+    o : Outcome
+    o = x .outcome
+
+    by : o ≡ refineOut inRed g (g₀ .n) marks
+    by = red-outcome g (g₀ .n) marks x e
+
+    go : (k : ℕ) → o .answer .number ≡ k → Held g₀ (tablesAfter o)
+    go zero z =
+        let unmarked : ¬ SomeMarked marks (g .t) = λ s. (let one = says-1-marked g (g₀ .n) marks x e .1 (z, s) in omega arith) in
+        after-refine h newest refl marks o (by ∙ unmarked-alike inRed newest (quarters-laws Red) (quarters-laws Bisected) g (g₀ .n) marks unmarked) z
+    go (suc k) z =
+        let refused : o .answer .number ≢ 0 = λ y. omega arith in
+        let a : AsGiven g o = subst (AsGiven g) (sym by) (refine-leaves g (g₀ .n) inRed marks .refusal-leaves (λ y. refused (ap (λ (x : Outcome). x .answer .number) by ∙ y))) in
+        subst₂ (λ n t. Held g₀ (given (o .nodes) (o .rows) (o .scratch) n t)) (sym (a .n-same)) (sym (a .t-same)) (after-refusal h (g .scratch) (g .n) (g .t) o (red-made (g₀ .n) marks x e) refused)
 
 -- DEMAND 3 OF THE CALLS: the base check, made on g₀, said 0; then any calls; then what is found.
 pub demand3-calls : (g₀ : Given) (c : Outcome) → c ≡ checkOut g₀ → c .answer .number ≡ 0 → {g : Given} → Held g₀ g → Ends g₀ g

@@ -11,6 +11,7 @@ use lib.ListN.{replicate}
 use Rattle.lists.specs.Search.{lowest, lowestFrom, items, itemsFrom}
 use Rattle.meaning.specs.declared.Correction.{Correction}
 use Rattle.meaning.specs.declared.Place.{Place}
+use Rattle.meaning.specs.declared.Quarters.the-variants.{Bisected}
 use Rattle.meaning.specs.declared.Told.{Told}
 use Rattle.meaning.specs.Mesh.{place, correction, tri, twiceArea}
 use Rattle.meaning.specs.Lawful.{Names, refusal, compatible, faultOf, firstOutside, firstMisnamed, firstRepeat, firstFlat, firstUnused, firstClash}
@@ -136,7 +137,7 @@ unfolding leaving bears square two nodesCut cutFirst cutSet rowsCut S lowest low
 quartered-first = demand2-calls .of-quarter S 4 (1 ∷ 0 ∷ []) (leaving 0 7 6 0 cutFirst rowsCut 76) refl .leaves-refined refl
 
 -- row 0 is four rows now
-quartered-in-four : InFour (tri 1 2 0) 0 (meshOf (tablesAfter (leaving 0 7 6 0 cutFirst rowsCut 76)))
+quartered-in-four : InFour Bisected (tri 1 2 0) 0 (meshOf (tablesAfter (leaving 0 7 6 0 cutFirst rowsCut 76)))
 unfolding leaving bears square two nodesCut cutFirst cutSet rowsCut S lowest lowestFrom items itemsFrom nodeAt rowAt meshOf twiceArea firstOutside firstMisnamed firstRepeat firstFlat firstUnused faultOf refusal closure splitEdges splitAt split refined refineNo refines sizesFit refineOut
 quartered-in-four = demand2-calls .cut-in-four S 4 (1 ∷ 0 ∷ []) (leaving 0 7 6 0 cutFirst rowsCut 76) refl refl 0 (omega arith) refl
 

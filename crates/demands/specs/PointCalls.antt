@@ -1,5 +1,5 @@
 -- What W6 gains by W7, OF THE CALLS: in tables that grew from a base which the check admitted, what a question about a point is told is what any row that
--- holds the point makes of it, whatever the order of the rows; at the place of a node it is what the node carries; and a refine where the means are exact
+-- holds the point makes of it, whatever the order of the rows; at the place of a node it is what the node carries; and a refine by bisection where the means are exact
 -- changes no answer at any point. Assumes nothing.
 use mathlib.Core.List.{List, List·Memᴰ}
 use mathlib.Core.Path.{_≡_, sym, ap, _∙_}
@@ -47,7 +47,7 @@ module _ (g₀ : Given) (c : Outcome) (ce : c ≡ checkOut g₀) (cz : c .answer
   order-tells g′ lawful nodes there back n0 n0′ P o o′ e s e′ s′ =
       asks-of g n0 P o e s ∙ order-free (meshOf g) (meshOf g′) (flawless .lawful) (flawless .proper) lawful nodes there back P ∙ sym (asks-of g′ n0′ P o′ e′ s′)
 
-  -- A REFINE WHERE THE MEANS ARE EXACT CHANGES NO ANSWER AT ANY POINT: the sums of the corrections at the ends of every edge that it splits are even.
+  -- A REFINE BY BISECTION WHERE THE MEANS ARE EXACT CHANGES NO ANSWER AT ANY POINT: the sums of the corrections at the ends of every edge that it splits are even.
   pub refine-tells : (w : Way) → w .cutting ≡ bisected → (n0 : ℕ) (marks : List ℕ) (r : Outcome) → r ≡ refineOut w g n0 marks → r .answer .number ≡ 0 →
       All (EvenEnds (meshOf g)) (splitEdges (meshOf g) (started (w .starts) marks (meshOf g .tris))) →
       (n1 n2 : ℕ) (P : Place) (o o′ : Heard) → o ≡ askOut g n1 P → Sizes g n1 → o′ ≡ askOut (tablesAfter r) n2 P → Sizes (tablesAfter r) n2 → o′ .told ≡ o .told

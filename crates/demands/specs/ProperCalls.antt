@@ -1,5 +1,5 @@
 -- W7 OF THE CALLS. "Refine and coarsen don't repeat this. Show instead that a mesh grown from a base so admitted has no node strictly inside an edge." Every
--- call that 01, W1 and W5 have keeps a mesh lawful and proper, whatever its node count, marks or correction; so any sequence of them does. Every premise on
+-- call that 01, W1, W5 and W8 have keeps a mesh lawful and proper, whatever its node count, marks or correction; so any sequence of them does. Every premise on
 -- a call is the equation that its contract ensures. Assumes nothing.
 use mathlib.Core.Bool.{Bool, true, false}
 use mathlib.Core.List.{List}
@@ -11,15 +11,18 @@ use lib.IntN.{ℤ}
 use Rattle.lists.specs.Lists.{cases, All}
 use Rattle.meaning.specs.declared.Correction.{Correction}
 use Rattle.meaning.specs.declared.Place.{Place}
+use Rattle.meaning.specs.declared.Quarters.{Quarters}
+use Rattle.meaning.specs.declared.Quarters.the-variants.{Bisected, Red}
 use Rattle.meaning.specs.Mesh.{Mesh, arrows, at}
-use Rattle.meaning.specs.Split.{Way, bisected, refined}
+use Rattle.meaning.specs.Split.{Way, cuttingOf, inRed, refined}
 use Rattle.meaning.specs.Coarsen.{coarsened, restored}
 use Rattle.meaning.specs.Setting.{corrected}
 use Rattle.meaning.specs.Proper.{StrictlyInside}
 use Rattle.meaning.specs.Tables.{Given, Outcome, given, meshOf, roomOf}
-use Rattle.meaning.specs.Calls.{sizesFit, checkNo, checkOut, refineOut, coarsenOut, restoreOut, setOut, Heard, askOut}
+use Rattle.meaning.specs.Calls.{sizesFit, checkNo, checkOut, refineOut, TintedOut, redOut, coarsenOut, restoreOut, setOut, Heard, askOut}
 use Rattle.laws.specs.TableMesh.{nodes-count, tablesAfter, done-mesh}
 use Rattle.laws.specs.CallLaw.{AsGiven, CallLeaves, check-leaves, refine-leaves, coarsen-leaves, restore-leaves, set-leaves, ask-leaves}
+use Rattle.laws.specs.RedTold.{red-outcome}
 use Rattle.growth.specs.Demand3.{still}
 use Rattle.proper.specs.Flawless.{Flawless, refine-flawless, coarsened-flawless, restored-flawless, set-flawless}
 use Rattle.proper.specs.Check.{check-0}
@@ -27,12 +30,16 @@ use Rattle.demands.specs.Demand3Calls.{Made, check-made, refine-made, co
 
 -- ---- sequences
 
--- A call of 01, W1 or W5 that was made on the tables g, with whatever node count; a refine by any way that cuts by bisection, as `newest` and `allThree` do.
+-- A call of 01, W1, W5 or W8 that was made on the tables g, with whatever node count; a refine from any edges, by bisection, as `newest` and `allThree` cut, or red, as `inRed` does.
 pub data Works (g : Given) (o : Outcome) : Type 0 where
-  refines-by : (w : Way) → w .cutting ≡ bisected → (n0 : ℕ) (marks : List ℕ) → o ≡ refineOut w g n0 marks → Works g o
+  refines-by : (w : Way) (q : Quarters) → w .cutting ≡ cuttingOf q → (n0 : ℕ) (marks : List ℕ) → o ≡ refineOut w g n0 marks → Works g o
   coarsens-by : (n0 : ℕ) (marks : List ℕ) → o ≡ coarsenOut g n0 marks → Works g o
   sets-by : (n0 z : ℕ) (c : Correction) → o ≡ setOut g n0 z c → Works g o
   restores-by : (n0 : ℕ) → o ≡ restoreOut g n0 → Works g o
+
+-- what W8's call leaves, whatever the new field says
+pub red-works : {g : Given} (n0 : ℕ) (marks : List ℕ) (x : TintedOut) → x ≡ redOut g n0 marks → Works g (x .outcome)
+red-works {g} n0 marks x e = refines-by inRed Red refl n0 marks (red-outcome g n0 marks x e)
 
 -- The tables that such calls, accepted, leave one after the other of a base's, with refused calls of any kind, checks and questions between.
 pub data Grew (g₀ : Given) : Given → Type 0 where
@@ -48,7 +55,7 @@ pub data Grew (g₀ : Given) : Given → Type 0 where
 pub held-grew : {g₀ g : Given} → Held g₀ g → Grew g₀ g
 held-grew base-held = the-base
 held-grew (scratch-anew h scratch) = other-scratch (held-grew h) scratch
-held-grew {g₀} (after-refine h w cuts marks o e z) = accepted (held-grew h) o (refines-by w cuts (g₀ .n) marks e) z
+held-grew {g₀} (after-refine h w cuts marks o e z) = accepted (held-grew h) o (refines-by w Bisected cuts (g₀ .n) marks e) z
 held-grew {g₀} (after-coarsen h marks o e z) = accepted (held-grew h) o (coarsens-by (g₀ .n) marks e) z
 held-grew {g₀} (after-set h y c o e z) = accepted (held-grew h) o (sets-by (g₀ .n) y c e) z
 held-grew {g₀} (after-restore h o e z) = accepted (held-grew h) o (restores-by (g₀ .n) e) z
@@ -64,8 +71,8 @@ leaves-made {g} {new = new} {p = p} l z keeps =
 
 -- EVERY ACCEPTED CALL KEEPS A MESH LAWFUL AND PROPER, whatever its node count, marks or correction.
 pub call-flawless : (g : Given) (o : Outcome) → Works g o → o .answer .number ≡ 0 → Flawless (meshOf g) → Flawless (meshOf (tablesAfter o))
-call-flawless g o (refines-by w cuts n0 marks e) z F =
-    leaves-made (subst (CallLeaves g n0 _ _ (refined w (meshOf g) marks) 0) (sym e) (refine-leaves g n0 w marks)) z (λ k. refine-flawless w cuts (roomOf g) (meshOf g) marks k F)
+call-flawless g o (refines-by w q cuts n0 marks e) z F =
+    leaves-made (subst (CallLeaves g n0 _ _ (refined w (meshOf g) marks) 0) (sym e) (refine-leaves g n0 w marks)) z (λ k. refine-flawless w q cuts (roomOf g) (meshOf g) marks k F)
 call-flawless g o (coarsens-by n0 marks e) z F =
     leaves-made (subst (CallLeaves g n0 _ _ (coarsened n0 (meshOf g) marks) 0) (sym e) (coarsen-leaves g n0 marks)) z (λ k. coarsened-flawless n0 (meshOf g) marks F)
 call-flawless g o (sets-by n0 y c e) z F =

@@ -12,6 +12,7 @@ pub mod Closure
 pub mod Cut
 pub mod Bisected
 pub mod Red
+pub mod RedShape
 pub mod Floor
 pub mod Mean
 pub mod Weights
@@ -37,6 +38,7 @@ pub mod EdgeArrow
 pub mod TableMesh
 pub mod CallLaw
 pub mod EmptyMesh
+pub mod RedTold
 pub mod OneOutcome
 pub mod StillLaw
 pub mod Meshes

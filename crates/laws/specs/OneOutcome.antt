@@ -1,5 +1,5 @@
 -- A contract that equates the answer and every table after a call with one function's value admits a single outcome: two runs that were
--- given the same show the same number, counts, passes, culprit and tables; W6: and the same correction. Assumes nothing.
+-- given the same show the same number, counts, passes, culprit and tables; W6: and the same correction; W8: and the same new field. Assumes nothing.
 use mathlib.Core.List.{List}
 use mathlib.Core.Path.{_≡_, sym, ap, _∙_}
 use Prim.Native.Nat.{ℕ}
@@ -10,7 +10,7 @@ use Rattle.meaning.specs.Split.{Way}
 use Rattle.meaning.specs.declared.Correction.{Correction}
 use Rattle.meaning.specs.declared.Place.{Place}
 use Rattle.meaning.specs.declared.Told.{Told}
-use Rattle.meaning.specs.Calls.{checkOut, refineOut, coarsenOut, restoreOut, setOut, toldAs, Heard, heard, askOut}
+use Rattle.meaning.specs.Calls.{checkOut, refineOut, TintedOut, tinted, redOut, coarsenOut, restoreOut, setOut, toldAs, Heard, heard, askOut}
 
 -- two runs of a call that was given the same, and that meets its contract in both
 pub one-outcome : {given-to : Outcome} {a b : Answer} {ns ns′ : List ℤ} {rs rs′ s s′ : List ℕ} →
@@ -41,6 +41,13 @@ restore-one g n0 = one-outcome
 pub set-one : (g : Given) (n0 z : ℕ) (d : Correction) {a b : Answer} {ns ns′ : List ℤ} {rs rs′ s s′ : List ℕ} →
     outcome a ns rs s ≡ setOut g n0 z d → outcome b ns′ rs′ s′ ≡ setOut g n0 z d → (a ≡ b) × (ns ≡ ns′) × (rs ≡ rs′) × (s ≡ s′)
 set-one g n0 z d = one-outcome
+
+-- W8: the outcome and the new field
+pub red-one : (g : Given) (n0 : ℕ) (marks : List ℕ) {a b : Answer} {k k′ : ℕ} {ns ns′ : List ℤ} {rs rs′ s s′ : List ℕ} →
+    tinted (outcome a ns rs s) k ≡ redOut g n0 marks → tinted (outcome b ns′ rs′ s′) k′ ≡ redOut g n0 marks → (a ≡ b) × (k ≡ k′) × (ns ≡ ns′) × (rs ≡ rs′) × (s ≡ s′)
+red-one g n0 marks p q =
+    let (a, ns, rs, s) = one-outcome (ap (λ (x : TintedOut). x .outcome) p) (ap (λ (x : TintedOut). x .outcome) q) in
+    (a, ap (λ (x : TintedOut). x .red) (p ∙ sym q), ns, rs, s)
 
 -- W6: what a question is told, and the tables
 heard-one : {given-to : Heard} {a b : Told} {ns ns′ : List ℤ} {rs rs′ s s′ : List ℕ} → heard a ns rs s ≡ given-to → heard b ns′ rs′ s′ ≡ given-to →
@@ -79,6 +86,14 @@ pub exported-refine-one : (w : Way) (g : Given) (n0 : ℕ) (marks : List ℕ) {r
     outcome (answer r n t 0 c) ns rs s ≡ refineOut w g n0 marks → outcome (answer r′ n′ t′ 0 c′) ns′ rs′ s′ ≡ refineOut w g n0 marks →
     (r ≡ r′) × (n ≡ n′) × (t ≡ t′) × (c ≡ c′) × (ns ≡ ns′) × (rs ≡ rs′) × (s ≡ s′)
 exported-refine-one w g n0 marks p q = let (r, n, t, k, c, ns, rs, s) = one-seen p q in (r, n, t, c, ns, rs, s)
+
+-- k is what the reference to the new field holds after the call
+pub exported-red-one : (g : Given) (n0 : ℕ) (marks : List ℕ) {r r′ n n′ t t′ k k′ c c′ : ℕ} {ns ns′ : List ℤ} {rs rs′ s s′ : List ℕ} →
+    tinted (outcome (answer r n t 0 c) ns rs s) k ≡ redOut g n0 marks → tinted (outcome (answer r′ n′ t′ 0 c′) ns′ rs′ s′) k′ ≡ redOut g n0 marks →
+    (r ≡ r′) × (n ≡ n′) × (t ≡ t′) × (k ≡ k′) × (c ≡ c′) × (ns ≡ ns′) × (rs ≡ rs′) × (s ≡ s′)
+exported-red-one g n0 marks p q =
+    let (r, n, t, passes, c, ns, rs, s) = one-seen (ap (λ (x : TintedOut). x .outcome) p) (ap (λ (x : TintedOut). x .outcome) q) in
+    (r, n, t, ap (λ (x : TintedOut). x .red) (p ∙ sym q), c, ns, rs, s)
 
 pub exported-coarsen-one : (g : Given) (n0 : ℕ) (marks : List ℕ) {r r′ n n′ t t′ c c′ : ℕ} {ns ns′ : List ℤ} {rs rs′ s s′ : List ℕ} →
     outcome (answer r n t 0 c) ns rs s ≡ coarsenOut g n0 marks → outcome (answer r′ n′ t′ 0 c′) ns′ rs′ s′ ≡ coarsenOut g n0 marks →

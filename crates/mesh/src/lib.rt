@@ -1,7 +1,8 @@
 // The calls on a mesh in tables that the caller lends.
 ghost use mathlib.Core.Path.{_≡_};
 ghost use Rattle.meaning.specs.Tables.{given, outcome};
-ghost use Rattle.meaning.specs.Split.{newest, allThree};
+ghost use Rattle.meaning.specs.Split.{wayOf, newest, allThree};
+ghost use Rattle.meaning.specs.declared.Quarters.the-variants.{Bisected};
 ghost use Rattle.meaning.specs.Calls.{checkOut, refineOut, tinted, refineByOut, redOut, coarsenOut, setOut, heard, askOut};
 use meaning::Answer;
 use meaning::Correction;
@@ -42,6 +43,23 @@ pub fn refine_by(
     a
 }
 
+// Refine, in any manner, by bisection alone: without the field, which is 0.
+fn bisect_by(
+    nodes: &mut [i32],
+    rows: &mut [u32],
+    scratch: &mut [u32],
+    marks: &[u8],
+    n0: usize,
+    n: usize,
+    t: usize,
+    manner: Manner,
+) -> Answer
+    ensures { λ r. ⌜ outcome r (now (nodes .exit)) (now (rows .exit)) (now (scratch .exit)) ≡ refineOut (wayOf manner Bisected) (given (now (nodes .entry)) (now (rows .entry)) (now (scratch .entry)) n t) n0 (now (marks .entry)) ⌝ }
+{
+    let quarters = Quarters::Bisected;
+    refine_by(nodes, rows, scratch, marks, n0, n, t, manner, quarters).answer
+}
+
 // Refine by 01: a marked triangle is cut at its refinement edge, and at others if the mesh is to stay whole.
 pub fn refine(
     nodes: &mut [i32],
@@ -54,18 +72,7 @@ pub fn refine(
 ) -> Answer
     ensures { λ r. ⌜ outcome r (now (nodes .exit)) (now (rows .exit)) (now (scratch .exit)) ≡ refineOut newest (given (now (nodes .entry)) (now (rows .entry)) (now (scratch .entry)) n t) n0 (now (marks .entry)) ⌝ }
 {
-    let a = refine_by(
-        nodes,
-        rows,
-        scratch,
-        marks,
-        n0,
-        n,
-        t,
-        Manner::Newest,
-        Quarters::Bisected,
-    );
-    a.answer
+    bisect_by(nodes, rows, scratch, marks, n0, n, t, Manner::Newest)
 }
 
 // Refine by W1: a marked triangle is cut in four, at all three edges.
@@ -80,22 +87,11 @@ pub fn quarter(
 ) -> Answer
     ensures { λ r. ⌜ outcome r (now (nodes .exit)) (now (rows .exit)) (now (scratch .exit)) ≡ refineOut allThree (given (now (nodes .entry)) (now (rows .entry)) (now (scratch .entry)) n t) n0 (now (marks .entry)) ⌝ }
 {
-    let a = refine_by(
-        nodes,
-        rows,
-        scratch,
-        marks,
-        n0,
-        n,
-        t,
-        Manner::AllThree,
-        Quarters::Bisected,
-    );
-    a.answer
+    bisect_by(nodes, rows, scratch, marks, n0, n, t, Manner::AllThree)
 }
 
-// Refine by W8: a marked triangle is cut in four at all three edges, its children shaped like itself; says also whether a red cut was made.
-// Restore gives back the base only if no call before made one.
+// Refine by W8: a marked triangle is cut in four, at all three edges, into triangles shaped like itself; the answer says whether a red cut was
+// made. Demand 3 does not cover this call: after a red cut, restore need not give back the base.
 pub fn refine_red(
     nodes: &mut [i32],
     rows: &mut [u32],

@@ -24,7 +24,7 @@ use Rattle.notes.specs.Notes.{midsAt}
 use Rattle.notes.specs.NotesLaw.{note-bits}
 use Rattle.notes.specs.AgreeLaw.{mids-agree}
 use Rattle.cut.specs.declared.Children.{Children}
-use Rattle.cut.specs.Cutting.{opt, cutBy, fourBy, children, append, placed, putRows, putCut, cutAt, addedAt, cutAll, splits, whollyAt, redAt}
+use Rattle.cut.specs.Cutting.{opt, cutBy, children, append, placed, putRows, putCut, cutAt, addedAt, cutAll, splits, whollyAt, redAt}
 use Rattle.cut.specs.PutRowsLaw.{length-put, put-below, put-above, put-rows, placed-put}
 
 pub opt-yes : (a : ℕ) → (a ≡ 0 → ⊥) → opt a ≡ some a
@@ -54,18 +54,13 @@ module _ (w : Tri) (k : Mids) where
   cut-mu Bisected e f g = rw (opt-yes (k .m) e, opt-yes (k .u) f, g)
   cut-mu Red e f g = rw (opt-yes (k .m) e, opt-yes (k .u) f, g)
 
-  pub cut-muv : (q : Quarters) (c : Children) → (k .m ≡ 0 → ⊥) → (k .u ≡ 0 → ⊥) → (k .v ≡ 0 → ⊥) → c ≡ children (fourBy q w k) → c ≡ children (cutBy q w k)
-  unfolding cutBy fourBy
-  cut-muv q c e f g h = rw (opt-yes (k .m) e, opt-yes (k .u) f, opt-yes (k .v) g) h
+  pub cut-bisected : (q : Quarters) → (k .m ≡ 0 → ⊥) → (k .u ≡ 0 → ⊥) → (k .v ≡ 0 → ⊥) → q ≡ Bisected → children (bisected w (some (k .m)) (some (k .u)) (some (k .v))) ≡ children (cutBy q w k)
+  unfolding cutBy
+  cut-bisected q e f g h = rw (opt-yes (k .m) e, opt-yes (k .u) f, opt-yes (k .v) g, h)
 
-  -- all three edges are split
-  pub four-bisected : (q : Quarters) → q ≡ Bisected → children (bisected w (some (k .m)) (some (k .u)) (some (k .v))) ≡ children (fourBy q w k)
-  unfolding fourBy
-  four-bisected q e = rw e
-
-  pub four-red : (q : Quarters) → q ≡ Red → children (red w (some (k .m)) (some (k .u)) (some (k .v))) ≡ children (fourBy q w k)
-  unfolding fourBy
-  four-red q e = rw e
+  pub cut-red : (q : Quarters) → (k .m ≡ 0 → ⊥) → (k .u ≡ 0 → ⊥) → (k .v ≡ 0 → ⊥) → q ≡ Red → children (red w (some (k .m)) (some (k .u)) (some (k .v))) ≡ children (cutBy q w k)
+  unfolding cutBy
+  cut-red q e f g h = rw (opt-yes (k .m) e, opt-yes (k .u) f, opt-yes (k .v) g, h)
 
 -- however a triangle with all three edges split is cut, as many rows are added
 pub as-many : (q : Quarters) (w : Tri) (a b c : Option ℕ) → length (cuttingOf q w a b c .added) ≡ length (bisected w a b c .added)

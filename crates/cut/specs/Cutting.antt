@@ -29,10 +29,6 @@ opt (suc k) = some (suc k)
 unfoldable pub cutBy : Quarters → Tri → Mids → Cut
 cutBy q w k = cuttingOf q w (opt (k .m)) (opt (k .u)) (opt (k .v))
 
--- and where all three edges are split
-unfoldable pub fourBy : Quarters → Tri → Mids → Cut
-fourBy q w k = cuttingOf q w (some (k .m)) (some (k .u)) (some (k .v))
-
 -- a cut as twelve numbers and a count
 abbrev pub children : Cut → Children
 children c = record {

@@ -8,7 +8,7 @@ ghost use Rattle.lists.specs.ItemsLaw.{sumTo};
 ghost use Rattle.meaning.specs.Tables.{rowAt};
 ghost use Rattle.neighbours.specs.Ready.{Ready};
 ghost use Rattle.notes.specs.Notes.{Short};
-ghost use Rattle.cut.specs.Cutting.{cutBy, fourBy, children, append, placed, cutAt, addedAt, putCut, cutAll, splitsOf, splits, whollyAt, redAt};
+ghost use Rattle.cut.specs.Cutting.{cutBy, children, append, placed, cutAt, addedAt, putCut, cutAll, splitsOf, splits, whollyAt, redAt};
 use lists::Found;
 use meaning::Mids;
 use meaning::Quarters;
@@ -23,24 +23,6 @@ struct Children {
 
 // (p, q, r) with midpoints m of q-r, u of p-q, v of r-p: how a triangle is cut is said here alone. First the row that keeps the father's
 // place, then the rows that are appended.
-
-// With all three edges split: bisected, by 01, or red, by W8.
-fn four_of(w: Tri, k: Mids, quarters: Quarters) -> Children
-    ensures { λ c. ⌜ c ≡ children (fourBy quarters w k) ⌝ }
-{
-    match quarters {
-        Quarters::Bisected => Children {
-            rows: [k.u, k.m, w.p, k.v, k.m, w.r, k.u, w.q, k.m, k.v, w.p, k.m],
-            count: 4,
-        },
-        Quarters::Red => Children {
-            rows: [w.p, k.u, k.v, k.u, w.q, k.m, k.v, k.m, w.r, k.m, k.v, k.u],
-            count: 4,
-        },
-    }
-}
-
-// With any edges split, or none.
 fn cut_of(w: Tri, k: Mids, quarters: Quarters) -> Children
     ensures { λ c. ⌜ c ≡ children (cutBy quarters w k) ⌝ }
 {
@@ -67,7 +49,16 @@ fn cut_of(w: Tri, k: Mids, quarters: Quarters) -> Children
             count: 3,
         }
     } else {
-        four_of(w, k, quarters)
+        match quarters {
+            Quarters::Bisected => Children {
+                rows: [k.u, k.m, w.p, k.v, k.m, w.r, k.u, w.q, k.m, k.v, w.p, k.m],
+                count: 4,
+            },
+            Quarters::Red => Children {
+                rows: [w.p, k.u, k.v, k.u, w.q, k.m, k.v, k.m, w.r, k.m, k.v, k.u],
+                count: 4,
+            },
+        }
     }
 }
 

@@ -1,4 +1,4 @@
-use Rattle.cut.specs.CutLaw.{cut-none, cut-m, cut-mv, cut-mu, cut-muv}
+use Rattle.cut.specs.CutLaw.{cut-none, cut-m, cut-mv, cut-mu, cut-bisected, cut-red}
 use borrow.Author.Needs.{needs}
 use Rattle.cut.proofs.cut_of.Statement.{statement}
 use Rattle.cut.proofs.cut_of.Tie as tie
@@ -16,8 +16,11 @@ returns-4 : tie.Need-returns-4
 returns-4 c = search (needs, cut-mu)
 
 returns-5 : tie.Need-returns-5
-returns-5 c = search (needs, cut-muv)
+returns-5 c = search (needs, cut-bisected)
+
+returns-6 : tie.Need-returns-6
+returns-6 c = search (needs, cut-red)
 
 pub cut-of-spec : {M : Type 1} → statement M
-cut-of-spec = tie.close (tie.spec
-    (λ c κs. search needs) returns returns-2 returns-3 returns-4 returns-5)
+cut-of-spec = tie.close (tie.spec (λ c. search needs) (λ c. search needs)
+    returns returns-2 returns-3 returns-4 returns-5 returns-6)

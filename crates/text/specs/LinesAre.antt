@@ -1,5 +1,5 @@
 -- Where each field of a written line stands, and how long the lines are. Assumes nothing.
-use mathlib.Core.Path.{_≡_, refl, sym, _∙_}
+use mathlib.Core.Path.{_≡_, refl, sym, ap, _∙_}
 use mathlib.Core.Bool.{Bool, true, false}
 use mathlib.Core.List.{List, [], _∷_, _++_, map}
 use Prim.Native.Nat.{ℕ, suc, _+_, _-_, _*_, _/_, _%_, _≤_, _<_}
@@ -35,15 +35,17 @@ module _ (kind : ℕ) (a : Tinted) where
   unfolding answerLine hex
   answer-fields = (refl, refl, refl, refl, refl, refl, refl)
 
-  -- W8: "its answer alone ends with that field": of any other kind the end byte follows, and the line has 21
+  -- W8: "its answer alone ends with that field": of any other kind the line is what it was, of 21 bytes
   module _ (other : kind ≡ 0x0a → ⊥) where
-    pub no-red-field : drop 20 (answerLine kind a) ≡ 0x0a ∷ []
+    pub others-as-before : answerLine kind a ≡
+        ended
+        (hex 2 kind ++ hex 2 (a .answer .number) ++ hex 4 (a .answer .n) ++ hex 4 (a .answer .t) ++ hex 4 (a .answer .passes) ++ hex 4 (a .answer .culprit))
     unfolding answerLine hex
-    no-red-field = rw (ne-eqb kind 0x0a other)
+    others-as-before = rw (ne-eqb kind 0x0a other)
 
     pub answer-length : length (answerLine kind a) ≡ 21
     unfolding answerLine hex
-    answer-length = rw (ne-eqb kind 0x0a other)
+    answer-length = ap length others-as-before
 
   -- at most W8's "two digits" more
   pub answer-longest : length (answerLine kind a) ≤ 23

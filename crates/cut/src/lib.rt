@@ -3,13 +3,15 @@
 ghost use mathlib.Core.Path.{_≡_};
 ghost use Prim.Native.Nat.{_+_, _-_, _*_, _≤_, _<_};
 ghost use lib.ListN.{length};
-ghost use Rattle.lists.specs.Search.{items, iter};
+ghost use Rattle.lists.specs.Search.{items, iter, lowest};
 ghost use Rattle.lists.specs.ItemsLaw.{sumTo};
 ghost use Rattle.meaning.specs.Tables.{rowAt};
 ghost use Rattle.neighbours.specs.Ready.{Ready};
 ghost use Rattle.notes.specs.Notes.{Short};
-ghost use Rattle.cut.specs.Cutting.{cutBy, children, append, placed, cutAt, addedAt, putCut, cutAll, splitsOf, splits};
+ghost use Rattle.cut.specs.Cutting.{cutBy, fourBy, children, append, placed, cutAt, addedAt, putCut, cutAll, splitsOf, splits, whollyAt, redAt};
+use lists::Found;
 use meaning::Mids;
+use meaning::Quarters;
 use meaning::Tri;
 use notes::Note;
 
@@ -21,8 +23,26 @@ struct Children {
 
 // (p, q, r) with midpoints m of q-r, u of p-q, v of r-p: how a triangle is cut is said here alone. First the row that keeps the father's
 // place, then the rows that are appended.
-fn cut_of(w: Tri, k: Mids) -> Children
-    ensures { λ c. ⌜ c ≡ children (cutBy w k) ⌝ }
+
+// With all three edges split: bisected, by 01, or red, by W8.
+fn four_of(w: Tri, k: Mids, quarters: Quarters) -> Children
+    ensures { λ c. ⌜ c ≡ children (fourBy quarters w k) ⌝ }
+{
+    match quarters {
+        Quarters::Bisected => Children {
+            rows: [k.u, k.m, w.p, k.v, k.m, w.r, k.u, w.q, k.m, k.v, w.p, k.m],
+            count: 4,
+        },
+        Quarters::Red => Children {
+            rows: [w.p, k.u, k.v, k.u, w.q, k.m, k.v, k.m, w.r, k.m, k.v, k.u],
+            count: 4,
+        },
+    }
+}
+
+// With any edges split, or none.
+fn cut_of(w: Tri, k: Mids, quarters: Quarters) -> Children
+    ensures { λ c. ⌜ c ≡ children (cutBy quarters w k) ⌝ }
 {
     if k.m == 0 {
         Children {
@@ -47,10 +67,7 @@ fn cut_of(w: Tri, k: Mids) -> Children
             count: 3,
         }
     } else {
-        Children {
-            rows: [k.u, k.m, w.p, k.v, k.m, w.r, k.u, w.q, k.m, k.v, w.p, k.m],
-            count: 4,
-        }
+        four_of(w, k, quarters)
     }
 }
 
@@ -103,44 +120,67 @@ fn place(rows: &mut [u32], i: usize, at: usize, c: Children)
 }
 
 // The cut of row i.
-fn cut_at(rows: &[u32], scratch: &[u32], nc: usize, n: u32, i: usize) -> Children
+fn cut_at(
+    rows: &[u32],
+    scratch: &[u32],
+    nc: usize,
+    n: u32,
+    i: usize,
+    quarters: Quarters,
+) -> Children
     requires { ⌜ n ≤ 65_536 ⌝ }
     requires { ⌜ Ready (now scratch) nc (now rows) i ⌝ }
     requires { ⌜ 3 * i + 3 ≤ length (now rows) ⌝ }
-    ensures { λ c. ⌜ c ≡ children (cutAt n (now (rows .entry)) (now (scratch .entry)) i) ⌝ }
+    ensures { λ c. ⌜ c ≡ children (cutAt quarters n (now (rows .entry)) (now (scratch .entry)) i) ⌝ }
 {
     let w = tables::row_at(rows, i);
     let k = notes::mids_of(rows, scratch, nc, n, i);
-    cut_of(w, k)
+    cut_of(w, k, quarters)
 }
 
 // Row i is cut; the rows that it adds end before row `end`. Returns where they begin.
-fn cut_row(rows: &mut [u32], scratch: &[u32], nc: usize, n: u32, i: usize, end: usize) -> usize
+fn cut_row(
+    rows: &mut [u32],
+    scratch: &[u32],
+    nc: usize,
+    n: u32,
+    i: usize,
+    end: usize,
+    quarters: Quarters,
+) -> usize
     requires { ⌜ n ≤ 65_536 ⌝ }
     requires { ⌜ Ready (now scratch) nc (now rows) i ⌝ }
-    requires { ⌜ i + addedAt n (now rows) (now scratch) i < end ⌝ }
+    requires { ⌜ i + addedAt quarters n (now rows) (now scratch) i < end ⌝ }
     requires { ⌜ 3 * end ≤ length (now rows) ⌝ }
-    ensures begin { λ r. ⌜ r ≡ end - addedAt n (now (rows .entry)) (now (scratch .entry)) i ⌝ }
-    ensures table { λ r. ⌜ now (rows .exit) ≡ putCut (cutAt n (now (rows .entry)) (now (scratch .entry)) i) i r (now (rows .entry)) ⌝ }
+    ensures begin { λ r. ⌜ r ≡ end - addedAt quarters n (now (rows .entry)) (now (scratch .entry)) i ⌝ }
+    ensures table { λ r. ⌜ now (rows .exit) ≡ putCut (cutAt quarters n (now (rows .entry)) (now (scratch .entry)) i) i r (now (rows .entry)) ⌝ }
 {
-    let c = cut_at(rows, scratch, nc, n, i);
+    let c = cut_at(rows, scratch, nc, n, i, quarters);
     let at = end + 1 - c.count;
     place(rows, i, at, c);
     at
 }
 
 // All t rows are cut, the last first; t1 is the count of rows after.
-pub fn cut_rows(rows: &mut [u32], scratch: &[u32], nc: usize, n: u32, t: usize, t1: usize)
+pub fn cut_rows(
+    rows: &mut [u32],
+    scratch: &[u32],
+    nc: usize,
+    n: u32,
+    t: usize,
+    t1: usize,
+    quarters: Quarters,
+)
     requires { ⌜ n ≤ 65_536 ⌝ }
     requires { ⌜ Ready (now scratch) nc (now rows) t ⌝ }
-    requires { ⌜ t1 ≡ t + sumTo (addedAt n (now rows) (now scratch)) t ⌝ }
+    requires { ⌜ t1 ≡ t + sumTo (addedAt quarters n (now rows) (now scratch)) t ⌝ }
     requires { ⌜ 3 * t1 ≤ length (now rows) ⌝ }
-    ensures { λ _. ⌜ items (rowAt (now (rows .exit))) 0 t1 ≡ cutAll (items (cutAt n (now (rows .entry)) (now (scratch .entry))) 0 t) ⌝ }
+    ensures { λ _. ⌜ items (rowAt (now (rows .exit))) 0 t1 ≡ cutAll (items (cutAt quarters n (now (rows .entry)) (now (scratch .entry))) 0 t) ⌝ }
 {
     let mut i = t;
     let mut end = t1;
     while i > 0 {
-        end = cut_row(rows, scratch, nc, n, i - 1, end);
+        end = cut_row(rows, scratch, nc, n, i - 1, end, quarters);
         i -= 1;
     }
 }
@@ -175,4 +215,43 @@ pub fn rows_after(scratch: &[u32], t: usize) -> usize
         i += 1;
     }
     r
+}
+
+// ---- red cuts
+
+// All three edges of row i are split.
+fn wholly_at(scratch: &[u32], i: usize) -> bool
+    requires { ⌜ i < length (now scratch) ⌝ }
+    ensures { λ r. ⌜ r ≡ whollyAt (now (scratch .entry)) i ⌝ }
+{
+    added_at(scratch, i) == 3
+}
+
+// The lowest row with all three edges split.
+fn find_wholly(scratch: &[u32], t: usize) -> Found
+    requires { ⌜ t ≤ length (now scratch) ⌝ }
+    ensures { λ r. ⌜ r ≡ lowest (whollyAt (now (scratch .entry))) 0 t ⌝ }
+{
+    let mut i = 0;
+    while i < t {
+        if wholly_at(scratch, i) {
+            return Found::At(i);
+        }
+        i += 1;
+    }
+    Found::Nothing
+}
+
+// W8: 1 when a red cut is made, else 0.
+pub fn made_red(scratch: &[u32], t: usize, quarters: Quarters) -> u32
+    requires { ⌜ t ≤ length (now scratch) ⌝ }
+    ensures { λ r. ⌜ r ≡ redAt quarters (now (scratch .entry)) t ⌝ }
+{
+    match quarters {
+        Quarters::Bisected => 0,
+        Quarters::Red => match find_wholly(scratch, t) {
+            Found::At(_) => 1,
+            Found::Nothing => 0,
+        },
+    }
 }

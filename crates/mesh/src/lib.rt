@@ -1,12 +1,14 @@
 // The calls on a mesh in tables that the caller lends.
 ghost use mathlib.Core.Path.{_≡_};
 ghost use Rattle.meaning.specs.Tables.{given, outcome};
-ghost use Rattle.meaning.specs.Split.{wayOf, newest, allThree};
-ghost use Rattle.meaning.specs.Calls.{checkOut, refineOut, coarsenOut, setOut, heard, askOut};
+ghost use Rattle.meaning.specs.Split.{newest, allThree};
+ghost use Rattle.meaning.specs.Calls.{checkOut, refineOut, tinted, refineByOut, redOut, coarsenOut, setOut, heard, askOut};
 use meaning::Answer;
 use meaning::Correction;
 use meaning::Manner;
 use meaning::Place;
+use meaning::Quarters;
+use meaning::Tinted;
 use meaning::Told;
 
 // The base check. It writes no table but scratch, which is all zero after.
@@ -19,7 +21,8 @@ pub fn check(nodes: &mut [i32], rows: &mut [u32], scratch: &mut [u32], n: usize,
     judging::said(f, n, t)
 }
 
-// Refine, in any manner: the marked triangles are split, and as many more as keep the mesh whole. A refusal changes no node, row or mark.
+// Refine, in any manner, and by any way that a triangle with all three edges split becomes four: the marked triangles are split, and as many
+// more as keep the mesh whole. A refusal changes no node, row or mark.
 pub fn refine_by(
     nodes: &mut [i32],
     rows: &mut [u32],
@@ -29,11 +32,12 @@ pub fn refine_by(
     n: usize,
     t: usize,
     manner: Manner,
-) -> Answer
-    ensures { λ r. ⌜ outcome r (now (nodes .exit)) (now (rows .exit)) (now (scratch .exit)) ≡ refineOut (wayOf manner) (given (now (nodes .entry)) (now (rows .entry)) (now (scratch .entry)) n t) n0 (now (marks .entry)) ⌝ }
+    quarters: Quarters,
+) -> Tinted
+    ensures { λ r. ⌜ tinted (outcome (r .answer) (now (nodes .exit)) (now (rows .exit)) (now (scratch .exit))) (r .red) ≡ refineByOut manner quarters (given (now (nodes .entry)) (now (rows .entry)) (now (scratch .entry)) n t) n0 (now (marks .entry)) ⌝ }
 {
     tables::clear(scratch);
-    let a = refining::work(nodes, rows, scratch, marks, n0, n, t, manner);
+    let a = refining::work(nodes, rows, scratch, marks, n0, n, t, manner, quarters);
     tables::clear(scratch);
     a
 }
@@ -50,7 +54,18 @@ pub fn refine(
 ) -> Answer
     ensures { λ r. ⌜ outcome r (now (nodes .exit)) (now (rows .exit)) (now (scratch .exit)) ≡ refineOut newest (given (now (nodes .entry)) (now (rows .entry)) (now (scratch .entry)) n t) n0 (now (marks .entry)) ⌝ }
 {
-    refine_by(nodes, rows, scratch, marks, n0, n, t, Manner::Newest)
+    let a = refine_by(
+        nodes,
+        rows,
+        scratch,
+        marks,
+        n0,
+        n,
+        t,
+        Manner::Newest,
+        Quarters::Bisected,
+    );
+    a.answer
 }
 
 // Refine by W1: a marked triangle is cut in four, at all three edges.
@@ -65,7 +80,44 @@ pub fn quarter(
 ) -> Answer
     ensures { λ r. ⌜ outcome r (now (nodes .exit)) (now (rows .exit)) (now (scratch .exit)) ≡ refineOut allThree (given (now (nodes .entry)) (now (rows .entry)) (now (scratch .entry)) n t) n0 (now (marks .entry)) ⌝ }
 {
-    refine_by(nodes, rows, scratch, marks, n0, n, t, Manner::AllThree)
+    let a = refine_by(
+        nodes,
+        rows,
+        scratch,
+        marks,
+        n0,
+        n,
+        t,
+        Manner::AllThree,
+        Quarters::Bisected,
+    );
+    a.answer
+}
+
+// Refine by W8: a marked triangle is cut in four at all three edges, its children shaped like itself; says also whether a red cut was made.
+// Restore gives back the base only if no call before made one.
+pub fn refine_red(
+    nodes: &mut [i32],
+    rows: &mut [u32],
+    scratch: &mut [u32],
+    marks: &[u8],
+    n0: usize,
+    n: usize,
+    t: usize,
+) -> Tinted
+    ensures { λ r. ⌜ tinted (outcome (r .answer) (now (nodes .exit)) (now (rows .exit)) (now (scratch .exit))) (r .red) ≡ redOut (given (now (nodes .entry)) (now (rows .entry)) (now (scratch .entry)) n t) n0 (now (marks .entry)) ⌝ }
+{
+    refine_by(
+        nodes,
+        rows,
+        scratch,
+        marks,
+        n0,
+        n,
+        t,
+        Manner::AllThree,
+        Quarters::Red,
+    )
 }
 
 // Coarsen: the nodes that are marked and good go. A refusal changes no node, row or mark.

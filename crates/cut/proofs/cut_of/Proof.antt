@@ -20,4 +20,4 @@ returns-5 c = search (needs, cut-muv)
 
 pub cut-of-spec : {M : Type 1} → statement M
 cut-of-spec = tie.close (tie.spec
-    returns returns-2 returns-3 returns-4 returns-5)
+    (λ c κs. search needs) returns returns-2 returns-3 returns-4 returns-5)

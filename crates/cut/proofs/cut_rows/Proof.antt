@@ -4,10 +4,10 @@ use Rattle.cut.proofs.cut_rows.Statement.{statement}
 use Rattle.cut.proofs.cut_rows.Tie as tie
 
 abbrev Inv-loop : tie.InvT-loop
-Inv-loop rows₀ scratch nc n t t1 i₀ end₀ rows i end = Partly n rows₀ scratch t t1 i end rows
+Inv-loop rows₀ scratch nc n t t1 quarters i₀ end₀ rows i end = Partly quarters n rows₀ scratch t t1 i end rows
 
 abbrev μ-loop : tie.MeasureT-loop
-μ-loop rows₀ scratch nc n t t1 i₀ end₀ rows i end = i
+μ-loop rows₀ scratch nc n t t1 quarters i₀ end₀ rows i end = i
 
 loop-holds : tie.Need-loop-holds Inv-loop μ-loop
 loop-holds c = search (needs, cutting)

@@ -9,7 +9,7 @@ returns c =
     let end = c .before .before in
     let work = end .before .before .before .before .before .before .before in
     let clear = work .before .before .before .before .before .before in
-    refined-call _ _ _ _ _ _ _ _ _ _ _ _ _ _ (clear .clear .ensures) (work .work .ensures) (end .clear2 .ensures) (end .before .before .before .scratch2 .given)
+    refined-call _ _ _ _ _ _ _ _ _ _ _ _ _ _ _ (clear .clear .ensures) (work .work .ensures) (end .clear2 .ensures) (end .before .before .before .scratch2 .given)
 
 pub refine-by-spec : {M : Type 1} → statement M
 refine-by-spec =

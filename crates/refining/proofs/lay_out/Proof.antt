@@ -21,8 +21,8 @@ returns c =
     let number = c .before .before .before .before in
     let close = number .before .before .before .before in
     let pre = close .before .before .before .before .before .pre in (
-      late-number _ _ _ _ _ _ _ pre _ _ _ (close .close .ensures) (number .number .ensures) _ (c .weigh .ensures),
-      late-plan _ _ _ _ _ _ _ pre _ _ _ (close .close .ensures) (number .number .ensures) _ (c .weigh .ensures),
+      late-number _ _ _ _ _ _ _ pre _ _ _ (close .close .ensures) (number .number .ensures) _ _ (c .weigh .ensures),
+      late-plan _ _ _ _ _ _ _ pre _ _ _ (close .close .ensures) (number .number .ensures) _ _ (c .weigh .ensures),
     )
 
 pub lay-out-spec : {M : Type 1} → statement M

@@ -7,7 +7,7 @@ returns : tie.Need-returns
 returns c =
     let judge = c .before .before .before .before .before in
     let entry = judge .before .before .before .before .before .before .before in
-    work-refused (entry .args .manner) _ _ _ _ _ _ _ (entry .pre) _ (judge .judge .ensures .0) _ (c .before .if1 .taken) (c .said .ensures)
+    work-refused (entry .args .manner) (entry .args .quarters) _ _ _ _ _ _ _ (entry .pre) _ (judge .judge .ensures .0) _ (c .before .if1 .taken) (c .refused .ensures)
 
 lay-out-requires : tie.Need-lay-out-requires
 lay-out-requires c κs =
@@ -19,8 +19,8 @@ returns-2 c =
     let lay-out = c .before .before .before .before .before in
     let go-on = lay-out .before .before .before .before in
     let judge = go-on .before .before .before .before in
-    work-refused-late _ _ _ _ _ _ _ _ (judge .before .before .before .before .before .before .before .pre) _ (judge .judge .ensures .0) (go-on .if1 .left) _ (lay-out .lay-out .ensures .0) _
-    (c .before .if2 .taken) (c .said2 .ensures)
+    work-refused-late _ _ _ _ _ _ _ _ _ (judge .before .before .before .before .before .before .before .pre) _ (judge .judge .ensures .0) (go-on .if1 .left) _ (lay-out .lay-out .ensures .0) _
+    (c .before .if2 .taken) (c .refused2 .ensures)
 
 carry-out-requires : tie.Need-carry-out-requires
 carry-out-requires c κs =
@@ -34,7 +34,7 @@ returns-3 c =
     let lay-out = go-on-2 .before .before .before .before in
     let go-on = lay-out .before .before .before .before in
     let judge = go-on .before .before .before .before in
-    work-done _ _ _ _ _ _ _ _ (judge .before .before .before .before .before .before .before .pre) _ (judge .judge .ensures .0) (go-on .if1 .left) _ (lay-out .lay-out .ensures .0) _ _ _ _ _ _
+    work-done _ _ _ _ _ _ _ _ _ (judge .before .before .before .before .before .before .before .pre) _ (judge .judge .ensures .0) (go-on .if1 .left) _ (lay-out .lay-out .ensures .0) _ _ _ _ _ _ _
     (go-on-2 .if2 .left) (lay-out .lay-out .ensures .1) (carry-out .carry-out .ensures) (c .done .ensures)
 
 pub work-spec : {M : Type 1} → statement M

@@ -1,4 +1,5 @@
-//! The line program of document 01, with `09` of request W1, the culprits of W2, the corrections and `08` of W5, and `0a` of W8, by an ordinary method.
+//! The line program of document 01, with `09` of request W1, the culprits of W2, the corrections and `08` of W5, and `0a` of W8, by an ordinary
+//! method.
 use crate::calls::{self, Answer, Tables};
 use crate::pieces::{Reader, PIECE};
 

@@ -1,6 +1,6 @@
 //! The line program against the rival's, on random text, good and bad. Usage: texts PROGRAM COUNT [SEED].
-//! A run in which a refused 03 never gave one of 3 to 7 with a culprit above 0, an 03 never 0, 10, 11 or 12, a setting never 0, 13 or 15, or an 0a never
-//! 0 with a red cut, 0 without one or 8, fails: it is to be longer.
+//! A run in which a refused 03 never gave one of 3 to 7 with a culprit above 0, an 03 never 0, 10, 11 or 12, a setting never 0, 13 or 15, or an 0a
+//! never 0 with a red cut, 0 without one or 8, fails: it is to be longer.
 use rival::random::Dice;
 use rival::texts::random_text;
 use std::io::Write;

@@ -73,7 +73,8 @@ pub fn proved(call: &Call, g: &mut Tables) -> Answer {
             Call::Coarsen(n0, marks) => marked(ffi::spoutbeetle_coarsen, *n0, marks),
             Call::Red(n0, marks) => {
                 red = 7777;
-                ffi::spoutbeetle_refine_red(nodes, nodes_len, rows, rows_len, scratch, scratch_len, marks.as_ptr(), marks.len(), *n0, &mut n, &mut t, &mut red, &mut culprit)
+                let (marks, marks_len) = (marks.as_ptr(), marks.len());
+                ffi::spoutbeetle_refine_red(nodes, nodes_len, rows, rows_len, scratch, scratch_len, marks, marks_len, *n0, &mut n, &mut t, &mut red, &mut culprit)
             }
             Call::Check => ffi::spoutbeetle_check(nodes, nodes_len, rows, rows_len, scratch, scratch_len, n, t, &mut culprit),
             Call::Restore(n0) => {

@@ -656,7 +656,8 @@ fn taken_as_before() -> Vec<Case> {
     ];
     for (name, mesh) in [("W7, doubled", DOUBLED), ("W7, across", ACROSS), ("W7, starred", STARRED)] {
         let n0 = mesh.0.len();
-        let calls = [refine(mesh, n0, &[]), quarter(mesh, n0, &[]), refine_red(mesh, n0, &[]), full_pass(mesh, n0), Call::Restore(n0), Call::Set(0, 0, [0, 0])];
+        let marked = [refine(mesh, n0, &[]), quarter(mesh, n0, &[]), refine_red(mesh, n0, &[]), full_pass(mesh, n0)];
+        let calls = marked.into_iter().chain([Call::Restore(n0), Call::Set(0, 0, [0, 0])]);
         all.extend(calls.map(|call| done(name, mesh, call, mesh, 0)));
         all.push(asked(name, lent(mesh, 20, 30), n0, [3, 3], [0, 0]));
     }
@@ -853,10 +854,11 @@ fn fault(case: &Case, by: fn(&Call, &mut Tables) -> Answer) -> Option<String> {
 }
 
 fn main() {
-    let done = [hand_meshes(), quarter_meshes(), red_meshes(), range_ends(), corrections(), means(), questions(), largest_questions(), touching(), taken_as_before()];
+    let refined = [hand_meshes(), quarter_meshes(), red_meshes(), range_ends(), corrections(), means()];
+    let others = [questions(), largest_questions(), touching(), taken_as_before()];
     let unlawful = [number_1(), number_2(), numbers_3_to_7(), lowest_culprits(), last_culprits(), stored_out()];
     let refused = [numbers_8_to_10(), numbers_11_and_12(), settings_refused(), number_14()];
-    let cases: Vec<Case> = done.into_iter().chain(unlawful).chain(refused).flatten().collect();
+    let cases: Vec<Case> = refined.into_iter().chain(others).chain(unlawful).chain(refused).flatten().collect();
     let faults: Vec<String> = cases.iter().flat_map(|c| [fault(c, proved), fault(c, wrapped), fault(c, other)]).flatten().collect();
     for f in &faults {
         println!("hand: {f}");

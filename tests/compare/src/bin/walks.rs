@@ -46,8 +46,8 @@ const POINTS: usize = 40;
 /// The numbers that refuse a setting on a lawful mesh.
 const REFUSE_A_SETTING: [u32; 3] = [3, 13, 15];
 
-/// A call on the mesh, made with the base's node count or, once in four, with anything. A quarter splits more for a mark, so it gets fewer, and what is
-/// cut red stays, so that half of these have none.
+/// A call on the mesh, made with the base's node count or, once in four, with anything. A quarter splits more for a mark, so it gets fewer; what is
+/// cut red stays, so that a red refinement gets fewer still, and half of them none.
 fn random_call(d: &mut Dice, g: &Tables, n0: usize) -> Call {
     let ways: [(Marked, usize); 4] = [(Call::Quarter, 80), (Call::Refine, 20), (Call::Red, 200), (Call::Red, usize::MAX)];
     let (refine, every) = ways[[0, 0, 1, 1, 2, 3][d.below(6)]];
@@ -179,7 +179,7 @@ fn walk(seed: u64) -> Told {
     Told { passes: a.passes, ..w.told }
 }
 
-/// A walk with red cuts stays lawful and proper, over the same area; restore is done, and what it leaves is so too. Says also whether that is the base.
+/// A walk with red cuts stays lawful and proper, over the same area; restore is done, and what it leaves is so too. Says whether that is the base.
 fn stray(seed: u64) -> (Told, bool) {
     let mut w = Walk::from(seed);
     w.go(300, true);
@@ -240,7 +240,8 @@ fn strays(count: u64, first: u64) -> bool {
     let (told, home): (Vec<_>, Vec<_>) = (first..first + count).map(stray).unzip();
     let (cuts, away) = (told.iter().map(|w| w.reddened[1]).sum::<usize>(), home.iter().filter(|&&home| !home).count());
     let checks = checks(&told);
-    println!("walks: {count} from seed {first} with {cuts} red refinements; grown meshes checked: {} compatible, {} not; {away} end away from the base", checks[0], checks[1]);
+    println!("walks: with red cuts: grown meshes checked: {} compatible, {} not", checks[0], checks[1]);
+    println!("walks: with red cuts: {count} from seed {first}, {cuts} refinements that made some; {away} end away from the base");
     !checks.contains(&0) && cuts > 0 && away > 0
 }
 

@@ -15,6 +15,8 @@ use Rattle.lists.specs.AllLaw.{items-on, items-off, items-end}
 use Rattle.text.specs.Digits.{isDigit, number, field, listed}
 use Rattle.meaning.specs.declared.Manner.{Manner}
 use Rattle.meaning.specs.declared.Manner.the-variants.{Newest, AllThree}
+use Rattle.meaning.specs.declared.Quarters.{Quarters}
+use Rattle.meaning.specs.declared.Quarters.the-variants.{Bisected, Red}
 use Rattle.protocol.specs.declared.Refines.{Refines}
 use Rattle.protocol.specs.declared.Refines.the-variants.{In, Never}
 use Rattle.protocol.specs.declared.Session.{Session}
@@ -23,21 +25,25 @@ use Rattle.protocol.specs.Frames.{refinesIn, isRefining, wellFormed, allBelow, 
 -- ---- the kinds that refine
 
 module _ (kind : ℕ) where
-  pub refines-newest : kind ≡ 4 → In Newest ≡ refinesIn kind
+  pub refines-newest : kind ≡ 4 → In Newest Bisected ≡ refinesIn kind
   unfolding refinesIn
   refines-newest e = rw e
 
-  pub refines-all-three : kind ≡ 9 → In AllThree ≡ refinesIn kind
+  pub refines-all-three : kind ≡ 9 → In AllThree Bisected ≡ refinesIn kind
   unfolding refinesIn
   refines-all-three e = rw e
 
-  pub refines-never : (kind ≡ 4 → ⊥) → (kind ≡ 9 → ⊥) → Never ≡ refinesIn kind
+  pub refines-red : kind ≡ 10 → In AllThree Red ≡ refinesIn kind
   unfolding refinesIn
-  refines-never a b = rw (ne-eqb kind 4 a, ne-eqb kind 9 b)
+  refines-red e = rw e
+
+  pub refines-never : (kind ≡ 4 → ⊥) → (kind ≡ 9 → ⊥) → (kind ≡ 10 → ⊥) → Never ≡ refinesIn kind
+  unfolding refinesIn
+  refines-never a b c = rw (ne-eqb kind 4 a, ne-eqb kind 9 b, ne-eqb kind 10 c)
 
   module _ (r : Refines) (e : r ≡ refinesIn kind) where
-    pub refines-yes : (k : Manner) → r ≡ In k → true ≡ isRefining kind
-    refines-yes k g = rw (← e, g)
+    pub refines-yes : (k : Manner) (q : Quarters) → r ≡ In k q → true ≡ isRefining kind
+    refines-yes k q g = rw (← e, g)
 
     pub refines-no : r ≡ Never → false ≡ isRefining kind
     refines-no g = rw (← e, g)

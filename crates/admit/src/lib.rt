@@ -6,19 +6,23 @@ ghost use lib.ListN.{length};
 ghost use Rattle.text.specs.Digits.{field, listed};
 ghost use Rattle.protocol.specs.Frames as f;
 use meaning::Manner;
+use meaning::Quarters;
 use protocol::Refines;
 use protocol::Session;
 use text::read;
 
-// Whether a frame of this kind refines, and in which manner.
+// Whether a frame of this kind refines, in which manner, and how it quarters.
 pub fn refines_in(kind: u32) -> Refines
     ensures { λ r. ⌜ r ≡ f.refinesIn kind ⌝ }
 {
     if kind == 4 {
-        return Refines::In(Manner::Newest);
+        return Refines::In(Manner::Newest, Quarters::Bisected);
     }
     if kind == 9 {
-        return Refines::In(Manner::AllThree);
+        return Refines::In(Manner::AllThree, Quarters::Bisected);
+    }
+    if kind == 10 {
+        return Refines::In(Manner::AllThree, Quarters::Red);
     }
     Refines::Never
 }
@@ -27,7 +31,7 @@ fn is_refining(kind: u32) -> bool
     ensures { λ r. ⌜ r ≡ f.isRefining kind ⌝ }
 {
     match refines_in(kind) {
-        Refines::In(_) => true,
+        Refines::In(_, _) => true,
         Refines::Never => false,
     }
 }

@@ -1,18 +1,19 @@
-// Frames 03 to 06, 08 and 09: the calls. Numbers listed have four digits each.
+// Frames 03 to 06, 08 to 0a: the calls. Numbers listed have four digits each.
 ghost use mathlib.Core.Path.{_≡_};
 ghost use mathlib.Core.Bool.{true};
 ghost use Prim.Native.Nat.{_+_, _*_, _/_, _≤_};
 ghost use lib.ListN.{length};
 ghost use Rattle.lists.specs.Search.{iter};
-ghost use Rattle.meaning.specs.Split.{wayOf};
 ghost use Rattle.meaning.specs.Tables.{given, outcome};
-ghost use Rattle.meaning.specs.Calls.{checkOut, refineOut, coarsenOut, setOut};
+ghost use Rattle.meaning.specs.Calls.{tinted, checkOut, refineByOut, coarsenOut, setOut};
 ghost use Rattle.text.specs.Digits.{field, listed};
 ghost use Rattle.text.specs.Lines.{correctionIn};
 ghost use Rattle.protocol.specs.Frames as f;
 ghost use Rattle.calls.specs.MarksLaw.{markOne};
 use meaning::Answer;
 use meaning::Manner;
+use meaning::Quarters;
+use meaning::Tinted;
 use protocol::Refines;
 use protocol::Session;
 use text::read;
@@ -64,7 +65,7 @@ fn check_base(
     }
 }
 
-// 04 and 09: refine, in the frame's manner.
+// 04, 09 and 0a: refine, in the frame's way.
 fn refine_listed(
     fields: &[u8],
     nodes: &mut [i32],
@@ -72,9 +73,10 @@ fn refine_listed(
     scratch: &mut [u32],
     session: Session,
     manner: Manner,
-) -> Answer
+    quarters: Quarters,
+) -> Tinted
     requires { ⌜ session .t ≤ 1024 ⌝ }
-    ensures { λ a. ⌜ outcome a (now (nodes .exit)) (now (rows .exit)) (now (scratch .exit)) ≡ refineOut (wayOf manner) (given (now (nodes .entry)) (now (rows .entry)) (now (scratch .entry)) (session .n) (session .t)) (session .n0) (f.marksOf (session .t) (listed (now (fields .entry)))) ⌝ }
+    ensures { λ a. ⌜ tinted (outcome (a .answer) (now (nodes .exit)) (now (rows .exit)) (now (scratch .exit))) (a .red) ≡ refineByOut manner quarters (given (now (nodes .entry)) (now (rows .entry)) (now (scratch .entry)) (session .n) (session .t)) (session .n0) (f.marksOf (session .t) (listed (now (fields .entry)))) ⌝ }
 {
     let mut marks = [0u8; 1024];
     mark_listed(&mut marks, fields);
@@ -88,6 +90,7 @@ fn refine_listed(
         session.n,
         t,
         manner,
+        quarters,
     )
 }
 
@@ -133,7 +136,7 @@ fn set_given(
     )
 }
 
-// 03 to 06, 08 and 09, admitted.
+// 03 to 06, 08 to 0a, admitted. Those that do not refine cut nothing red.
 pub fn call(
     kind: u32,
     fields: &[u8],
@@ -141,25 +144,32 @@ pub fn call(
     rows: &mut [u32],
     scratch: &mut [u32],
     session: Session,
-) -> Answer
+) -> Tinted
     requires { ⌜ session .n ≤ 512 ⌝ }
     requires { ⌜ session .t ≤ 1024 ⌝ }
     requires { ⌜ f.admits session kind (now fields) ≡ true ⌝ }
-    ensures { λ a. ⌜ outcome a (now (nodes .exit)) (now (rows .exit)) (now (scratch .exit)) ≡ f.called (f.held (now (nodes .entry)) (now (rows .entry)) (now (scratch .entry)) session) kind (now (fields .entry)) ⌝ }
+    ensures { λ a. ⌜ tinted (outcome (a .answer) (now (nodes .exit)) (now (rows .exit)) (now (scratch .exit))) (a .red) ≡ f.called (f.held (now (nodes .entry)) (now (rows .entry)) (now (scratch .entry)) session) kind (now (fields .entry)) ⌝ }
 {
     if kind == 3 {
-        return check_base(nodes, rows, scratch, session.n, session.t);
+        let answer = check_base(nodes, rows, scratch, session.n, session.t);
+        return Tinted { answer, red: 0 };
     }
-    if let Refines::In(manner) = admit::refines_in(kind) {
-        return refine_listed(fields, nodes, rows, scratch, session, manner);
+    if let Refines::In(manner, quarters) = admit::refines_in(kind) {
+        return refine_listed(fields, nodes, rows, scratch, session, manner, quarters);
     }
     if kind == 5 {
-        return coarsen_listed(fields, nodes, rows, scratch, session);
+        let answer = coarsen_listed(fields, nodes, rows, scratch, session);
+        return Tinted { answer, red: 0 };
     }
     if kind == 8 {
-        return set_given(fields, nodes, rows, scratch, session);
+        let answer = set_given(fields, nodes, rows, scratch, session);
+        return Tinted { answer, red: 0 };
     }
-    job::restore(nodes, rows, scratch, session.n0, session.n, session.t)
+    let restored = job::restore(nodes, rows, scratch, session.n0, session.n, session.t);
+    Tinted {
+        answer: restored,
+        red: 0,
+    }
 }
 
 // The counts are the answer's; a 03 that says 0 is accepted.

@@ -14,13 +14,14 @@ use Rattle.lists.specs.ListsLaw.{and-right}
 use Rattle.meaning.specs.declared.Correction.{Correction}
 use Rattle.meaning.specs.declared.Fault.{Fault}
 use Rattle.meaning.specs.declared.Manner.{Manner}
+use Rattle.meaning.specs.declared.Quarters.{Quarters}
 use Rattle.meaning.specs.Mesh.{Mesh}
 use Rattle.meaning.specs.Lawful.{InBounds, refusal}
 use Rattle.meaning.specs.Split.{wayOf, refined}
 use Rattle.meaning.specs.Coarsen.{coarsened, Restored, restored}
 use Rattle.meaning.specs.Setting.{corrected, setFault}
 use Rattle.meaning.specs.Tables.{Given, Outcome, meshOf, roomOf}
-use Rattle.meaning.specs.Calls.{culpritOf, saysOf, checkNo, refineNo, coarsenNo, refines, coarsens, restores, sets, sizesFit, untouched, leaves, sized, checkOut, refineOut, coarsenOut, restoreOut, setOut}
+use Rattle.meaning.specs.Calls.{TintedOut, tinted, culpritOf, saysOf, checkNo, refineNo, coarsenNo, refines, coarsens, restores, sets, sizesFit, untouched, leaves, sized, checkOut, refineOut, refineByOut, coarsenOut, restoreOut, setOut}
 use Rattle.laws.specs.Coarsen.{coarsened-count, coarsened-rows}
 use Rattle.laws.specs.Refine.{manner-done}
 use Rattle.laws.specs.Restore.{restored-fewer, restored-rows}
@@ -29,7 +30,7 @@ use Rattle.laws.specs.TableMesh.{nodes-count, rows-count, filled-length, done-n
 use Rattle.tables.specs.PutLaw.{length-setNode, length-setRow}
 use Rattle.text.specs.Digits.{field, listed}
 use Rattle.text.specs.Lines.{correctionIn, nodeIn, rowIn}
-use Rattle.text.specs.LinesAre.{correction-bounds, answer-length, all-length}
+use Rattle.text.specs.LinesAre.{correction-bounds, answer-longest, all-length}
 use Rattle.protocol.specs.declared.Refines.{Refines}
 use Rattle.protocol.specs.declared.Refines.the-variants.{In, Never}
 use Rattle.protocol.specs.Frames.{Held, held, session, givenBy, Step, step, refinesIn, ifRefines, wellFormed, admits, takes, kindOf, fieldsOf, addNode, addRow, orDropped, marksOf, called, sessionAfter, answering, frame, lineStep}
@@ -38,26 +39,27 @@ use Rattle.admit.specs.AdmitLaw.{node-room, row-room}
 
 -- ---- what holds of all that a call of a line may leave holds of what it leaves
 
-module _ (P : Outcome → Type 0) where
-  pub pick : (b : Bool) {o p : Outcome} → P o → P p → P (cases b o p)
-  pick true x y = x
-  pick false x y = y
+module _ {A : Type 0} (P : A → Type 0) where
+  pub pick : (b : Bool) {x y : A} → P x → P y → P (cases b x y)
+  pick true p q = p
+  pick false p q = q
 
-  pick-refining : (r : Refines) {f : Manner → Outcome} {p : Outcome} → ((k : Manner) → P (f k)) → P p → P (ifRefines r f p)
-  pick-refining (In k) x y = x k
-  pick-refining Never x y = y
+  pick-refining : (r : Refines) {f : Manner → Quarters → A} {y : A} → ((k : Manner) (q : Quarters) → P (f k q)) → P y → P (ifRefines r f y)
+  pick-refining (In k q) p _ = p k q
+  pick-refining Never _ p = p
 
-  pub of-called : (h : Held) (kind : ℕ) (fields : List ℕ) → P (orDropped (checkOut (givenBy h))) →
-      ((k : Manner) (marks : List ℕ) → P (refineOut (wayOf k) (givenBy h) (h .session .n0) marks)) →
-      ((marks : List ℕ) → P (coarsenOut (givenBy h) (h .session .n0) marks)) →
-      ((z : ℕ) (v : Correction) → InBounds v → P (setOut (givenBy h) (h .session .n0) z v)) → P (restoreOut (givenBy h) (h .session .n0)) → P (called h kind fields)
-  unfolding called
-  of-called h kind fields a b c d e =
-      pick (eqb kind 3) a
-      (pick-refining (refinesIn kind) (λ k. b k (marksOf (h .session .t) (listed fields)))
-      (pick (eqb kind 5) (c (marksOf (h .session .n) (listed fields)))
-      (pick (eqb kind 8) (d (field 4 fields 0) (correctionIn fields 1) (correction-bounds fields 1))
-      e)))
+pub of-called : (P : Outcome → Type 0) (h : Held) (kind : ℕ) (fields : List ℕ) → P (orDropped (checkOut (givenBy h))) →
+    ((k : Manner) (q : Quarters) (marks : List ℕ) → P (refineOut (wayOf k q) (givenBy h) (h .session .n0) marks)) →
+    ((marks : List ℕ) → P (coarsenOut (givenBy h) (h .session .n0) marks)) →
+    ((z : ℕ) (v : Correction) → InBounds v → P (setOut (givenBy h) (h .session .n0) z v)) → P (restoreOut (givenBy h) (h .session .n0)) → P (called h kind fields .outcome)
+unfolding called refineByOut
+of-called P h kind fields a b c d e =
+    let Q : TintedOut → Type 0 = λ x. P (x .outcome) in
+    pick Q (eqb kind 3) a
+    (pick-refining Q (refinesIn kind) (λ k q. b k q (marksOf (h .session .t) (listed fields)))
+    (pick Q (eqb kind 5) (c (marksOf (h .session .n) (listed fields)))
+    (pick Q (eqb kind 8) (d (field 4 fields 0) (correctionIn fields 1) (correction-bounds fields 1))
+    e)))
 
 -- ---- what a call leaves: lengths as they were, counts within them
 
@@ -110,13 +112,13 @@ module _ (g : Given) (a : 4 * g .n ≤ length (g .nodes)) (b : 3 * g .t ≤ leng
   unfolding checkOut
   sound-check = pick (Sound g) (sizesFit g 0) (sound-untouched (checkNo (meshOf g)) (culpritOf (meshOf g) (checkNo (meshOf g)))) (sound-untouched 1 0)
 
-  sound-refine : (k : Manner) (n0 : ℕ) (marks : List ℕ) → Sound g (refineOut (wayOf k) g n0 marks)
+  sound-refine : (k : Manner) (q : Quarters) (n0 : ℕ) (marks : List ℕ) → Sound g (refineOut (wayOf k q) g n0 marks)
   unfolding refineOut refines
-  sound-refine k n0 marks =
+  sound-refine k q n0 marks =
       let m = meshOf g in
-      let no = refineNo (wayOf k) (roomOf g) m marks in
-      sound-sized n0 no (culpritOf m no) m (refined (wayOf k) m marks) 0
-      (λ e. let f = manner-done k (roomOf g) m marks e .fit in record { nodes = omega (arith, f .nodes-fit); rows = omega (arith, f .rows-fit) })
+      let no = refineNo (wayOf k q) (roomOf g) m marks in
+      sound-sized n0 no (culpritOf m no) m (refined (wayOf k q) m marks) 0
+      (λ e. let f = manner-done k q (roomOf g) m marks e .fit in record { nodes = omega (arith, f .nodes-fit); rows = omega (arith, f .rows-fit) })
 
   sound-coarsen : (n0 : ℕ) (marks : List ℕ) → Sound g (coarsenOut g n0 marks)
   unfolding coarsenOut coarsens
@@ -150,18 +152,18 @@ fine-either ol true p q = p refl
 fine-either ol false p q = q
 
 module _ (h : Held) (ol : ℕ) (w : WholeHeld h ol) where
-  called-sound : (kind : ℕ) (fields : List ℕ) → Sound (givenBy h) (called h kind fields)
+  called-sound : (kind : ℕ) (fields : List ℕ) → Sound (givenBy h) (called h kind fields .outcome)
   called-sound kind fields =
       let g : Given = givenBy h in
       let a : 4 * g .n ≤ length (g .nodes) = omega (arith, w .nodes, w .few-nodes) in
       let b : 3 * g .t ≤ length (g .rows) = omega (arith, w .rows, w .few-rows) in
-      of-called (Sound g) h kind fields (sound-dropped g a b (checkOut g) (sound-check g a b)) (λ k. sound-refine g a b k (h .session .n0)) (sound-coarsen g a b (h .session .n0))
+      of-called (Sound g) h kind fields (sound-dropped g a b (checkOut g) (sound-check g a b)) (λ k q. sound-refine g a b k q (h .session .n0)) (sound-coarsen g a b (h .session .n0))
       (λ z v _. sound-set g a b (h .session .n0) z v)
       (sound-restore g a b (h .session .n0))
 
-  answering-fine : (kind : ℕ) (o : Outcome) → Sound (givenBy h) o → Fine ol (answering h kind o)
+  answering-fine : (kind : ℕ) (o : Outcome) (r : ℕ) → Sound (givenBy h) o → Fine ol (answering h kind (tinted o r))
   unfolding sessionAfter
-  answering-fine kind o s = record { next = go (eqb kind 3); few = omega (arith, answer-length kind (o .answer)) }
+  answering-fine kind o r s = record { next = go (eqb kind 3); few = omega (arith, answer-longest kind (record { answer = o .answer; red = r })) }
     where
       whole : (n0 : ℕ) (b : Bool) → WholeHeld (held (o .nodes) (o .rows) (o .scratch) (session (o .answer .n) (o .answer .t) n0 b)) ol
       whole n0 b = record {
@@ -217,7 +219,7 @@ module _ (h : Held) (ol : ℕ) (w : WholeHeld h ol) where
         (fine-either ol (eqb kind 2) (λ e. row-fine (eqb-true kind 2 e))
         (fine-either ol (eqb kind 7)
         (λ e. record { next = w; few = omega (arith, all-length (h .nodes) (h .rows) (h .session .n) (h .session .t), w .few-nodes, w .few-rows) })
-        (answering-fine kind (called h kind fields) (called-sound kind fields))))
+        (answering-fine kind (called h kind fields .outcome) (called h kind fields .red) (called-sound kind fields))))
 
 -- whatever line comes
 pub line-fine : (h : Held) (ol : ℕ) (line : List ℕ) → WholeHeld h ol → Fine ol (lineStep h line)

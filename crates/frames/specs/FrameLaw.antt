@@ -7,10 +7,11 @@ use native.Mathlib.Omega.{arith}
 use borrow.Author.Tests.{ne-eqb, not-true, not-false}
 use lib.IntN.{ℤ}
 use lib.ListN.{length, take, drop}
-use Rattle.meaning.specs.declared.Answer.{Answer}
 use Rattle.meaning.specs.declared.Node.{Node}
+use Rattle.meaning.specs.declared.Tinted.{Tinted}
 use Rattle.meaning.specs.declared.Tri.{Tri}
 use Rattle.meaning.specs.Tables.{outcome}
+use Rattle.meaning.specs.Calls.{tinted}
 use Rattle.tables.specs.Put.{setNode, setRow}
 use Rattle.text.specs.Digits.{number}
 use Rattle.text.specs.Lines.{nodeIn, rowIn, ffLine, answerLine, allLines}
@@ -55,12 +56,12 @@ module _ (ns : List ℤ) (rs sc out : List ℕ) (s : Session) (kind : ℕ) (f : 
     unfolding frame
     frame-all h e = rw h (ap (with (held ns rs sc s)) e)
 
-    pub frame-called : (a : Answer) (ns₁ : List ℤ) (rs₁ sc₁ : List ℕ) (s₁ : Session) → (kind ≡ 1 → ⊥) → (kind ≡ 2 → ⊥) → (kind ≡ 7 → ⊥) →
-        outcome a ns₁ rs₁ sc₁ ≡ called (held ns rs sc s) kind f → s₁ ≡ sessionAfter s kind a → wrote k o ≡ writes (wrote 0 out) (answerLine kind a) →
+    pub frame-called : (a : Tinted) (ns₁ : List ℤ) (rs₁ sc₁ : List ℕ) (s₁ : Session) → (kind ≡ 1 → ⊥) → (kind ≡ 2 → ⊥) → (kind ≡ 7 → ⊥) →
+        tinted (outcome (a .answer) ns₁ rs₁ sc₁) (a .red) ≡ called (held ns rs sc s) kind f → s₁ ≡ sessionAfter s kind (a .answer) → wrote k o ≡ writes (wrote 0 out) (answerLine kind a) →
         lent (answered s₁ k) ns₁ rs₁ sc₁ o ≡ writing out (frame (held ns rs sc s) kind f)
     unfolding frame
     frame-called a ns₁ rs₁ sc₁ s₁ h₁ h₂ h₇ c e w =
-        rw (ne-eqb kind 1 h₁, ne-eqb kind 2 h₂, ne-eqb kind 7 h₇, ← c, e) (ap (with (held ns₁ rs₁ sc₁ (sessionAfter s kind a))) w)
+        rw (ne-eqb kind 1 h₁, ne-eqb kind 2 h₂, ne-eqb kind 7 h₇, ← c, e) (ap (with (held ns₁ rs₁ sc₁ (sessionAfter s kind (a .answer)))) w)
 
 -- ---- a line
 

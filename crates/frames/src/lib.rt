@@ -59,8 +59,9 @@ fn frame(
     }
     let a = calls::call(kind, fields, nodes, rows, scratch, session);
     let written = write::put_answer(out, kind, a);
+    let answer = a.answer;
     Answered {
-        session: calls::session_after(session, kind, a),
+        session: calls::session_after(session, kind, answer),
         written,
     }
 }

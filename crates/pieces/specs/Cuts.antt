@@ -15,7 +15,7 @@ use Rattle.meaning.specs.Good.{pairs, span, G1-4, good}
 use Rattle.meaning.specs.Coarsen.{taken, without, coarsened, goodNodes, pass, restored}
 use Rattle.meaning.specs.Setting.{corrected, setFault}
 use Rattle.meaning.specs.Tables.{nodeAt, rowAt, meshOf}
-use Rattle.meaning.specs.Calls.{checkNo, refineNo, coarsenNo, checks, refines, coarsens, restores, sets, culpritOf, sizesFit, checkOut, refineOut, coarsenOut, restoreOut, setOut}
+use Rattle.meaning.specs.Calls.{checkNo, refineNo, coarsenNo, checks, refines, coarsens, restores, sets, culpritOf, sizesFit, checkOut, refineOut, refineByOut, coarsenOut, restoreOut, setOut}
 use Rattle.tables.specs.Put.{setNode, setRow}
 use Rattle.text.specs.Digits.{bytes, isDigit, worth, number, listed, signed, unsigned, hexDigit, hex}
 use Rattle.text.specs.Lines.{correctionIn, nodeIn, rowIn, answerLine, nodeLine, rowLine, allLines}
@@ -134,12 +134,14 @@ rows =
     done (square ++ words "\n04" ∷ digits 100 ∷ digits 152 ∷ words "\n" ∷ []) "03000004000200000000\n04000005000400000000\n" ∷
     done (square ++ words "\n04" ∷ digits 100 ∷ digits 153 ∷ words "\n" ∷ []) "03000004000200000000\nff\n" ∷
     done (square ++ words "\n0400" ∷ words "00\n06\n" ∷ []) "03000004000200000000\n04000005000400000000\n06000004000200010000\n" ∷
+    -- W8: a kind cut in two, and an answer that is two digits longer
+    done (square ++ words "\n0" ∷ words "a0000\n0a" ∷ words "\n06\n" ∷ []) "03000004000200000000\n0a00000700060000000001\n0a00000700060000000000\n06000007000600000000\n" ∷
     -- W5: a setting that came in pieces; of a node that is not there
     done (square ++ words "\n040000\n0800047f" ∷ words "ff8000\n08000" ∷ words "500010002\n" ∷ []) "03000004000200000000\n04000005000400000000\n08000005000400000000\n080f0005000400000000\n" ∷
     []
 
 cuts-told : map (λ r. told (r .turns)) rows ≡ map (λ r. r .seen) rows
-unfolding rows told words digits square waits done ended hadOf beginOut takeOut untimely further byteRead lineRead longer wiped fits whole lineLent writes lowest lowestFrom items itemsFrom twiceArea refusal compatible noneLeft partedBy apart firstCrowded firstOverlap uncrowded disjoint faultOf firstOutside firstMisnamed firstRepeat firstFlat firstUnused firstClash closure splitEdges splitAt split refined pairs span G1-4 good taken without coarsened goodNodes pass restored nodeAt rowAt meshOf checkNo refineNo coarsenNo checks refines coarsens restores corrected setFault sets culpritOf sizesFit checkOut refineOut coarsenOut restoreOut setOut setNode setRow isDigit worth number listed signed unsigned hexDigit hex correctionIn nodeIn rowIn answerLine nodeLine rowLine allLines refinesIn wellFormed listsBelow admits takes addNode addRow marksOf called sessionAfter frame lineStep endOut
+unfolding rows told words digits square waits done ended hadOf beginOut takeOut untimely further byteRead lineRead longer wiped fits whole lineLent writes lowest lowestFrom items itemsFrom twiceArea refusal compatible noneLeft partedBy apart firstCrowded firstOverlap uncrowded disjoint faultOf firstOutside firstMisnamed firstRepeat firstFlat firstUnused firstClash closure splitEdges splitAt split refined pairs span G1-4 good taken without coarsened goodNodes pass restored nodeAt rowAt meshOf checkNo refineNo coarsenNo checks refines coarsens restores corrected setFault sets culpritOf sizesFit checkOut refineOut refineByOut coarsenOut restoreOut setOut setNode setRow isDigit worth number listed signed unsigned hexDigit hex correctionIn nodeIn rowIn answerLine nodeLine rowLine allLines refinesIn wellFormed listsBelow admits takes addNode addRow marksOf called sessionAfter frame lineStep endOut
 cuts-told = refl
 
 -- ---- single calls: the number, how many bytes were taken and how many written, how many wait

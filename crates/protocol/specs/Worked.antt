@@ -16,7 +16,7 @@ use Rattle.meaning.specs.Good.{pairs, span, G1-4, good}
 use Rattle.meaning.specs.Coarsen.{taken, without, coarsened, goodNodes, pass, restored}
 use Rattle.meaning.specs.Setting.{corrected, setFault}
 use Rattle.meaning.specs.Tables.{nodeAt, rowAt, meshOf}
-use Rattle.meaning.specs.Calls.{checkNo, refineNo, coarsenNo, checks, refines, coarsens, restores, sets, culpritOf, sizesFit, checkOut, refineOut, coarsenOut, restoreOut, setOut}
+use Rattle.meaning.specs.Calls.{checkNo, refineNo, coarsenNo, checks, refines, coarsens, restores, sets, culpritOf, sizesFit, checkOut, refineOut, refineByOut, coarsenOut, restoreOut, setOut}
 use Rattle.tables.specs.Put.{setNode, setRow}
 use Rattle.text.specs.Digits.{bytes, isDigit, worth, number, listed, signed, unsigned, hexDigit, hex}
 use Rattle.text.specs.Lines.{correctionIn, nodeIn, rowIn, answerLine, nodeLine, rowLine, allLines}
@@ -65,8 +65,8 @@ talks =
     "01000000000000000000000000\n01000000080000000000000000\n01000000080000000800000000\n01000000000000000800000000\n02000100020000\n02000300000002\n03\n040000\n06\n"
     "03000004000200000000\n04000005000400000000\n06000004000200010000\n" ∷
     talk "" "" ∷
-    -- no kind byte, half of one, an unknown one (of a later request too)
-    talk "\n0\n00\n0a\n10\nff\n" "ff\nff\nff\nff\nff\nff\n" ∷
+    -- no kind byte, half of one, an unknown one
+    talk "\n0\n00\n0b\n10\nff\n" "ff\nff\nff\nff\nff\nff\n" ∷
     -- a blank, a carriage return, upper case, the bytes beside the digits, the prefix 0x, bytes above 0x7f
     talk " 03\n03 \n03\r\n0A\n010000000A0000000000000000\n0/\n0:\n0`\n0g\n0x03\n" "ff\nff\nff\nff\nff\nff\nff\nff\nff\nff\n" ∷
     said (0x30 ∷ 0xb3 ∷ 0x0a ∷ 0xff ∷ 0x0a ∷ 0x30 ∷ 0x33 ∷ 0x80 ∷ 0x0a ∷ 0 ∷ 0x0a ∷ []) (bytes "ff\nff\nff\nff\n") ∷
@@ -83,10 +83,10 @@ talks =
     talk "0300\n030\n" "ff\nff\n" ∷
     -- 03 accepts the empty mesh, once; 01 and 02 after it
     talk "03\n03\n01000000000000000000000000\n02000000010002\n07\n" "03000000000000000000\nff\nff\nff\n" ∷
-    -- 04 to 06, 08 and 09 before an accepted 03
-    talk "04\n05\n06\n09\n040000\n08000000010002\n090000\n" "ff\nff\nff\nff\nff\nff\nff\n" ∷
-    -- a refused 03 (x = 1,048,577 is 3; R is 10) drops all rows; another base may follow; 04 and 09 are still too early
-    talk "01001000010000000000000000\n03\n07\n04\n09\n03\n" "03030000000000000000\nff\nff\n03000000000000000000\n" ∷
+    -- 04 to 06, 08 to 0a before an accepted 03
+    talk "04\n05\n06\n09\n0a\n040000\n08000000010002\n090000\n0a0000\n" "ff\nff\nff\nff\nff\nff\nff\nff\nff\n" ∷
+    -- a refused 03 (x = 1,048,577 is 3; R is 10) drops all rows; another base may follow; 04, 09 and 0a are still too early
+    talk "01001000010000000000000000\n03\n07\n04\n09\n0a\n03\n" "03030000000000000000\nff\nff\nff\n03000000000000000000\n" ∷
     talk
     "01000000000000000000000000\n01000000100000000000000000\n01000000000000001000000000\n01000000040000000400000000\n02000000010003\n02000100020003\n02000200000003\n03\n07\n"
     "030a0000000000000000\n" ∷
@@ -124,6 +124,21 @@ talks =
     on "040000\n090000\n07\n040002\n06\n" "04000005000400000000\n0900000a000b00000000\n01000000000000000000000000\n01000000080000000000000000\n01000000080000000800000000\n01000000000000000800000000\n01000000040000000400000000\n01000000080000000400000000\n01000000060000000200000000\n01000000060000000600000000\n01000000040000000000000000\n01000000040000000800000000\n02000600050004\n02000400030000\n02000800040000\n02000700090004\n02000700050002\n02000600010005\n02000700040005\n02000600080001\n02000600040008\n02000900030004\n02000700020009\n0400000c000e00000000\n06000004000200030000\n" ∷
     -- an odd sum on a side is 8 for 09 and nothing to 04
     talk "01000000010000000100000000\n01000000000000000000000000\n01000000020000000000000000\n02000000010002\n03\n090000\n040000\n06\n" "03000003000100000000\n09080003000100000000\n04000004000200000000\n06000003000100010000\n" ∷
+    -- 0a, W8: row 0 cut red, with the row across its refinement edge bisected: the field is 01; of this 06 takes nothing back, and answers 0
+    on "0a0000\n07\n06\n07\n" "0a00000700060000000001\n01000000000000000000000000\n01000000080000000000000000\n01000000080000000800000000\n01000000000000000800000000\n01000000040000000400000000\n01000000080000000400000000\n01000000040000000000000000\n02000100050006\n02000400030000\n02000500020004\n02000600040000\n02000400060005\n02000400020003\n06000007000600000000\n01000000000000000000000000\n01000000080000000000000000\n01000000080000000800000000\n01000000000000000800000000\n01000000040000000400000000\n01000000080000000400000000\n01000000040000000000000000\n02000100050006\n02000400030000\n02000500020004\n02000600040000\n02000400060005\n02000400020003\n" ∷
+    -- none listed: no red cut, field 00; one twice, all; t itself, a number and a half
+    on "0a\n07\n" "0a00000400020000000000\n01000000000000000000000000\n01000000080000000000000000\n01000000080000000800000000\n01000000000000000800000000\n02000100020000\n02000300000002\n" ∷
+    on "0a00000000\n" "0a00000700060000000001\n" ∷
+    on "0a00010000\n07\n" "0a00000900080000000001\n01000000000000000000000000\n01000000080000000000000000\n01000000080000000800000000\n01000000000000000800000000\n01000000040000000400000000\n01000000080000000400000000\n01000000040000000000000000\n01000000000000000400000000\n01000000040000000800000000\n02000100050006\n02000300070008\n02000500020004\n02000600040000\n02000400060005\n02000700000004\n02000800040002\n02000400080007\n" ∷
+    on "0a0002\n0a00000002\n0a000\n0a00000\n0affff\n" "ff\nff\nff\nff\nff\n" ∷
+    -- one triangle, whose four children are shaped like it; then the last of them, from which the closure goes on to the others
+    talk "01000000000000000000000000\n01000000080000000000000000\n01000000000000000800000000\n02000000010002\n03\n0a0000\n07\n0a0003\n07\n06\n" "03000003000100000000\n0a00000600040000000001\n01000000000000000000000000\n01000000080000000000000000\n01000000000000000800000000\n01000000040000000400000000\n01000000040000000000000000\n01000000000000000400000000\n02000000040005\n02000400010003\n02000500030002\n02000300050004\n0a00000b000c0000000001\n01000000000000000000000000\n01000000080000000000000000\n01000000000000000800000000\n01000000040000000400000000\n01000000040000000000000000\n01000000000000000400000000\n01000000020000000200000000\n01000000060000000200000000\n01000000040000000200000000\n01000000020000000600000000\n01000000020000000400000000\n02000600000004\n02000700040001\n02000a00090005\n020003000a0008\n02000600050000\n02000800070003\n02000800040007\n02000900020005\n02000a00030009\n02000a00050006\n02000800060004\n0200060008000a\n0600000b000c00000000\n" ∷
+    -- 04, 09 and 0a mixed: no field but 0a's; 06 takes back what was bisected after, and no red cut
+    on "040000\n0a0000\n07\n090002\n0a\n06\n" "04000005000400000000\n0a00000a000b0000000001\n01000000000000000000000000\n01000000080000000000000000\n01000000080000000800000000\n01000000000000000800000000\n01000000040000000400000000\n01000000080000000400000000\n01000000060000000200000000\n01000000060000000600000000\n01000000040000000000000000\n01000000040000000800000000\n02000400060007\n02000400030000\n02000800040000\n02000700090004\n02000600010005\n02000700050002\n02000500070006\n02000600080001\n02000600040008\n02000900030004\n02000700020009\n0900000e001100000000\n0a00000e00110000000000\n0600000a000b00030000\n" ∷
+    -- an odd sum on a side is 8 for 0a: nothing was cut, and the field is 00
+    talk "01000000010000000100000000\n01000000000000000000000000\n01000000020000000000000000\n02000000010002\n03\n0a0000\n07\n" "03000003000100000000\n0a08000300010000000000\n01000000010000000100000000\n01000000000000000000000000\n01000000020000000000000000\n02000000010002\n" ∷
+    -- W5's means, as of every new node
+    onStretched "0a0000\n07\n" "0a00000700060000000001\n010000000000000000fffd0000\n01000000080000000000070008\n0100000008000000080000ffff\n01000000000000000880007fff\n010000000400000004fffeffff\n01000000080000000400030003\n01000000040000000000020004\n02000100050006\n02000400030000\n02000500020004\n02000600040000\n02000400060005\n02000400020003\n" ∷
     -- 05: base nodes do not go; node 4 does, listed twice; n itself
     on "050000\n040000\n050000000100020003\n05\n05000400040000\n050003\n050004\n" "05000004000200000000\n04000005000400000000\n05000005000400000000\n05000005000400000000\n05000004000200000000\n05000004000200000000\nff\n" ∷
     on "050004\n05ffff\n" "ff\nff\n" ∷
@@ -152,7 +167,7 @@ talks =
     []
 
 talks-heard : map (λ t. program (t .says)) talks ≡ map (λ t. t .hears) talks
-unfolding talks said talk corners over square on stretched onStretched lowest lowestFrom items itemsFrom twiceArea refusal compatible noneLeft partedBy apart firstCrowded firstOverlap uncrowded disjoint faultOf firstOutside firstMisnamed firstRepeat firstFlat firstUnused firstClash closure splitEdges splitAt split refined pairs span G1-4 good taken without coarsened goodNodes pass restored nodeAt rowAt meshOf checkNo refineNo coarsenNo checks refines coarsens restores corrected setFault sets culpritOf sizesFit checkOut refineOut coarsenOut restoreOut setOut setNode setRow isDigit worth number listed signed unsigned hexDigit hex correctionIn nodeIn rowIn answerLine nodeLine rowLine allLines refinesIn wellFormed listsBelow admits takes addNode addRow marksOf called sessionAfter frame lineStep program
+unfolding talks said talk corners over square on stretched onStretched lowest lowestFrom items itemsFrom twiceArea refusal compatible noneLeft partedBy apart firstCrowded firstOverlap uncrowded disjoint faultOf firstOutside firstMisnamed firstRepeat firstFlat firstUnused firstClash closure splitEdges splitAt split refined pairs span G1-4 good taken without coarsened goodNodes pass restored nodeAt rowAt meshOf checkNo refineNo coarsenNo checks refines coarsens restores corrected setFault sets culpritOf sizesFit checkOut refineOut refineByOut coarsenOut restoreOut setOut setNode setRow isDigit worth number listed signed unsigned hexDigit hex correctionIn nodeIn rowIn answerLine nodeLine rowLine allLines refinesIn wellFormed listsBelow admits takes addNode addRow marksOf called sessionAfter frame lineStep program
 talks-heard = refl
 
 -- ---- single lines, on tables of any size
@@ -193,6 +208,7 @@ rows =
     -- growth past the rooms is 9
     only tight "040000" "04090004000200000000\n" ∷
     only tight "090000" "09090004000200000000\n" ∷
+    only tight "0a0000" "0a09000400020000000000\n" ∷
     -- W5: after 08 just that node's correction differs; a base node, a number not below n, and a correction out of range that is stored: of
     -- node 1, which is named though the node given is 3
     record {
@@ -216,7 +232,7 @@ rows =
     []
 
 lines-stepped : map (λ r. r .got) rows ≡ map (λ r. r .expected) rows
-unfolding rows only full tight lowest lowestFrom items itemsFrom twiceArea refusal compatible noneLeft partedBy apart firstCrowded firstOverlap uncrowded disjoint faultOf firstOutside firstMisnamed firstRepeat firstFlat firstUnused firstClash closure splitEdges splitAt split refined pairs span G1-4 good taken without coarsened goodNodes pass restored nodeAt rowAt meshOf checkNo refineNo coarsenNo checks refines coarsens restores corrected setFault sets culpritOf sizesFit checkOut refineOut coarsenOut restoreOut setOut setNode setRow isDigit worth number listed signed unsigned hexDigit hex correctionIn nodeIn rowIn answerLine nodeLine rowLine allLines refinesIn wellFormed listsBelow admits takes addNode addRow marksOf called sessionAfter frame lineStep
+unfolding rows only full tight lowest lowestFrom items itemsFrom twiceArea refusal compatible noneLeft partedBy apart firstCrowded firstOverlap uncrowded disjoint faultOf firstOutside firstMisnamed firstRepeat firstFlat firstUnused firstClash closure splitEdges splitAt split refined pairs span G1-4 good taken without coarsened goodNodes pass restored nodeAt rowAt meshOf checkNo refineNo coarsenNo checks refines coarsens restores corrected setFault sets culpritOf sizesFit checkOut refineOut refineByOut coarsenOut restoreOut setOut setNode setRow isDigit worth number listed signed unsigned hexDigit hex correctionIn nodeIn rowIn answerLine nodeLine rowLine allLines refinesIn wellFormed listsBelow admits takes addNode addRow marksOf called sessionAfter frame lineStep
 lines-stepped = refl
 
 -- ---- W4: texts that may go on
@@ -255,5 +271,5 @@ texts =
     []
 
 texts-stand : map (λ t. standing (t .came)) texts ≡ map (λ t. t .leaves) texts
-unfolding texts after standing corners square lowest lowestFrom items itemsFrom twiceArea refusal compatible noneLeft partedBy apart firstCrowded firstOverlap uncrowded disjoint faultOf firstOutside firstMisnamed firstRepeat firstFlat firstUnused firstClash closure splitEdges splitAt split refined nodeAt rowAt meshOf checkNo refineNo checks refines culpritOf sizesFit checkOut refineOut setNode setRow isDigit worth number listed signed unsigned hexDigit hex correctionIn nodeIn rowIn answerLine refinesIn wellFormed listsBelow admits takes addNode addRow marksOf called sessionAfter frame lineStep
+unfolding texts after standing corners square lowest lowestFrom items itemsFrom twiceArea refusal compatible noneLeft partedBy apart firstCrowded firstOverlap uncrowded disjoint faultOf firstOutside firstMisnamed firstRepeat firstFlat firstUnused firstClash closure splitEdges splitAt split refined nodeAt rowAt meshOf checkNo refineNo checks refines culpritOf sizesFit checkOut refineOut refineByOut setNode setRow isDigit worth number listed signed unsigned hexDigit hex correctionIn nodeIn rowIn answerLine refinesIn wellFormed listsBelow admits takes addNode addRow marksOf called sessionAfter frame lineStep
 texts-stand = refl

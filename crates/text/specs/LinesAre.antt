@@ -1,12 +1,12 @@
 -- Where each field of a written line stands, and how long the lines are. Assumes nothing.
-use mathlib.Core.Path.{_≡_, refl, sym, _∙_}
+use mathlib.Core.Path.{_≡_, refl, sym, ap, _∙_}
 use mathlib.Core.Bool.{Bool, true, false}
 use mathlib.Core.List.{List, [], _∷_, _++_, map}
 use Prim.Native.Nat.{ℕ, suc, _+_, _-_, _*_, _/_, _%_, _≤_, _<_}
 use native.Mathlib.Nat.{mul-suc}
 use native.Mathlib.Omega.{arith}
-use borrow.Author.Tests.{leb-true, leb-false, ltb-true, ltb-false, lt-ltb, le-ltb}
-use lib.Dec.{leb, ltb, leb→le, le→leb}
+use borrow.Author.Tests.{leb-true, leb-false, ltb-true, ltb-false, lt-ltb, le-ltb, ne-eqb}
+use lib.Dec.{eqb, leb, ltb, leb→le, le→leb}
 use Prim.Native.String.{String}
 use lib.IntN.{ℤ, pos, negsuc, natAbs}
 use lib.Signed.{_≤ℤ_}
@@ -17,26 +17,54 @@ use Rattle.lists.specs.IterLaw.{length-items}
 use Rattle.meaning.specs.declared.Answer.{Answer}
 use Rattle.meaning.specs.declared.Correction.{Correction}
 use Rattle.meaning.specs.declared.Node.{Node}
+use Rattle.meaning.specs.declared.Tinted.{Tinted}
 use Rattle.meaning.specs.declared.Tri.{Tri}
 use Rattle.meaning.specs.Mesh.{place, correction, node, tri}
 use Rattle.meaning.specs.Lawful.{InBounds, NodeInRange}
 use Rattle.meaning.specs.Tables.{answer, nodeAt, rowAt}
 use Rattle.text.specs.DigitsLaw.{worth-low, worth-digit, worth-between, worth-letter, worth-high}
 use Rattle.text.specs.Digits.{bytes, field, hex, hexDigit, signed, unsigned, number, worth}
-use Rattle.text.specs.Lines.{correctionIn, nodeIn, rowIn, answerLine, nodeLine, rowLine, allLines}
+use Rattle.text.specs.Lines.{correctionIn, nodeIn, rowIn, ended, redField, answerLine, nodeLine, rowLine, allLines}
 
--- "kind, number (2 digits each), n, t, passes (4 each)", W2's "four digits at their end", and the end byte: 21 in all
-module _ (kind : ℕ) (a : Answer) where
-  pub answer-fields : (take 2 (answerLine kind a) ≡ hex 2 kind) × (take 2 (drop 2 (answerLine kind a)) ≡ hex 2 (a .number)) ×
-      (take 4 (drop 4 (answerLine kind a)) ≡ hex 4 (a .n)) × (take 4 (drop 8 (answerLine kind a)) ≡ hex 4 (a .t)) ×
-      (take 4 (drop 12 (answerLine kind a)) ≡ hex 4 (a .passes)) × (take 4 (drop 16 (answerLine kind a)) ≡ hex 4 (a .culprit)) ×
-      (drop 20 (answerLine kind a) ≡ 0x0a ∷ [])
+-- "kind, number (2 digits each), n, t, passes (4 each)" and W2's "four digits": the first 20 bytes
+module _ (kind : ℕ) (a : Tinted) where
+  pub answer-fields : (take 2 (answerLine kind a) ≡ hex 2 kind) × (take 2 (drop 2 (answerLine kind a)) ≡ hex 2 (a .answer .number)) ×
+      (take 4 (drop 4 (answerLine kind a)) ≡ hex 4 (a .answer .n)) × (take 4 (drop 8 (answerLine kind a)) ≡ hex 4 (a .answer .t)) ×
+      (take 4 (drop 12 (answerLine kind a)) ≡ hex 4 (a .answer .passes)) × (take 4 (drop 16 (answerLine kind a)) ≡ hex 4 (a .answer .culprit)) ×
+      (drop 20 (answerLine kind a) ≡ ended (redField kind (a .red)))
   unfolding answerLine hex
   answer-fields = (refl, refl, refl, refl, refl, refl, refl)
 
-  pub answer-length : length (answerLine kind a) ≡ 21
+  -- W8: "its answer alone ends with that field": of any other kind the line is what it was, of 21 bytes
+  module _ (other : kind ≡ 0x0a → ⊥) where
+    pub others-as-before : answerLine kind a ≡
+        ended
+        (hex 2 kind ++ hex 2 (a .answer .number) ++ hex 4 (a .answer .n) ++ hex 4 (a .answer .t) ++ hex 4 (a .answer .passes) ++ hex 4 (a .answer .culprit))
+    unfolding answerLine hex
+    others-as-before = rw (ne-eqb kind 0x0a other)
+
+    pub answer-length : length (answerLine kind a) ≡ 21
+    unfolding answerLine hex
+    answer-length = ap length others-as-before
+
+  -- at most W8's "two digits" more
+  pub answer-longest : length (answerLine kind a) ≤ 23
   unfolding answerLine hex
-  answer-length = refl
+  answer-longest = go (eqb kind 0x0a)
+    where
+      go : (b : Bool) → length (ended (hex 2 kind ++ hex 2 (a .answer .number) ++ hex 4 (a .answer .n) ++ hex 4 (a .answer .t) ++ hex 4 (a .answer .passes) ++ hex 4 (a .answer .culprit) ++ cases b (hex 2 (a .red)) [])) ≤ 23
+      go true = omega arith
+      go false = omega arith
+
+-- ".. two digits": the line of `0a` has 23
+module _ (a : Tinted) where
+  pub red-field : drop 20 (answerLine 0x0a a) ≡ ended (hex 2 (a .red))
+  unfolding answerLine hex
+  red-field = refl
+
+  pub red-length : length (answerLine 0x0a a) ≡ 23
+  unfolding answerLine hex
+  red-length = refl
 
 -- what is written is read back: a digit
 worth-hex : (v : ℕ) → worth (hexDigit (v % 16)) ≡ v % 16
@@ -47,7 +75,14 @@ worth-hex v = go (ltb (v % 16) 10) refl
     go true e = let l = ltb-true (v % 16) 10 e in sym (worth-digit (48 + v % 16) (omega arith) (omega arith)) ∙ omega arith
     go false e = let l = ltb-false (v % 16) 10 e in sym (worth-letter (87 + v % 16) (omega arith) (omega arith)) ∙ omega arith
 
--- four of them
+-- two of them
+two-digits : (v : ℕ) → 16 * (16 * 0 + worth (hexDigit (v / 16 % 16))) + worth (hexDigit (v / 1 % 16)) ≡ v % 256
+two-digits v =
+    let e : v / 1 % 16 + 16 * (v / 16) ≡ v = omega arith in
+    let f : v / 16 % 16 + 16 * (v / 256) ≡ v / 16 = omega arith in
+    rw (worth-hex (v / 16), worth-hex (v / 1)) (omega (arith, e, f))
+
+-- four
 four-digits : (v : ℕ) → 16 * (16 * (16 * (16 * 0 + worth (hexDigit (v / 4096 % 16))) + worth (hexDigit (v / 256 % 16))) + worth (hexDigit (v / 16 % 16))) + worth (hexDigit (v / 1 % 16)) ≡ v % 65536
 four-digits v =
     let e : v / 1 % 16 + 16 * (v / 16) ≡ v = omega arith in
@@ -68,9 +103,14 @@ eight-digits v =
     omega (arith, rw (e, f, g, k) at high, low)
 
 -- the culprit of an answer, if it fits its field
-pub culprit-read : (kind : ℕ) (a : Answer) → a .culprit < 65536 → number 4 (answerLine kind a) 16 ≡ a .culprit
+pub culprit-read : (kind : ℕ) (a : Tinted) → a .answer .culprit < 65536 → number 4 (answerLine kind a) 16 ≡ a .answer .culprit
 unfolding answerLine hex number
-culprit-read kind a h = four-digits (a .culprit) ∙ omega arith
+culprit-read kind a h = four-digits (a .answer .culprit) ∙ omega arith
+
+-- and W8's field, which is 0 or 1
+pub red-read : (a : Tinted) → a .red < 256 → number 2 (answerLine 0x0a a) 20 ≡ a .red
+unfolding answerLine hex number
+red-read a h = two-digits (a .red) ∙ omega arith
 
 pub node-length : (a : Node) → length (nodeLine a) ≡ 27
 unfolding nodeLine hex
@@ -199,18 +239,25 @@ record Pair : Type 0 where
 pair : List ℕ → String → Pair
 pair l s = record { line = l; expected = s }
 
+said : Answer → ℕ → Tinted
+said a r = record { answer = a; red = r }
+
 lines : List Pair
 lines =
-    pair (answerLine 4 (answer 9 511 1023 0 0)) "040901ff03ff00000000\n" ∷
-    pair (answerLine 6 (answer 0 4 2 3 0)) "06000004000200030000\n" ∷
-    pair (answerLine 3 (answer 5 0 0 0 1022)) "030500000000000003fe\n" ∷
+    pair (answerLine 4 (said (answer 9 511 1023 0 0) 0)) "040901ff03ff00000000\n" ∷
+    pair (answerLine 6 (said (answer 0 4 2 3 0) 0)) "06000004000200030000\n" ∷
+    pair (answerLine 3 (said (answer 5 0 0 0 1022) 0)) "030500000000000003fe\n" ∷
+    -- W8's field: of `0a`, and of no other kind
+    pair (answerLine 0x0a (said (answer 0 6 4 0 0) 1)) "0a00000600040000000001\n" ∷
+    pair (answerLine 0x0a (said (answer 8 3 1 0 0) 0)) "0a08000300010000000000\n" ∷
+    pair (answerLine 9 (said (answer 0 6 4 0 0) 1)) "09000006000400000000\n" ∷
     pair (nodeLine (node (place (pos 8) (negsuc 2)) (correction (negsuc 0) (pos 258)))) "0100000008fffffffdffff0102\n" ∷
     pair (nodeLine (node (place (pos 0) (pos 0)) (correction (pos 32767) (negsuc 32767)))) "0100000000000000007fff8000\n" ∷
     pair (rowLine (tri 1 255 2748)) "02000100ff0abc\n" ∷
     []
 
 lines-written : map (λ p. p .line) lines ≡ map (λ p. bytes (p .expected)) lines
-unfolding lines pair answerLine nodeLine rowLine hex hexDigit unsigned
+unfolding lines pair said answerLine nodeLine rowLine hex hexDigit unsigned
 lines-written = refl
 
 -- and what was written is read back

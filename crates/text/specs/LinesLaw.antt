@@ -2,18 +2,19 @@
 use mathlib.Core.Path.{_≡_, refl, sym, ap, _∙_}
 use mathlib.Core.List.{List, [], _∷_, _++_}
 use Prim.Native.Nat.{ℕ}
+use borrow.Author.Tests.{eq-eqb, ne-eqb}
 use lib.IntN.{ℤ}
 use mir.Syntax.{w32}
 use mir.Val.{SFits, toZ, ofZ}
 use mir.Facts.{toZ-ofZ}
 use Rattle.lists.specs.Lists.{joined}
 use Rattle.lists.specs.Search.{items}
-use Rattle.meaning.specs.declared.Answer.{Answer}
 use Rattle.meaning.specs.declared.Node.{Node}
+use Rattle.meaning.specs.declared.Tinted.{Tinted}
 use Rattle.meaning.specs.declared.Tri.{Tri}
 use Rattle.meaning.specs.Tables.{nodeAt, rowAt}
 use Rattle.text.specs.Digits.{unsigned, hex}
-use Rattle.text.specs.Lines.{answerLine, nodeLine, rowLine, allLines}
+use Rattle.text.specs.Lines.{redField, answerLine, nodeLine, rowLine, allLines}
 use Rattle.text.specs.Writing.{Wrote, wrote, writes, writes-append, then}
 
 -- two numbers with signs, of as many digits each: a place, a correction
@@ -46,17 +47,28 @@ module _ (w w1 w2 w3 w4 : Wrote) where
         let r = hex 4 (t .r) in
         rw (writes-append w (hex 2 2 ++ p ++ q ++ r) (10 ∷ []), writes-append w (hex 2 2 ++ p ++ q) r, writes-append w (hex 2 2 ++ p) q, writes-append w (hex 2 2) p, ← e1, ← e2, ← e3, ← e4) e5
 
-    pub answer-put : (kind : ℕ) (a : Answer) (w6 : Wrote) → w1 ≡ writes w (hex 2 kind) → w2 ≡ writes w1 (hex 2 (a .number)) → w3 ≡ writes w2 (hex 4 (a .n)) →
-        w4 ≡ writes w3 (hex 4 (a .t)) → w5 ≡ writes w4 (hex 4 (a .passes) ++ hex 4 (a .culprit)) → w6 ≡ writes w5 (10 ∷ []) → w6 ≡ writes w (answerLine kind a)
+    pub answer-put : (kind : ℕ) (a : Tinted) (w6 : Wrote) → w1 ≡ writes w (hex 2 kind) → w2 ≡ writes w1 (hex 2 (a .answer .number)) → w3 ≡ writes w2 (hex 4 (a .answer .n)) →
+        w4 ≡ writes w3 (hex 4 (a .answer .t)) → w5 ≡ writes w4 (hex 4 (a .answer .passes) ++ hex 4 (a .answer .culprit) ++ redField kind (a .red)) → w6 ≡ writes w5 (10 ∷ []) →
+        w6 ≡ writes w (answerLine kind a)
     unfolding answerLine
     answer-put kind a w6 e1 e2 e3 e4 e5 e6 =
         let k = hex 2 kind in
-        let j = hex 2 (a .number) in
-        let n = hex 4 (a .n) in
-        let t = hex 4 (a .t) in
-        let p = hex 4 (a .passes) in
-        let c = hex 4 (a .culprit) in
-        rw (writes-append w (k ++ j ++ n ++ t ++ p ++ c) (10 ∷ []), writes-append w (k ++ j ++ n ++ t ++ p) c, writes-append w (k ++ j ++ n ++ t) p, writes-append w (k ++ j ++ n) t, writes-append w (k ++ j) n, writes-append w k j, ← e1, ← e2, ← e3, ← e4, ← writes-append w4 p c, ← e5) e6
+        let j = hex 2 (a .answer .number) in
+        let n = hex 4 (a .answer .n) in
+        let t = hex 4 (a .answer .t) in
+        let p = hex 4 (a .answer .passes) in
+        let c = hex 4 (a .answer .culprit) in
+        let f = redField kind (a .red) in
+        rw (writes-append w (k ++ j ++ n ++ t ++ p ++ c ++ f) (10 ∷ []), writes-append w (k ++ j ++ n ++ t ++ p ++ c) f, writes-append w (k ++ j ++ n ++ t ++ p) c, writes-append w (k ++ j ++ n ++ t) p, writes-append w (k ++ j ++ n) t, writes-append w (k ++ j) n, writes-append w k j, ← e1, ← e2, ← e3, ← e4, ← writes-append w4 p c, ← writes-append w4 (p ++ c) f, ← e5) e6
+
+-- W8's field: two digits of `0a`, nothing of another kind
+module _ (kind r : ℕ) where
+  pub red-put : (w x : Wrote) → kind ≡ 10 → x ≡ writes w (hex 2 r) → x ≡ writes w (redField kind r)
+  red-put w x k e = rw (eq-eqb kind 10 k) e
+
+  pub red-left-out : (w x : Wrote) → (kind ≡ 10 → ⊥) → x ≡ w → x ≡ writes w (redField kind r)
+  unfolding writes
+  red-left-out w x k e = rw (ne-eqb kind 10 k) e
 
 pub all-put : (w x y : Wrote) (ns : List ℤ) (rs : List ℕ) (n t : ℕ) → x ≡ writes w (joined nodeLine (items (nodeAt ns) 0 n)) →
     y ≡ writes x (joined rowLine (items (rowAt rs) 0 t)) → y ≡ writes w (allLines ns rs n t)

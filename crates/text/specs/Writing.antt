@@ -56,6 +56,10 @@ writes-front out s h =
 pub then : (w x y : Wrote) (s t : List ℕ) → x ≡ writes w s → y ≡ writes x t → y ≡ writes w (s ++ t)
 then w x y s t a b = b ∙ rw (a, writes-append)
 
+-- and a third
+pub then-last : (w x y z : Wrote) (s t u : List ℕ) → x ≡ writes w s → y ≡ writes x t → z ≡ writes y u → z ≡ writes w (s ++ t ++ u)
+then-last w x y z s t u a b c = then w y z (s ++ t) u (then w x y s t a b) c
+
 pub put-one : (k b : ℕ) (out : List ℕ) → wrote (k + 1) (set out k b) ≡ writes (wrote k out) (b ∷ [])
 unfolding writes
 put-one k b out = refl

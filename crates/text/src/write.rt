@@ -7,12 +7,12 @@ ghost use Rattle.lists.specs.Lists.{joined};
 ghost use Rattle.lists.specs.Search.{items};
 ghost use Rattle.meaning.specs.Tables.{nodeAt, rowAt};
 ghost use Rattle.text.specs.Digits as d;
-ghost use Rattle.text.specs.Lines.{ffLine, answerLine, nodeLine, rowLine, allLines};
+ghost use Rattle.text.specs.Lines.{ffLine, redField, answerLine, nodeLine, rowLine, allLines};
 ghost use Rattle.text.specs.Writing.{wrote, writes};
-use meaning::Answer;
 use meaning::Correction;
 use meaning::Node;
 use meaning::Place;
+use meaning::Tinted;
 use meaning::Tri;
 
 // ---- digits
@@ -99,26 +99,41 @@ pub fn put_ff(out: &mut [u8]) -> usize
     put_text(out, 0, b"ff\n")
 }
 
-// The last two fields of an answer: the passes and the culprit.
-fn put_last_two(out: &mut [u8], at: usize, a: Answer) -> usize
-    requires { ⌜ at + 8 ≤ length (now out) ⌝ }
-    ensures next { λ r. ⌜ r ≡ at + 8 ⌝ }
-    ensures text { λ r. ⌜ wrote r (now (out .exit)) ≡ writes (wrote at (now (out .entry))) (d.hex 4 (a .passes) ++ d.hex 4 (a .culprit)) ⌝ }
+// W8's field, two digits, which the answer of `0a` alone has.
+fn put_red(out: &mut [u8], at: usize, kind: u32, red: u32) -> usize
+    requires { ⌜ at + 2 ≤ length (now out) ⌝ }
+    ensures next { λ r. ⌜ r ≤ at + 2 ⌝ }
+    ensures text { λ r. ⌜ wrote r (now (out .exit)) ≡ writes (wrote at (now (out .entry))) (redField kind red) ⌝ }
 {
-    let k = hex4(out, at, a.passes);
-    hex4(out, k, a.culprit)
+    if kind == 10 {
+        return hex2(out, at, red as usize);
+    }
+    at
 }
 
-// The answer of frames 03 to 06, 08 and 09.
-pub fn put_answer(out: &mut [u8], kind: u32, a: Answer) -> usize
-    requires { ⌜ 21 ≤ length (now out) ⌝ }
+// The last fields of an answer: the passes, the culprit, and W8's field where there is one.
+fn put_last(out: &mut [u8], at: usize, kind: u32, a: Tinted) -> usize
+    requires { ⌜ at + 10 ≤ length (now out) ⌝ }
+    ensures next { λ r. ⌜ r ≤ at + 10 ⌝ }
+    ensures text { λ r. ⌜ wrote r (now (out .exit)) ≡ writes (wrote at (now (out .entry))) (d.hex 4 (a .answer .passes) ++ d.hex 4 (a .answer .culprit) ++ redField kind (a .red)) ⌝ }
+{
+    let answer = a.answer;
+    let k = hex4(out, at, answer.passes);
+    let k = hex4(out, k, answer.culprit);
+    put_red(out, k, kind, a.red)
+}
+
+// The answer of frames 03 to 06 and 08 to 0a.
+pub fn put_answer(out: &mut [u8], kind: u32, a: Tinted) -> usize
+    requires { ⌜ 23 ≤ length (now out) ⌝ }
     ensures { λ r. ⌜ wrote r (now (out .exit)) ≡ writes (wrote 0 (now (out .entry))) (answerLine kind a) ⌝ }
 {
+    let answer = a.answer;
     let k = hex2(out, 0, kind as usize);
-    let k = hex2(out, k, a.number as usize);
-    let k = hex4(out, k, a.n);
-    let k = hex4(out, k, a.t);
-    let k = put_last_two(out, k, a);
+    let k = hex2(out, k, answer.number as usize);
+    let k = hex4(out, k, answer.n);
+    let k = hex4(out, k, answer.t);
+    let k = put_last(out, k, kind, a);
     put(out, k, b'\n')
 }
 

@@ -1,7 +1,7 @@
 /* A square in two halves, with corrections at its corners: where a fine rule is printed, its first row is cut in four, the correction of an added
  * node is set, and the row is refined once more; then the square is restored, corrections and all. The correction at a point is asked before the
- * job, in it and after it. Settings of a base node and out of range, a question about a point outside, a square with a row too many, and one with
- * a crack, are refused, in words. */
+ * job, in it and after it. Then, for a round stamp, the row is cut red, which a restore does not undo. Settings of a base node and out of range, a
+ * question about a point outside, a square with a row too many, and one with a crack, are refused, in words. */
 #include "spoutbeetle.h"
 
 #include <stdio.h>
@@ -77,22 +77,46 @@ static void print_fine_rule(void) {
     show(7); /* the mean of node 1 and node 4 as set */
 }
 
+/* Prints the counts that a red refinement leaves, and its field. */
+static void refine_red(const char *call, const uint8_t *marks) {
+    uint32_t red;
+    done(call, spoutbeetle_refine_red(nodes, NODES, rows, ROWS, scratch, SCRATCH, marks, t, N0, &n, &t, &red, &culprit));
+    printf("it made %s\n", red == 1 ? "a red cut" : "no red cut");
+}
+
+static size_t restore(void) {
+    size_t passes;
+    done("restore", spoutbeetle_restore(nodes, NODES, rows, ROWS, scratch, SCRATCH, N0, &n, &t, &passes, &culprit));
+    return passes;
+}
+
+/* Another job: after its red cut, restore ends away from the base. */
+static void print_round_stamp(void) {
+    refine_red("refine_red, no row marked", (const uint8_t[TC]){0});
+    refine_red("refine_red", (const uint8_t[TC]){1});
+    printf("%zu passes, and the red cut stays\n", restore());
+}
+
 int main(void) {
     int32_t base_nodes[NODES];
     uint32_t base_rows[ROWS];
-    size_t passes;
     memcpy(base_nodes, nodes, sizeof nodes);
     memcpy(base_rows, rows, sizeof rows);
     done("check", check(t));
     ask(2, 1); /* -14/8 and 40/8 */
     print_fine_rule();
-    done("restore", spoutbeetle_restore(nodes, NODES, rows, ROWS, scratch, SCRATCH, N0, &n, &t, &passes, &culprit));
+    size_t passes = restore();
     must(memcmp(base_nodes, nodes, sizeof nodes) == 0 && memcmp(base_rows, rows, sizeof rows) == 0, "the base is back");
     printf("%zu passes, and the base is back, with its corrections:\n", passes);
     for (size_t k = 0; k < n; k++)
         show(k);
     ask(2, 1); /* as before the job */
+    print_round_stamp();
 
+    memcpy(nodes, base_nodes, sizeof nodes); /* the base, from the copy */
+    memcpy(rows, base_rows, sizeof rows);
+    n = N0;
+    t = 2;
     memcpy(rows + 3 * t, rows, 3 * sizeof *rows);
     refused("check, row 0 once more", check(t + 1));
 

@@ -4,13 +4,14 @@
  *
  * Every call takes any lengths, counts and contents, ends, and returns a number. The caller lends the tables; a table is a pointer and
  * a length in numbers (not bytes). What a call asks of its pointers, and cannot test: each is valid, aligned and not null (also where
- * the length is 0); the tables do not overlap; n, t, dx, dy, passes and culprit, where they are pointers, are valid, aligned, distinct from each
- * other and outside the tables; and nothing else writes any of these during the call, or reads one that is not const. What is const is only read.
+ * the length is 0); the tables do not overlap; n, t, dx, dy, passes, red and culprit, where they are pointers, are valid, aligned, distinct
+ * from each other and outside the tables; and nothing else writes any of these during the call, or reads one that is not const. What is const is
+ * only read.
  *
  *   nodes    four numbers a node: x and y, its place, and dx and dy, the correction that it carries; room NC = nodes_len / 4, at most 1,024
  *   rows     three numbers a triangle, p q r: p is the newest vertex, q-r the refinement edge; room TC = rows_len / 3, at most 2,048
  *   scratch  at least 4 * (NC + TC) numbers; what it holds does not matter; all zero after every call
- *   marks    one byte for each triangle (refine, quarter) or node (coarsen), 0 or 1; never written
+ *   marks    one byte for each triangle (refine, quarter, refine_red) or node (coarsen), 0 or 1; never written
  *   n, t     how many nodes and triangles there are
  *   n0       how many of the nodes belong to the factory mesh
  *   culprit  the last parameter of every call on a mesh, written by each: with 3 to 7 the lowest node or triangle at fault, counted from 0
@@ -66,6 +67,16 @@ uint32_t spoutbeetle_refine(int32_t *nodes, size_t nodes_len, uint32_t *rows, si
 uint32_t spoutbeetle_quarter(int32_t *nodes, size_t nodes_len, uint32_t *rows, size_t rows_len, uint32_t *scratch, size_t scratch_len,
                              const uint8_t *marks, size_t marks_len, size_t n0, size_t *n, size_t *t, size_t *culprit);
 
+/* As spoutbeetle_quarter, but a triangle p q r with all three edges split is cut red: into four shaped like itself, those at its corners p, q and r
+ * and the middle one, which joins the three new nodes. With m, u and v on q-r, p-q and r-p its row becomes p u v, and u q m, v m r and m v u are
+ * appended. A triangle with one or two split edges is cut as by the other two.
+ *
+ * *red is 1 if the call made a red cut, else 0: so it is 1 exactly if the call returned 0 and at least one byte of marks is 1. What it held before
+ * does not matter. After 0, a call that leaves 0 there has changed no node, no triangle and no count, and what is said of spoutbeetle_restore goes on
+ * to hold; after one that leaves 1, a restore may end away from the base, and return 0 there too. */
+uint32_t spoutbeetle_refine_red(int32_t *nodes, size_t nodes_len, uint32_t *rows, size_t rows_len, uint32_t *scratch, size_t scratch_len,
+                                const uint8_t *marks, size_t marks_len, size_t n0, size_t *n, size_t *t, uint32_t *red, size_t *culprit);
+
 /* Takes the marked nodes that are good: added nodes that can go without leaving a gap. Corrections do not matter to that; the nodes that stay
  * keep theirs. After 0, *n and *t are the new counts. */
 uint32_t spoutbeetle_coarsen(int32_t *nodes, size_t nodes_len, uint32_t *rows, size_t rows_len, uint32_t *scratch, size_t scratch_len,
@@ -94,8 +105,9 @@ uint32_t spoutbeetle_correction_at(const int32_t *nodes, size_t nodes_len, const
  * It gives back a base row for row (node table with its corrections, triangle table and counts; zeros past them), after no more passes than
  * there were added nodes, if
  *   - spoutbeetle_check returned 0 for the base, on these tables;
- *   - every refine, quarter, coarsen, set_correction or restore since that returned 0 had the base's node count as n0, and was made on the tables
- *     and the counts that the accepted call before it left (the first: on those of the check);
+ *   - every refine, quarter, refine_red, coarsen, set_correction or restore since that returned 0 had the base's node count as n0, and was made on
+ *     the tables and the counts that the accepted call before it left (the first: on those of the check);
+ *   - none of these refine_red left 1 in *red;
  *   - this call too has the base's node count as n0, the tables and the counts that the last accepted call left, and scratch enough;
  *   - nothing but these calls wrote to the node table or the triangle table, and their lengths stayed.
  * Questions, and refused calls of any kind, may stand in between, with whatever counts, n0, marks and scratch; each call may lend another scratch.

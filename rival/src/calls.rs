@@ -1,9 +1,9 @@
-//! Check, refine, quarter, coarsen, restore, the setting of a correction and the question about a point, on lent tables.
+//! Check, the three ways to refine, coarsen, restore, the setting of a correction and the question about a point, on lent tables.
 use crate::proper::{crowded, overlapping, Place};
 use std::collections::{HashMap, HashSet};
 use std::ops::RangeInclusive;
 
-/// What a call says: its number, the counts after it, the passes it made, and the node or row at fault.
+/// What a call says: its number, the counts after it, the passes it made, the node or row at fault, and 1 if it made a red cut, else 0.
 #[derive(Clone, Copy, Debug, PartialEq, Eq)]
 pub struct Answer {
     pub number: u32,
@@ -11,6 +11,7 @@ pub struct Answer {
     pub t: usize,
     pub passes: usize,
     pub culprit: usize,
+    pub red: u32,
 }
 
 /// What a question about a point is told: its number, the correction there, and the node or row at fault.
@@ -40,11 +41,15 @@ pub struct Tables {
     pub t: usize,
 }
 
-/// Which edges of a marked triangle start the split set.
-#[derive(Clone, Copy)]
-enum Starts {
-    RefinementEdge,
-    AllThree,
+/// The ways to refine.
+#[derive(Clone, Copy, PartialEq)]
+enum Way {
+    /// Document 01: the refinement edge of a marked triangle starts the split set.
+    Refine,
+    /// Request W1: all three edges do.
+    Quarter,
+    /// Request W8: all three, and a triangle with all three split becomes four "shaped like the father".
+    Red,
 }
 
 type Row = [usize; 3];
@@ -110,12 +115,12 @@ impl Tables {
 
     fn done(&mut self, passes: usize) -> Answer {
         self.scratch.fill(0);
-        Answer { number: 0, n: self.n, t: self.t, passes, culprit: 0 }
+        Answer { number: 0, n: self.n, t: self.t, passes, culprit: 0, red: 0 }
     }
 
     fn refused(&mut self, number: u32, culprit: usize) -> Answer {
         self.scratch.fill(0);
-        Answer { number, n: self.n, t: self.t, passes: 0, culprit }
+        Answer { number, n: self.n, t: self.t, passes: 0, culprit, red: 0 }
     }
 }
 
@@ -129,10 +134,28 @@ fn edges(r: Row) -> [(usize, usize); 3] {
 }
 
 /// Those of a marked row that start the split set.
-fn starting(starts: Starts, r: Row) -> Vec<(usize, usize)> {
-    match starts {
-        Starts::RefinementEdge => vec![pair(r[1], r[2])],
-        Starts::AllThree => edges(r).to_vec(),
+fn starting(way: Way, r: Row) -> Vec<(usize, usize)> {
+    match way {
+        Way::Refine => vec![pair(r[1], r[2])],
+        Way::Quarter | Way::Red => edges(r).to_vec(),
+    }
+}
+
+/// What stands on the father's row, given the new nodes on its edges q-r, p-q and r-p; the others are appended.
+fn cut(way: Way, row: Row, split: [Option<usize>; 3], added: &mut Vec<Row>) -> Row {
+    let [p, q, r] = row;
+    match split {
+        [None, ..] => row,
+        [Some(m), Some(u), Some(v)] if way == Way::Red => {
+            added.extend([[u, q, m], [v, m, r], [m, v, u]]);
+            [p, u, v]
+        }
+        [Some(m), u, v] => {
+            added.push(v.map_or([m, r, p], |v| [v, m, r]));
+            added.extend(u.map(|u| [u, q, m]));
+            added.extend(v.map(|v| [v, p, m]));
+            u.map_or([m, p, q], |u| [u, m, p])
+        }
     }
 }
 
@@ -213,7 +236,7 @@ impl Mesh {
     }
 
     /// The least closed set of edges over the starting edges of the marked rows.
-    fn split_set(&self, starts: Starts, marks: &[u8]) -> HashSet<(usize, usize)> {
+    fn split_set(&self, way: Way, marks: &[u8]) -> HashSet<(usize, usize)> {
         let mut holders: HashMap<(usize, usize), Vec<usize>> = HashMap::new();
         for (i, &r) in self.rows.iter().enumerate() {
             for e in edges(r) {
@@ -221,7 +244,7 @@ impl Mesh {
             }
         }
         let mut set = HashSet::new();
-        let mut todo: Vec<_> = (0..self.rows.len()).filter(|&i| marks[i] == 1).flat_map(|i| starting(starts, self.rows[i])).collect();
+        let mut todo: Vec<_> = (0..self.rows.len()).filter(|&i| marks[i] == 1).flat_map(|i| starting(way, self.rows[i])).collect();
         while let Some(e) = todo.pop() {
             if set.insert(e) {
                 todo.extend(holders[&e].iter().map(|&i| edges(self.rows[i])[0]));
@@ -230,9 +253,9 @@ impl Mesh {
         set
     }
 
-    /// The refined mesh, or 8.
-    fn refined(&self, starts: Starts, marks: &[u8]) -> Result<Mesh, u32> {
-        let set = self.split_set(starts, marks);
+    /// The refined mesh and whether a red cut made it, or 8.
+    fn refined(&self, way: Way, marks: &[u8]) -> Result<(Mesh, bool), u32> {
+        let set = self.split_set(way, marks);
         let mut number = HashMap::new();
         let mut nodes = self.nodes.clone();
         for &r in &self.rows {
@@ -246,26 +269,14 @@ impl Mesh {
         }
         let mut rows = vec![];
         let mut added = vec![];
+        let mut red = false;
         for &r in &self.rows {
-            let [p, q, s] = r;
-            let [m, u, v] = edges(r).map(|e| number.get(&e).copied());
-            let Some(m) = m else {
-                rows.push(r);
-                continue;
-            };
-            rows.push(match u {
-                Some(u) => [u, m, p],
-                None => [m, p, q],
-            });
-            added.push(match v {
-                Some(v) => [v, m, s],
-                None => [m, s, p],
-            });
-            added.extend(u.map(|u| [u, q, m]));
-            added.extend(v.map(|v| [v, p, m]));
+            let split = edges(r).map(|e| number.get(&e).copied());
+            red |= way == Way::Red && split.iter().all(|new| new.is_some());
+            rows.push(cut(way, r, split, &mut added));
         }
         rows.extend(added);
-        Ok(Mesh { nodes, rows })
+        Ok((Mesh { nodes, rows }, red))
     }
 
     /// Each node from n0 up that meets G1 to G4, with the rows of its pairs (left, right) and the pair b, c.
@@ -411,23 +422,28 @@ pub fn check(g: &mut Tables) -> Answer {
     }
 }
 
-/// Document 01: the refinement edge of every marked triangle starts the split set.
+/// Document 01's way.
 pub fn refine(g: &mut Tables, n0: usize, marks: &[u8]) -> Answer {
-    refine_from(Starts::RefinementEdge, g, n0, marks)
+    refine_in(Way::Refine, g, n0, marks)
 }
 
-/// Request W1: all three edges of every marked triangle start it.
+/// Request W1's.
 pub fn quarter(g: &mut Tables, n0: usize, marks: &[u8]) -> Answer {
-    refine_from(Starts::AllThree, g, n0, marks)
+    refine_in(Way::Quarter, g, n0, marks)
 }
 
-fn refine_from(starts: Starts, g: &mut Tables, n0: usize, marks: &[u8]) -> Answer {
+/// Request W8's.
+pub fn refine_red(g: &mut Tables, n0: usize, marks: &[u8]) -> Answer {
+    refine_in(Way::Red, g, n0, marks)
+}
+
+fn refine_in(way: Way, g: &mut Tables, n0: usize, marks: &[u8]) -> Answer {
     let fit = marks_fit(marks, g.t);
-    match lawful(g, n0, fit).map(|m| m.refined(starts, marks)) {
-        Ok(Ok(new)) if new.nodes.len() > g.nodes.len() / 4 || new.rows.len() > g.rows.len() / 3 => g.refused(9, 0),
-        Ok(Ok(new)) => {
+    match lawful(g, n0, fit).map(|m| m.refined(way, marks)) {
+        Ok(Ok((new, _))) if new.nodes.len() > g.nodes.len() / 4 || new.rows.len() > g.rows.len() / 3 => g.refused(9, 0),
+        Ok(Ok((new, red))) => {
             g.store(&new);
-            g.done(0)
+            Answer { red: red as u32, ..g.done(0) }
         }
         Ok(Err(number)) => g.refused(number, 0),
         Err(refused) => refused,

@@ -1,9 +1,13 @@
-//! The line program of document 01, with `09` of request W1, the culprits of W2, and the corrections and `08` of W5, by an ordinary method.
+//! The line program of document 01, with `09` of request W1, the culprits of W2, the corrections and `08` of W5, and `0a` of W8, by an ordinary
+//! method.
 use crate::calls::{self, Answer, Tables};
 use crate::pieces::{Reader, PIECE};
 
 const NODES: usize = 512;
 const ROWS: usize = 1024;
+
+/// The kind whose answer "alone ends with that field, two digits".
+const RED: u64 = 0x0a;
 
 /// The rows held, and the base's node count once a base is accepted.
 pub struct Desk {
@@ -97,9 +101,13 @@ impl Desk {
                     answer(out, 3, Answer { n: 0, t: 0, ..a });
                 }
             }
-            (4 | 9, Some(n0)) => {
+            (4 | 9 | RED, Some(n0)) => {
                 let marks = marks(rest, self.g.t)?;
-                let refine = if kind == 4 { calls::refine } else { calls::quarter };
+                let refine = match kind {
+                    4 => calls::refine,
+                    9 => calls::quarter,
+                    _ => calls::refine_red,
+                };
                 answer(out, kind, refine(&mut self.g, n0, &marks));
             }
             (5, Some(n0)) => {
@@ -142,5 +150,6 @@ fn marks(digits: &[u64], count: usize) -> Option<Vec<u8>> {
 }
 
 fn answer(out: &mut Vec<u8>, kind: u64, a: Answer) {
-    out.extend(format!("{:02x}{:02x}{:04x}{:04x}{:04x}{:04x}\n", kind, a.number, a.n, a.t, a.passes, a.culprit).bytes());
+    let red = if kind == RED { format!("{:02x}", a.red) } else { String::new() };
+    out.extend(format!("{:02x}{:02x}{:04x}{:04x}{:04x}{:04x}{red}\n", kind, a.number, a.n, a.t, a.passes, a.culprit).bytes());
 }

@@ -1,6 +1,6 @@
 //! Random meshes, damage and calls from a seed.
 use crate::bases::drawn;
-use crate::calls::{self, Tables};
+use crate::calls::{self, Answer, Tables};
 
 /// A small generator of numbers (xorshift), so that a seed tells the whole run.
 pub struct Dice(u64);
@@ -142,16 +142,23 @@ pub(crate) fn spread(d: &mut Dice, nodes: &mut [(i32, i32)]) {
     nodes.iter_mut().for_each(|p| *p = (by * p.0 + right, by * p.1 + up));
 }
 
+/// A call that refines.
+pub type Refine = fn(&mut Tables, usize, &[u8]) -> Answer;
+
+/// One of the three ways to refine, W8's less often than the others, since most of what it cuts stays.
+pub fn any_way(d: &mut Dice) -> Refine {
+    [calls::refine, calls::refine, calls::quarter, calls::quarter, calls::refine_red][d.below(5)]
+}
+
 /// A mesh: a grid or an absurd one, once in three times spread over the range, or a base drawn for the check; grown by some refinements of the
-/// rival's own, of either way, corrections set on it.
+/// rival's own, of any way, corrections set on it.
 pub fn mesh(d: &mut Dice) -> (Tables, usize) {
     let (nodes, rows) = if d.once_in(4) { drawn(d).1 } else { spread_or_not(d) };
     let mut g = lend(d, &nodes, &rows);
     let n0 = g.n;
     for _ in 0..d.below(5) {
         let marks: Vec<u8> = (0..g.t).map(|_| d.once_in(3) as u8).collect();
-        let refine = if d.once_in(2) { calls::quarter } else { calls::refine };
-        refine(&mut g, n0, &marks);
+        any_way(d)(&mut g, n0, &marks);
         if d.once_in(3) {
             let marks: Vec<u8> = (0..g.n).map(|_| d.once_in(2) as u8).collect();
             calls::coarsen(&mut g, n0, &marks);

@@ -84,12 +84,12 @@ pub fn random_text(d: &mut Dice) -> Vec<u8> {
             3 => text.extend(b"07\n"),
             4 | 5 => listed(d, "05", most, &mut text),
             6 => {
-                let kind = ["08", "00", "ff", "0", "04a", "06ff", "09a", "0a"][d.below(8)];
+                let kind = ["08", "00", "ff", "0", "04a", "06ff", "09a", "0aa", "0b"][d.below(9)];
                 listed(d, kind, most, &mut text);
             }
             7 | 8 => setting(d, n0, &mut text),
             _ => {
-                let kind = ["04", "09"][d.below(2)];
+                let kind = ["04", "09", "0a"][d.below(3)];
                 listed(d, kind, most, &mut text);
                 most += d.below(12);
             }

@@ -37,6 +37,11 @@ static uint32_t refine(size_t marks_len) { return spoutbeetle_refine(nodes, 4 * 
 
 static uint32_t quarter(size_t room) { return spoutbeetle_quarter(nodes, 4 * room, rows, 3 * TC, scratch, SCRATCH, marks, t, 4, &n, &t, &culprit); }
 
+static uint32_t refine_red(size_t room) {
+    uint32_t red;
+    return spoutbeetle_refine_red(nodes, 4 * NC, rows, 3 * room, scratch, SCRATCH, marks, t, 4, &n, &t, &red, &culprit);
+}
+
 static uint32_t coarsen(void) { return spoutbeetle_coarsen(nodes, 4 * NC, rows, 3 * TC, scratch, SCRATCH, marks, n, 4, &n, &t, &culprit); }
 
 static uint32_t restore(void) { return spoutbeetle_restore(nodes, 4 * NC, rows, 3 * TC, scratch, SCRATCH, 4, &n, &t, &passes, &culprit); }
@@ -81,6 +86,7 @@ static void say_calls(void) {
     nodes[4 * 2 + 1] = 7;
     say("refine, an edge of odd height", refine(t));
     say("quarter, room for four nodes", quarter(4));
+    say("refine_red, room for five rows", refine_red(5));
     rows[3 * 1] = 0, rows[3 * 1 + 1] = 2, rows[3 * 1 + 2] = 3;
     say("check, row 1 turned", check(SCRATCH));
     add((const int32_t[]){4, 4, 0, 0}, 1, 1, (const uint32_t[]){4, 3, 0, 4, 2, 3}, 2);

@@ -1,8 +1,8 @@
 //! A square in two halves, with corrections at its corners: where a fine rule is printed, its first row is cut in four, the correction of an added
 //! node is set, and the row is refined once more; then the square is restored, corrections and all. The correction at a point is asked before the
-//! job, in it and after it. Settings of a base node and out of range, a question about a point outside, a square with a row too many, and one with
-//! a crack, are refused, in words.
-use spoutbeetle::{check, correction_at, quarter, refine, restore, set_correction, Answer, Correction, Node, Refusal, Tables, View};
+//! job, in it and after it. Then, for a round stamp, the row is cut red, which a restore does not undo. Settings of a base node and out of range, a
+//! question about a point outside, a square with a row too many, and one with a crack, are refused, in words.
+use spoutbeetle::{check, correction_at, quarter, refine, refine_red, restore, set_correction, Answer, Correction, Node, Refusal, Tables, View};
 
 const NC: usize = 16;
 const TC: usize = 32;
@@ -75,6 +75,22 @@ fn print_fine_rule(sheet: &mut Sheet) -> Result<(), Refusal> {
     Ok(())
 }
 
+/// Prints the counts that a red refinement leaves, and its field.
+fn cut_red(call: &str, a: Answer) {
+    done(call, a);
+    println!("it made {}", if a.red { "a red cut" } else { "no red cut" });
+}
+
+/// Another job: after its red cut, restore ends away from the base.
+fn print_round_stamp(sheet: &mut Sheet) -> Result<(), Refusal> {
+    cut_red("refine_red, no row marked", sheet.call(|g| refine_red(g, 4, &[0, 0]))?);
+    cut_red("refine_red", sheet.call(|g| refine_red(g, 4, &[1, 0]))?);
+    let a = sheet.call(|g| restore(g, 4))?;
+    done("restore", a);
+    println!("{} passes, and the red cut stays", a.passes);
+    Ok(())
+}
+
 fn main() -> Result<(), Refusal> {
     let mut sheet = Sheet::square();
     done("check", sheet.call(check)?);
@@ -87,7 +103,9 @@ fn main() -> Result<(), Refusal> {
     println!("{} passes, and the base is back, with its corrections:", a.passes);
     (0..sheet.n).for_each(|k| sheet.show(k));
     sheet.ask(2, 1); // as before the job
+    print_round_stamp(&mut sheet)?;
 
+    sheet = base;
     sheet.rows.copy_within(0..3, 6);
     sheet.t = 3;
     refused("check, row 0 once more", sheet.call(check));

@@ -10,7 +10,7 @@ pub use node::Node;
 pub use refusal::Refusal;
 use std::fmt;
 
-/// What an accepted call says: the counts after it, and the passes that it made.
+/// What an accepted call says: the counts after it, the passes that it made, and whether it made a red cut.
 #[derive(Clone, Copy, Debug, PartialEq, Eq)]
 #[non_exhaustive]
 pub struct Answer {
@@ -18,6 +18,8 @@ pub struct Answer {
     pub t: usize,
     /// How many passes restore made; 0 with the other calls.
     pub passes: usize,
+    /// Whether refine_red made a red cut; false with the other calls.
+    pub red: bool,
 }
 
 /// The words that C has for 0.
@@ -68,7 +70,7 @@ pub fn check(g: Tables) -> Result<Answer, Refusal> {
     let number = unsafe {
         ffi::spoutbeetle_check(g.nodes.as_mut_ptr(), g.nodes.len(), g.rows.as_mut_ptr(), g.rows.len(), g.scratch.as_mut_ptr(), g.scratch.len(), g.n, g.t, &mut culprit)
     };
-    said(number, culprit, Answer { n: g.n, t: g.t, passes: 0 })
+    said(number, culprit, Answer { n: g.n, t: g.t, passes: 0, red: false })
 }
 
 /// Splits the marked rows, and what must be split with them. A new node carries the mean of the two ends' corrections, each part rounded down.
@@ -82,6 +84,19 @@ pub fn quarter(g: Tables, n0: usize, marks: &[u8]) -> Result<Answer, Refusal> {
     marked(ffi::spoutbeetle_quarter, g, n0, marks)
 }
 
+/// As `quarter`, but a row p q r with all three edges split is cut red: into four shaped like itself. With m, u and v on q-r, p-q and r-p it becomes
+/// p u v, and u q m, v m r and m v u are appended. One or two split edges are cut as by the other two.
+///
+/// The answer's `red` is true exactly if at least one row is marked. If it is false, nodes, rows and counts are as before, and what is said of
+/// [`restore`] goes on to hold; after a red cut, a restore may be done and end away from the base.
+pub fn refine_red(g: Tables, n0: usize, marks: &[u8]) -> Result<Answer, Refusal> {
+    let (mut n, mut t, mut red, mut culprit) = (g.n, g.t, 0, 0);
+    let number = unsafe {
+        ffi::spoutbeetle_refine_red(g.nodes.as_mut_ptr(), g.nodes.len(), g.rows.as_mut_ptr(), g.rows.len(), g.scratch.as_mut_ptr(), g.scratch.len(), marks.as_ptr(), marks.len(), n0, &mut n, &mut t, &mut red, &mut culprit)
+    };
+    said(number, culprit, Answer { n, t, passes: 0, red: red == 1 })
+}
+
 /// Takes the marked good nodes; the others keep what they carry. `marks` has one byte a node, 0 or 1; `n0` is the base's node count.
 pub fn coarsen(g: Tables, n0: usize, marks: &[u8]) -> Result<Answer, Refusal> {
     marked(ffi::spoutbeetle_coarsen, g, n0, marks)
@@ -92,7 +107,7 @@ fn marked(call: ffi::Marked, g: Tables, n0: usize, marks: &[u8]) -> Result<Answe
     let number = unsafe {
         call(g.nodes.as_mut_ptr(), g.nodes.len(), g.rows.as_mut_ptr(), g.rows.len(), g.scratch.as_mut_ptr(), g.scratch.len(), marks.as_ptr(), marks.len(), n0, &mut n, &mut t, &mut culprit)
     };
-    said(number, culprit, Answer { n, t, passes: 0 })
+    said(number, culprit, Answer { n, t, passes: 0, red: false })
 }
 
 /// Sets the correction of an added node. `n0` is the base's node count.
@@ -101,7 +116,7 @@ pub fn set_correction(g: Tables, n0: usize, node: usize, dx: i32, dy: i32) -> Re
     let number = unsafe {
         ffi::spoutbeetle_set_correction(g.nodes.as_mut_ptr(), g.nodes.len(), g.rows.as_mut_ptr(), g.rows.len(), g.scratch.as_mut_ptr(), g.scratch.len(), n0, g.n, g.t, node, dx, dy, &mut culprit)
     };
-    said(number, culprit, Answer { n: g.n, t: g.t, passes: 0 })
+    said(number, culprit, Answer { n: g.n, t: g.t, passes: 0, red: false })
 }
 
 /// A question about a point, which may be any: what is the correction there? The lowest row whose triangle holds it, sides and corners included,
@@ -118,13 +133,14 @@ pub fn correction_at(g: View, n0: usize, x: i32, y: i32) -> Result<Correction, R
 }
 
 /// Coarsens while a good node exists. `n0` is the base's node count. It gives back a base that the check admitted, row for row with its
-/// corrections, if since then all accepted calls had the base's node count and worked on what the accepted call before left: spoutbeetle.h has it in full.
+/// corrections, if since then all accepted calls had the base's node count and worked on what the accepted call before left, and none made a red cut:
+/// spoutbeetle.h has it in full.
 pub fn restore(g: Tables, n0: usize) -> Result<Answer, Refusal> {
     let (mut n, mut t, mut passes, mut culprit) = (g.n, g.t, 0, 0);
     let number = unsafe {
         ffi::spoutbeetle_restore(g.nodes.as_mut_ptr(), g.nodes.len(), g.rows.as_mut_ptr(), g.rows.len(), g.scratch.as_mut_ptr(), g.scratch.len(), n0, &mut n, &mut t, &mut passes, &mut culprit)
     };
-    said(number, culprit, Answer { n, t, passes })
+    said(number, culprit, Answer { n, t, passes, red: false })
 }
 
 fn said<A>(number: u32, culprit: usize, answer: A) -> Result<A, Refusal> {

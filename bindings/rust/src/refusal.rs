@@ -12,7 +12,7 @@ pub enum Refusal {
     /// 1: a table length is not a multiple of its row, a room or count is out of bounds, n0 is above n, or scratch is short; of the reader:
     /// something is lent in another size, or the state is none that a call left.
     Sizes,
-    /// 2: the marks are not one byte for each triangle (refine, quarter) or node (coarsen), or one is above 1.
+    /// 2: the marks are not one byte for each triangle (refine, quarter, refine_red) or node (coarsen), or one is above 1.
     Marks,
     /// 3: a coordinate of this node is outside −1,048,576 .. 1,048,576, or its dx or dy, stored or to be set, outside −32,768 .. 32,767.
     OutOfRange { node: usize },

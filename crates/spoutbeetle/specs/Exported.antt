@@ -10,9 +10,9 @@ use Rattle.meaning.specs.declared.Answer.{Answer}
 use Rattle.meaning.specs.declared.Correction.{Correction}
 use Rattle.meaning.specs.declared.Told.{Told}
 use Rattle.meaning.specs.Mesh.{place, correction}
-use Rattle.meaning.specs.Split.{Way}
+use Rattle.meaning.specs.Split.{Way, inRed}
 use Rattle.meaning.specs.Tables.{Given, Outcome, outcome, answer}
-use Rattle.meaning.specs.Calls.{checkOut, refineOut, coarsenOut, setOut, toldAs, heard, askOut}
+use Rattle.meaning.specs.Calls.{checkOut, refineOut, TintedOut, tinted, refineByOut, redOut, coarsenOut, setOut, toldAs, heard, askOut}
 use Rattle.laws.specs.CallLaw.{AsGiven, check-leaves, refine-no-passes, coarsen-no-passes, set-no-passes, set-counts}
 use Rattle.text.specs.Writing.{wrote}
 use Rattle.reader.specs.declared.Took.{Took}
@@ -27,13 +27,22 @@ module _ (a : Answer) (nodes : List ℤ) (rows scratch : List ℕ) where
       let c = subst (AsGiven g) (sym e) (check-leaves g .all-as-given) in
       (λ i. outcome (answer (a .number) (sym (c .n-same) i) (sym (c .t-same) i) (sym (c .no-passes) i) (a .culprit)) nodes rows scratch) ∙ e
 
+  no-passes-shown : a .passes ≡ 0 → outcome (answer (a .number) (a .n) (a .t) 0 (a .culprit)) nodes rows scratch ≡ outcome a nodes rows scratch
+  no-passes-shown z i = outcome (answer (a .number) (a .n) (a .t) (sym z i) (a .culprit)) nodes rows scratch
+
   without-passes : (o : Outcome) → o .answer .passes ≡ 0 → outcome a nodes rows scratch ≡ o → outcome (answer (a .number) (a .n) (a .t) 0 (a .culprit)) nodes rows scratch ≡ o
-  without-passes o z e = (λ i. outcome (answer (a .number) (a .n) (a .t) (sym (ap (λ (x : Outcome). x .answer .passes) e ∙ z) i) (a .culprit)) nodes rows scratch) ∙ e
+  without-passes o z e = no-passes-shown (ap (λ (x : Outcome). x .answer .passes) e ∙ z) ∙ e
 
   -- by whatever way
   pub refine-answer : (w : Way) (marks : List ℕ) (g : Given) (n0 : ℕ) → outcome a nodes rows scratch ≡ refineOut w g n0 marks →
       outcome (answer (a .number) (a .n) (a .t) 0 (a .culprit)) nodes rows scratch ≡ refineOut w g n0 marks
   refine-answer w marks g n0 e = without-passes _ (refine-no-passes w g n0 marks) e
+
+  -- W8: the new field r stands beside
+  pub red-answer : (r : ℕ) (marks : List ℕ) (g : Given) (n0 : ℕ) → tinted (outcome a nodes rows scratch) r ≡ redOut g n0 marks →
+      tinted (outcome (answer (a .number) (a .n) (a .t) 0 (a .culprit)) nodes rows scratch) r ≡ redOut g n0 marks
+  unfolding refineByOut
+  red-answer r marks g n0 e = ap (λ (o : Outcome). tinted o r) (no-passes-shown (ap (λ (x : TintedOut). x .outcome .answer .passes) e ∙ refine-no-passes inRed g n0 marks)) ∙ e
 
   pub coarsen-answer : (marks : List ℕ) (g : Given) (n0 : ℕ) → outcome a nodes rows scratch ≡ coarsenOut g n0 marks →
       outcome (answer (a .number) (a .n) (a .t) 0 (a .culprit)) nodes rows scratch ≡ coarsenOut g n0 marks
@@ -72,4 +81,4 @@ module _ (k : Took) (line : List ℕ) (ns : List ℤ) (rs sc out : List ℕ) whe
       tells (k .number) 0 (wrote (k .written) out) (carries (k .carried) line ns rs sc) ≡ endOut r out₀
   end-answer r out₀ = without-taken (endOut r out₀) (end-taken r out₀)
 
-pub ruleset exported = (check-answer, refine-answer, coarsen-answer, begin-answer, end-answer)
+pub ruleset exported = (check-answer, refine-answer, red-answer, coarsen-answer, begin-answer, end-answer)

@@ -6,7 +6,7 @@ mod reading;
 ghost use mathlib.Core.Path.{_≡_};
 ghost use Rattle.meaning.specs.Split.{newest, allThree};
 ghost use Rattle.meaning.specs.Tables.{given, outcome, answer};
-ghost use Rattle.meaning.specs.Calls.{checkOut, refineOut, coarsenOut, restoreOut, setOut, toldAs, heard, askOut};
+ghost use Rattle.meaning.specs.Calls.{checkOut, refineOut, tinted, redOut, coarsenOut, restoreOut, setOut, toldAs, heard, askOut};
 ghost use Rattle.meaning.specs.Mesh.{place, correction};
 use meaning::Correction;
 use meaning::Place;
@@ -68,6 +68,29 @@ pub extern "C" fn spoutbeetle_quarter(
     *t = quartered.t;
     *culprit = quartered.culprit;
     quartered.number
+}
+
+// W8: red refinement's number; behind `red` 1 if it made a red cut, else 0.
+#[no_mangle]
+pub extern "C" fn spoutbeetle_refine_red(
+    nodes: &mut [i32],
+    rows: &mut [u32],
+    scratch: &mut [u32],
+    marks: &[u8],
+    n0: usize,
+    n: &mut usize,
+    t: &mut usize,
+    red: &mut u32,
+    culprit: &mut usize,
+) -> u32
+    ensures { λ r. ⌜ tinted (outcome (answer r (now (n .exit)) (now (t .exit)) 0 (now (culprit .exit))) (now (nodes .exit)) (now (rows .exit)) (now (scratch .exit))) (now (red .exit)) ≡ redOut (given (now (nodes .entry)) (now (rows .entry)) (now (scratch .entry)) (now (n .entry)) (now (t .entry))) n0 (now (marks .entry)) ⌝ }
+{
+    let reddened = mesh::refine_red(nodes, rows, scratch, marks, n0, *n, *t);
+    *n = reddened.answer.n;
+    *t = reddened.answer.t;
+    *red = reddened.red;
+    *culprit = reddened.answer.culprit;
+    reddened.answer.number
 }
 
 // Coarsen's number.

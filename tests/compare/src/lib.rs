@@ -17,6 +17,7 @@ pub enum Call {
     Check,
     Refine(usize, Vec<u8>),
     Quarter(usize, Vec<u8>),
+    Red(usize, Vec<u8>),
     Coarsen(usize, Vec<u8>),
     Restore(usize),
     /// The base's node count, the node, and its correction.
@@ -25,7 +26,8 @@ pub enum Call {
     Ask(usize, [i32; 2]),
 }
 
-/// What a call says: its number, the counts after it, the passes it made, the correction it told, and the node or row at fault.
+/// What a call says: its number, the counts after it, the passes it made, the correction it told, the field of a red refinement, and the node or row
+/// at fault.
 #[derive(Clone, Copy, Debug, PartialEq, Eq)]
 pub struct Answer {
     pub number: u32,
@@ -34,6 +36,8 @@ pub struct Answer {
     pub passes: usize,
     /// Told by a question; 0, 0 by the other calls.
     pub told: [i32; 2],
+    /// 1 if a red cut was made, else 0; 0 by the other calls.
+    pub red: u32,
     pub culprit: usize,
 }
 
@@ -43,6 +47,7 @@ impl Call {
             Call::Check => "check",
             Call::Refine(..) => "refine",
             Call::Quarter(..) => "quarter",
+            Call::Red(..) => "refine_red",
             Call::Coarsen(..) => "coarsen",
             Call::Restore(..) => "restore",
             Call::Set(..) => "set_correction",
@@ -51,9 +56,9 @@ impl Call {
     }
 }
 
-/// By the exported calls. What is only written, passes, the correction told and culprit, holds sevens before.
+/// By the exported calls. What is only written, passes, the correction told, the red field and culprit, holds sevens before.
 pub fn proved(call: &Call, g: &mut Tables) -> Answer {
-    let (mut n, mut t, mut passes, mut told, mut culprit) = (g.n, g.t, 0, [0, 0], 7777);
+    let (mut n, mut t, mut passes, mut told, mut red, mut culprit) = (g.n, g.t, 0, [0, 0], 0, 7777);
     let (nodes, nodes_len) = (g.nodes.as_mut_ptr(), g.nodes.len());
     let (rows, rows_len) = (g.rows.as_mut_ptr(), g.rows.len());
     let (scratch, scratch_len) = (g.scratch.as_mut_ptr(), g.scratch.len());
@@ -66,6 +71,11 @@ pub fn proved(call: &Call, g: &mut Tables) -> Answer {
             Call::Refine(n0, marks) => marked(ffi::spoutbeetle_refine, *n0, marks),
             Call::Quarter(n0, marks) => marked(ffi::spoutbeetle_quarter, *n0, marks),
             Call::Coarsen(n0, marks) => marked(ffi::spoutbeetle_coarsen, *n0, marks),
+            Call::Red(n0, marks) => {
+                red = 7777;
+                let (marks, marks_len) = (marks.as_ptr(), marks.len());
+                ffi::spoutbeetle_refine_red(nodes, nodes_len, rows, rows_len, scratch, scratch_len, marks, marks_len, *n0, &mut n, &mut t, &mut red, &mut culprit)
+            }
             Call::Check => ffi::spoutbeetle_check(nodes, nodes_len, rows, rows_len, scratch, scratch_len, n, t, &mut culprit),
             Call::Restore(n0) => {
                 passes = 7777;
@@ -82,27 +92,28 @@ pub fn proved(call: &Call, g: &mut Tables) -> Answer {
         }
     };
     (g.n, g.t) = (n, t);
-    Answer { number, n, t, passes, told, culprit }
+    Answer { number, n, t, passes, told, red, culprit }
 }
 
 /// By the Rust wrapper, whose refusal leaves the counts to the caller.
 pub fn wrapped(call: &Call, g: &mut Tables) -> Answer {
     let (n, t) = (g.n, g.t);
     let lent = spoutbeetle::Tables { nodes: &mut g.nodes, rows: &mut g.rows, scratch: &mut g.scratch, n, t };
-    let counted = |a: spoutbeetle::Answer| Answer { number: 0, n: a.n, t: a.t, passes: a.passes, told: [0, 0], culprit: 0 };
+    let counted = |a: spoutbeetle::Answer| Answer { number: 0, n: a.n, t: a.t, passes: a.passes, told: [0, 0], red: a.red as u32, culprit: 0 };
     let said = match call {
         Call::Check => spoutbeetle::check(lent).map(counted),
         Call::Refine(n0, marks) => spoutbeetle::refine(lent, *n0, marks).map(counted),
         Call::Quarter(n0, marks) => spoutbeetle::quarter(lent, *n0, marks).map(counted),
+        Call::Red(n0, marks) => spoutbeetle::refine_red(lent, *n0, marks).map(counted),
         Call::Coarsen(n0, marks) => spoutbeetle::coarsen(lent, *n0, marks).map(counted),
         Call::Restore(n0) => spoutbeetle::restore(lent, *n0).map(counted),
         Call::Set(n0, node, [dx, dy]) => spoutbeetle::set_correction(lent, *n0, *node, *dx, *dy).map(counted),
         Call::Ask(n0, [x, y]) => {
-            let told = |c: spoutbeetle::Correction| Answer { number: 0, n, t, passes: 0, told: [c.dx, c.dy], culprit: 0 };
+            let told = |c: spoutbeetle::Correction| Answer { number: 0, n, t, passes: 0, told: [c.dx, c.dy], red: 0, culprit: 0 };
             spoutbeetle::correction_at(lent.into(), *n0, *x, *y).map(told)
         }
     };
-    let refused = |r: Refusal| Answer { number: r.number(), n, t, passes: 0, told: [0, 0], culprit: r.node().or(r.triangle()).unwrap_or(0) };
+    let refused = |r: Refusal| Answer { number: r.number(), n, t, passes: 0, told: [0, 0], red: 0, culprit: r.node().or(r.triangle()).unwrap_or(0) };
     let a = said.unwrap_or_else(refused);
     (g.n, g.t) = (a.n, a.t);
     a
@@ -113,15 +124,16 @@ pub fn rival(call: &Call, g: &mut Tables) -> Answer {
         Call::Check => calls::check(g),
         Call::Refine(n0, marks) => calls::refine(g, *n0, marks),
         Call::Quarter(n0, marks) => calls::quarter(g, *n0, marks),
+        Call::Red(n0, marks) => calls::refine_red(g, *n0, marks),
         Call::Coarsen(n0, marks) => calls::coarsen(g, *n0, marks),
         Call::Restore(n0) => calls::restore(g, *n0),
         Call::Set(n0, node, [dx, dy]) => calls::set_correction(g, *n0, *node, *dx, *dy),
         Call::Ask(n0, point) => {
             let a = calls::correction_at(g, *n0, *point);
-            return Answer { number: a.number, n: g.n, t: g.t, passes: 0, told: [a.dx, a.dy], culprit: a.culprit };
+            return Answer { number: a.number, n: g.n, t: g.t, passes: 0, told: [a.dx, a.dy], red: 0, culprit: a.culprit };
         }
     };
-    Answer { number: counted.number, n: counted.n, t: counted.t, passes: counted.passes, told: [0, 0], culprit: counted.culprit }
+    Answer { number: counted.number, n: counted.n, t: counted.t, passes: counted.passes, told: [0, 0], red: counted.red, culprit: counted.culprit }
 }
 
 /// What the call says, and the tables that it leaves.
@@ -143,7 +155,7 @@ fn smaller(call: &Call, given: &Tables) -> Tables {
         let mut fewer = least.clone();
         fewer.rows.drain(3 * i..3 * i + 3);
         fewer.t -= 1;
-        if !matches!(call, Call::Refine(..) | Call::Quarter(..)) && differ(call, &fewer) {
+        if !matches!(call, Call::Refine(..) | Call::Quarter(..) | Call::Red(..)) && differ(call, &fewer) {
             least = fewer;
         } else {
             i += 1;

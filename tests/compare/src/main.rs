@@ -2,8 +2,9 @@
 //! every table entry; then as many checks of bases whose kind says beforehand what they may draw; and of every two triangles over a small lattice.
 //! Usage: compare COUNT [SEED]. The first difference is made smaller by taking rows away, shown with its seed, and the run fails. A run in which a
 //! call never gave one of the numbers that it may answer, or one of 3 to 7 never with a culprit above 0 or never with several at fault, fails too: it
-//! is to be longer. A setting must have drawn 3 by what is stored and by the value to be set, questions must have been of every kind of
-//! compare::questions, every kind of base must have drawn all of its numbers, and any two of 7, 11, 12 and 10 must have met in one base.
+//! is to be longer. A setting must have drawn 3 by what is stored and by the value to be set, a red refinement that was done must have made a red cut
+//! exactly if a row was marked, and both must have come, questions must have been of every kind of compare::questions, every kind of base must have
+//! drawn all of its numbers, and any two of 7, 11, 12 and 10 must have met in one base.
 use compare::bases::{self, compare_base};
 use compare::questions::{kinds, KINDS};
 use compare::{agreed, Answer, Call};
@@ -14,11 +15,18 @@ use std::collections::BTreeMap;
 /// Settings whose value is out of range, while all that is stored is in range.
 const BY_VALUE: &str = "set_correction, by the value to be set,";
 
-/// The calls, and the numbers that documents 01 and 02 list for each; quarter's are refine's.
-const NUMBERS: [(&str, &[u32]); 8] = [
+/// Red refinements that are done, by what their field says.
+const NO_CUT: &str = "refine_red, without a red cut,";
+const A_CUT: &str = "refine_red, with a red cut,";
+
+/// The calls, and the numbers that documents 01 and 02 list for each; those of quarter and refine_red are refine's.
+const NUMBERS: [(&str, &[u32]); 11] = [
     ("check", &[0, 1, 3, 4, 5, 6, 7, 10, 11, 12]),
     ("refine", &[0, 1, 2, 3, 4, 5, 6, 7, 8, 9]),
     ("quarter", &[0, 1, 2, 3, 4, 5, 6, 7, 8, 9]),
+    ("refine_red", &[0, 1, 2, 3, 4, 5, 6, 7, 8, 9]),
+    (NO_CUT, &[0]),
+    (A_CUT, &[0]),
     ("coarsen", &[0, 1, 2, 3, 4, 5, 6, 7]),
     ("restore", &[0, 1, 3, 4, 5, 6, 7]),
     ("set_correction", &[0, 1, 3, 4, 5, 6, 7, 13, 15]),
@@ -49,14 +57,15 @@ fn random_call(d: &mut Dice, g: &Tables, base: usize) -> Call {
         m
     };
     let (refining, coarsening) = (marks(g.t, 3), marks(g.n, 1));
-    match d.below(8) {
+    match d.below(9) {
         0 => Call::Check,
         1 => Call::Refine(n0, refining),
         2 => Call::Quarter(n0, refining),
-        3 if d.once_in(2) => Call::Coarsen(n0, coarsening),
-        3 => Call::Coarsen(n0, coarsening.iter().map(|&b| if d.once_in(3) { 0 } else { b }).collect()),
-        4 => Call::Restore(n0),
-        5 => {
+        3 => Call::Red(n0, refining),
+        4 if d.once_in(2) => Call::Coarsen(n0, coarsening),
+        4 => Call::Coarsen(n0, coarsening.iter().map(|&b| if d.once_in(3) { 0 } else { b }).collect()),
+        5 => Call::Restore(n0),
+        6 => {
             let node = random_node(d, g.n, n0);
             Call::Set(n0, node, any_correction(d))
         }
@@ -64,10 +73,12 @@ fn random_call(d: &mut Dice, g: &Tables, base: usize) -> Call {
     }
 }
 
-/// The call as it is counted: a setting that its value alone refuses stands for itself, and a question is counted with its kinds too.
+/// The call as it is counted: a setting that its value alone refuses stands for itself, a question is counted with its kinds too, and a red refinement
+/// that is done with what its field says.
 fn counted_as(call: &Call, given: &Tables, said: Answer, at_fault: &[usize]) -> Vec<&'static str> {
     match call {
         Call::Set(..) if said.number == 3 && at_fault.is_empty() => vec![BY_VALUE],
+        Call::Red(..) if said.number == 0 => vec![call.name(), if said.red == 1 { A_CUT } else { NO_CUT }],
         Call::Ask(_, point) => [vec![call.name()], kinds(given, *point, said.number)].concat(),
         _ => vec![call.name()],
     }
@@ -88,6 +99,8 @@ fn compare_one(seed: u64, seen: &mut BTreeMap<(&str, u32), Times>) {
     damage(&mut d, &mut given);
     let call = random_call(&mut d, &given, base);
     let (said, _) = agreed(seed, &call, &given);
+    let cuts = matches!(&call, Call::Red(_, marks) if said.number == 0 && marks.contains(&1));
+    assert_eq!(said.red, cuts as u32, "seed {seed}: {call:?} said {said:?}");
     let at_fault = offenders(&given, said.number);
     for name in counted_as(&call, &given, said, &at_fault) {
         let times = seen.entry((name, said.number)).or_default();

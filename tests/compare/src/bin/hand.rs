@@ -1,4 +1,4 @@
-//! Document 01's hand meshes, those of requests W1 and W5 to W7, and every refusal with its culprit, run through the proved library, by its exported
+//! Document 01's hand meshes, those of requests W1 and W5 to W8, and every refusal with its culprit, run through the proved library, by its exported
 //! calls and by the wrapper, and through the rival. Usage: hand.
 //! Entries past the counts and scratch hold sevens before each call: after 0 they are zero, after a refusal, a check or a question the tables are
 //! as they were.
@@ -114,6 +114,33 @@ const ENDS_QUARTERED: Mesh = (
     &[(-3, 0), (1, 0), (-1, 4), (-1, 0), (-2, 2), (0, 2)],
     &[[4, 3, 2], [5, 3, 1], [4, 0, 3], [5, 2, 3]],
 );
+/// S, row 0 cut red: m, u and v are 4, 5 and 6, and row 1 is cut in two. Then its row 0 refined, which halves the middle child too.
+const RED: Mesh = (QUARTERED.0, &[[1, 5, 6], [4, 3, 0], [5, 2, 4], [6, 4, 0], [4, 6, 5], [4, 2, 3]]);
+const RED_REFINED: Mesh = (QUARTERED_REFINED.0, &[[7, 1, 5], [4, 3, 0], [5, 2, 4], [6, 4, 0], [7, 4, 6], [4, 2, 3], [7, 6, 1], [7, 5, 4]]);
+/// S, both rows cut red.
+const BOTH_RED: Mesh = (
+    BOTH_QUARTERED.0,
+    &[[1, 5, 6], [3, 7, 8], [5, 2, 4], [6, 4, 0], [4, 6, 5], [7, 0, 4], [8, 4, 2], [4, 8, 7]],
+);
+/// Case 12's triangle, cut red.
+const ENDS_RED: Mesh = (ENDS_QUARTERED.0, &[[2, 4, 5], [4, 0, 3], [5, 3, 1], [3, 5, 4]]);
+/// The winged row cut red, its neighbours in two; one neighbour cut red, the winged row in three; and both neighbours, the winged row with them.
+const WINGED_RED: Mesh = (CUT_ALL.0, &[[0, 6, 7], [6, 3, 1], [7, 4, 0], [6, 1, 5], [7, 5, 2], [5, 7, 6], [6, 0, 3], [7, 2, 4]]);
+const WING_RED: Mesh = (WING_QUARTERED.0, &[[6, 5, 0], [3, 7, 8], [4, 0, 2], [5, 2, 0], [6, 1, 5], [7, 1, 6], [8, 6, 0], [6, 8, 7]]);
+const WINGS_RED: Mesh = (
+    &[(0, 0), (16, 0), (0, 16), (8, -8), (-8, 8), (8, 8), (8, 0), (0, 8), (12, -4), (4, -4), (-4, 4), (-4, 12)],
+    &[
+        [0, 6, 7], [3, 8, 9], [4, 10, 11], [6, 1, 5], [7, 5, 2], [5, 7, 6], [8, 1, 6], [9, 6, 0], [6, 9, 8], [10, 0, 7], [11, 7, 2], [7, 11, 10],
+    ],
+);
+/// The strip's last row cut red: the others that are drawn in have one or two split edges.
+const CHAIN_RED: Mesh = (
+    CHAIN_QUARTERED.0,
+    &[
+        [8, 3, 4], [9, 8, 7], [9, 2, 3], [11, 10, 6], [11, 1, 2], [13, 12, 5], [5, 15, 13], [9, 3, 8], [10, 9, 7], [10, 2, 9], [10, 7, 6],
+        [11, 2, 10], [12, 11, 6], [12, 1, 11], [12, 6, 5], [13, 1, 12], [15, 0, 14], [13, 14, 1], [14, 13, 15],
+    ],
+);
 /// The refinement edge has even sums, the sides have not.
 const ODD_SIDES: Mesh = (&[(1, 1), (4, 0), (0, 4)], &[[0, 1, 2]]);
 const ODD_SIDES_REFINED: Mesh = (&[(1, 1), (4, 0), (0, 4), (2, 2)], &[[3, 0, 1], [3, 2, 0]]);
@@ -150,6 +177,8 @@ const C_QUARTERED: Carrying = (
     &[C.0[0], C.0[1], C.0[2], C.0[3], [4, 4, -2, 2], [8, 4, 16383, -16385], [4, 0, 16382, -16381]],
     QUARTERED.1,
 );
+/// C, row 0 cut red.
+const C_RED: Carrying = (C_QUARTERED.0, RED.1);
 /// Node 4 carries the mean of 0 and 2, but does not stand between them.
 const BESIDE: Carrying = (&[C.0[0], C.0[1], C.0[2], C.0[3], [4, 5, -2, 2]], CASE_2.1);
 /// Node 1 is out of range by its correction, node 2 by its place, node 3 by both.
@@ -175,13 +204,14 @@ const OTHER_LOWER: Carrying = (ALIKE.0, &[[3, 4, 5], [0, 1, 2]]);
 const LARGER: Carrying = (&[ALIKE.0[0], ALIKE.0[1], ALIKE.0[2], [0, 0, -9, 9], [16, 0, -9, 9], [0, 16, -9, 9]], ALIKE.1);
 const INSIDE: Carrying = (&[ALIKE.0[0], ALIKE.0[1], ALIKE.0[2], [2, 2, -9, 9], [12, 2, -9, 9], [2, 12, -9, 9]], ALIKE.1);
 
-/// The supplier's mesh: a square whose half is cut at the middle node, and the other half is not. Then its row 0 refined, and cut in four.
+/// The supplier's mesh: a square whose half is cut at the middle node, and the other half is not. Then its row 0 refined, cut in four, and cut red.
 const CRACKED: Mesh = (CASE_2.0, &[[1, 2, 0], [4, 3, 0], [4, 2, 3]]);
 const CRACKED_REFINED: Mesh = (&[(0, 0), (8, 0), (8, 8), (0, 8), (4, 4), (4, 4)], &[[5, 1, 2], [4, 3, 0], [4, 2, 3], [5, 0, 1]]);
 const CRACKED_QUARTERED: Mesh = (
     &[(0, 0), (8, 0), (8, 8), (0, 8), (4, 4), (4, 4), (8, 4), (4, 0)],
     &[[6, 5, 1], [4, 3, 0], [4, 2, 3], [7, 5, 0], [6, 2, 5], [7, 1, 5]],
 );
+const CRACKED_RED: Mesh = (CRACKED_QUARTERED.0, &[[1, 6, 7], [4, 3, 0], [4, 2, 3], [6, 2, 5], [7, 5, 0], [5, 7, 6]]);
 /// It carries what Q does, and (9, -9) in the middle; and then another value there.
 const CRACKED_CARRYING: Carrying = (&[Q.0[0], Q.0[1], Q.0[2], Q.0[3], [4, 4, 9, -9]], CRACKED.1);
 const CRACKED_SET: Carrying = (&[Q.0[0], Q.0[1], Q.0[2], Q.0[3], [4, 4, 5, -6]], CRACKED.1);
@@ -196,7 +226,7 @@ const STARRED: Mesh = (&[(0, 2), (6, 2), (3, 8), (3, 0), (6, 6), (0, 6)], &[[0, 
 /// Two triangles with nodes of their own.
 const TWO: &[[u32; 3]] = &[[0, 1, 2], [3, 4, 5]];
 
-/// A call, what it is given, and what 01, W1, W2 or W5 to W7 says of it.
+/// A call, what it is given, and what 01, W1, W2 or W5 to W8 says of it.
 struct Case {
     name: &'static str,
     given: Tables,
@@ -205,6 +235,7 @@ struct Case {
     after: Held,
     passes: usize,
     told: [i32; 2],
+    red: u32,
     culprit: usize,
 }
 
@@ -237,17 +268,22 @@ fn lent(mesh: impl Into<Held>, nc: usize, tc: usize) -> Tables {
 
 /// A call that is done and leaves this mesh.
 fn done(name: &'static str, given: impl Into<Held>, call: Call, after: impl Into<Held>, passes: usize) -> Case {
-    Case { name, given: lent(given, 20, 30), call, number: 0, after: after.into(), passes, told: [0, 0], culprit: 0 }
+    Case { name, given: lent(given, 20, 30), call, number: 0, after: after.into(), passes, told: [0, 0], red: 0, culprit: 0 }
+}
+
+/// A call that makes a red cut and leaves this mesh.
+fn cut_red(name: &'static str, given: impl Into<Held>, call: Call, after: impl Into<Held>) -> Case {
+    Case { red: 1, ..done(name, given, call, after, 0) }
 }
 
 /// A call that is refused and names nobody.
 fn refused(name: &'static str, given: Tables, call: Call, number: u32) -> Case {
-    Case { name, given, call, number, after: EMPTY.into(), passes: 0, told: [0, 0], culprit: 0 }
+    Case { name, given, call, number, after: EMPTY.into(), passes: 0, told: [0, 0], red: 0, culprit: 0 }
 }
 
 /// A question about a point that is answered.
 fn asked(name: &'static str, given: Tables, n0: usize, point: [i32; 2], told: [i32; 2]) -> Case {
-    Case { name, given, call: Call::Ask(n0, point), number: 0, after: EMPTY.into(), passes: 0, told, culprit: 0 }
+    Case { name, given, call: Call::Ask(n0, point), number: 0, after: EMPTY.into(), passes: 0, told, red: 0, culprit: 0 }
 }
 
 /// Marks: 1 at the places listed, 0 elsewhere.
@@ -261,6 +297,10 @@ fn refine(mesh: Mesh, n0: usize, listed: &[usize]) -> Call {
 
 fn quarter(mesh: Mesh, n0: usize, listed: &[usize]) -> Call {
     Call::Quarter(n0, marks(mesh.1.len(), listed))
+}
+
+fn refine_red(mesh: Mesh, n0: usize, listed: &[usize]) -> Call {
+    Call::Red(n0, marks(mesh.1.len(), listed))
 }
 
 fn coarsen(mesh: Mesh, n0: usize, listed: &[usize]) -> Call {
@@ -323,6 +363,34 @@ fn quarter_meshes() -> Vec<Case> {
         done("one triangle, case 12's midpoint", ENDS, quarter(ENDS, 3, &[0]), ENDS_QUARTERED, 0),
         done("odd sides, refine", ODD_SIDES, refine(ODD_SIDES, 3, &[0]), ODD_SIDES_REFINED, 0),
         Case { given: lent(S, 7, 6), ..done("the rooms are just enough, quarter", S, quarter(S, 4, &[0]), QUARTERED, 0) },
+    ]
+}
+
+/// Request W8: start and close as in W1, but a row with all three edges split is cut red. The field is 1 where one is.
+fn red_meshes() -> Vec<Case> {
+    vec![
+        cut_red("W8, one triangle", ENDS, refine_red(ENDS, 3, &[0]), ENDS_RED),
+        cut_red("W8, S, row 0", S, refine_red(S, 4, &[0]), RED),
+        cut_red("W8, S, both rows", S, refine_red(S, 4, &[0, 1]), BOTH_RED),
+        cut_red("W8, two neighbours", WINGED, refine_red(WINGED, 5, &[0]), WINGED_RED),
+        cut_red("W8, a neighbour with two split edges", WINGED, refine_red(WINGED, 5, &[1]), WING_RED),
+        cut_red("W8, a row that is not marked", WINGED, refine_red(WINGED, 5, &[1, 2]), WINGS_RED),
+        cut_red("W8, all three marked", WINGED, refine_red(WINGED, 5, &[0, 1, 2]), WINGS_RED),
+        cut_red("W8, past one ring", CHAIN, refine_red(CHAIN, 9, &[6]), CHAIN_RED),
+        cut_red("W8, with corrections", C, Call::Red(4, marks(2, &[0])), C_RED),
+        cut_red("W8, cracked", CRACKED, refine_red(CRACKED, 4, &[0]), CRACKED_RED),
+        Case { given: lent(S, 7, 6), ..cut_red("W8, the rooms are just enough", S, refine_red(S, 4, &[0]), RED) },
+        done("W8, no marks", S, refine_red(S, 4, &[]), S, 0),
+        done("W8, no marks, after a red cut", RED, refine_red(RED, 4, &[]), RED, 0),
+        done("W8, the empty mesh", EMPTY, Call::Red(0, vec![]), EMPTY, 0),
+        done("W8, odd edges, unmarked", SMALL, refine_red(SMALL, 3, &[]), SMALL, 0),
+        done("W8, compatible", BOTH_RED, Call::Check, BOTH_RED, 0),
+        refused("W8, not compatible", lent(RED, 20, 30), Call::Check, 10),
+        done("W8, restore leaves the red cut", RED, Call::Restore(4), RED, 0),
+        done("W8, restore leaves both", BOTH_RED, Call::Restore(4), BOTH_RED, 0),
+        done("W8, restore leaves the winged row's", WINGED_RED, Call::Restore(5), WINGED_RED, 0),
+        done("W8, then refined", RED, refine(RED, 4, &[0]), RED_REFINED, 0),
+        done("W8, restore back to the red cut", RED_REFINED, Call::Restore(4), RED, 1),
     ]
 }
 
@@ -486,10 +554,14 @@ fn number_2() -> Vec<Case> {
         refused("2, quarter, one mark short", s(), Call::Quarter(4, vec![1]), 2),
         refused("2, quarter, one mark more", s(), Call::Quarter(4, vec![1, 0, 0]), 2),
         refused("2, quarter, a byte of 2", s(), Call::Quarter(4, vec![0, 2]), 2),
+        refused("2, refine_red, one mark short", s(), Call::Red(4, vec![1]), 2),
+        refused("2, refine_red, one mark more", s(), Call::Red(4, vec![1, 0, 0]), 2),
+        refused("2, refine_red, a byte of 2", s(), Call::Red(4, vec![1, 2]), 2),
         refused("2, coarsen, a mark a row", s(), Call::Coarsen(4, vec![0, 0]), 2),
         refused("2, coarsen, a byte of 255", s(), Call::Coarsen(4, vec![0, 0, 0, 255]), 2),
         refused("2 before 4, refine", lent(MISNAMED, 20, 30), Call::Refine(4, vec![1]), 2),
         refused("2 before 4, quarter", lent(MISNAMED, 20, 30), Call::Quarter(4, vec![2, 0, 0]), 2),
+        refused("2 before 4, refine_red", lent(MISNAMED, 20, 30), Call::Red(4, vec![1, 2, 0]), 2),
         refused("2 before 4, coarsen", lent(MISNAMED, 20, 30), Call::Coarsen(4, vec![]), 2),
     ]
 }
@@ -509,6 +581,11 @@ fn numbers_8_to_10() -> Vec<Case> {
         refused("9, room for a refine, not for a quarter", lent(S, 5, 4), quarter(S, 4, &[0]), 9),
         refused("9, room for two nodes of three", lent(S, 6, 6), quarter(S, 4, &[0]), 9),
         refused("9, room for three rows of four", lent(S, 7, 5), quarter(S, 4, &[0]), 9),
+        refused("8, refine_red, by the sides alone", lent(ODD_SIDES, 20, 30), refine_red(ODD_SIDES, 3, &[0]), 8),
+        refused("8, refine_red, by an edge drawn in", lent(ODD_NEIGHBOUR, 20, 30), refine_red(ODD_NEIGHBOUR, 4, &[0]), 8),
+        refused("8 before 9, refine_red", lent(ODD_SIDES, 3, 1), refine_red(ODD_SIDES, 3, &[0]), 8),
+        refused("9, refine_red, room for two nodes of three", lent(S, 6, 6), refine_red(S, 4, &[0]), 9),
+        refused("9, refine_red, room for three rows of four", lent(S, 7, 5), refine_red(S, 4, &[0]), 9),
     ]
 }
 
@@ -579,7 +656,8 @@ fn taken_as_before() -> Vec<Case> {
     ];
     for (name, mesh) in [("W7, doubled", DOUBLED), ("W7, across", ACROSS), ("W7, starred", STARRED)] {
         let n0 = mesh.0.len();
-        let calls = [refine(mesh, n0, &[]), quarter(mesh, n0, &[]), full_pass(mesh, n0), Call::Restore(n0), Call::Set(0, 0, [0, 0])];
+        let marked = [refine(mesh, n0, &[]), quarter(mesh, n0, &[]), refine_red(mesh, n0, &[]), full_pass(mesh, n0)];
+        let calls = marked.into_iter().chain([Call::Restore(n0), Call::Set(0, 0, [0, 0])]);
         all.extend(calls.map(|call| done(name, mesh, call, mesh, 0)));
         all.push(asked(name, lent(mesh, 20, 30), n0, [3, 3], [0, 0]));
     }
@@ -589,7 +667,7 @@ fn taken_as_before() -> Vec<Case> {
 /// Every call but the check takes n0; all answer 3 to 7 alike, and name the same culprit: a question too, be the point in a row or outside.
 fn by_all_calls(name: &'static str, given: Tables, number: u32, culprit: usize) -> Vec<Case> {
     let (nodes, rows) = (vec![0; given.n], vec![0; given.t]);
-    let marked = [Call::Refine(0, rows.clone()), Call::Quarter(0, rows), Call::Coarsen(0, nodes)];
+    let marked = [Call::Refine(0, rows.clone()), Call::Quarter(0, rows.clone()), Call::Red(0, vec![1; rows.len()]), Call::Coarsen(0, nodes)];
     let others = [Call::Check, Call::Restore(0), Call::Set(0, 0, [1, -1]), Call::Ask(0, [4, 2]), Call::Ask(0, [i32::MIN, i32::MAX])];
     marked.into_iter().chain(others).map(|call| Case { culprit, ..refused(name, given.clone(), call, number) }).collect()
 }
@@ -681,7 +759,7 @@ fn number_1() -> Vec<Case> {
         ("1 before 4", |g| (g.rows[5], g.scratch) = (4, vec![])),
     ];
     let with = |n0: usize| {
-        let marked = [refine(S, n0, &[0]), quarter(S, n0, &[0]), full_pass(S, n0)];
+        let marked = [refine(S, n0, &[0]), quarter(S, n0, &[0]), refine_red(S, n0, &[0]), full_pass(S, n0)];
         marked.into_iter().chain([Call::Restore(n0), Call::Set(n0, 4, [40000, 0]), Call::Ask(n0, [4, 2]), Call::Ask(n0, [9, 2])])
     };
     let mut all: Vec<Case> = with(5).map(|call| refused("1, n0 above n", lent(S, 20, 30), call, 1)).collect();
@@ -760,7 +838,7 @@ fn expected(case: &Case) -> (Answer, Tables) {
         _ => given.clone(),
     };
     after.scratch = vec![0; given.scratch.len()];
-    (Answer { number: case.number, n: after.n, t: after.t, passes: case.passes, told: case.told, culprit: case.culprit }, after)
+    (Answer { number: case.number, n: after.n, t: after.t, passes: case.passes, told: case.told, red: case.red, culprit: case.culprit }, after)
 }
 
 /// Runs the case; says what is wrong, if anything.
@@ -776,10 +854,11 @@ fn fault(case: &Case, by: fn(&Call, &mut Tables) -> Answer) -> Option<String> {
 }
 
 fn main() {
-    let done = [hand_meshes(), quarter_meshes(), range_ends(), corrections(), means(), questions(), largest_questions(), touching(), taken_as_before()];
+    let refined = [hand_meshes(), quarter_meshes(), red_meshes(), range_ends(), corrections(), means()];
+    let others = [questions(), largest_questions(), touching(), taken_as_before()];
     let unlawful = [number_1(), number_2(), numbers_3_to_7(), lowest_culprits(), last_culprits(), stored_out()];
     let refused = [numbers_8_to_10(), numbers_11_and_12(), settings_refused(), number_14()];
-    let cases: Vec<Case> = done.into_iter().chain(unlawful).chain(refused).flatten().collect();
+    let cases: Vec<Case> = refined.into_iter().chain(others).chain(unlawful).chain(refused).flatten().collect();
     let faults: Vec<String> = cases.iter().flat_map(|c| [fault(c, proved), fault(c, wrapped), fault(c, other)]).flatten().collect();
     for f in &faults {
         println!("hand: {f}");

@@ -1,11 +1,11 @@
 //! Drives the proved library and the rival with meshes made to be hard for a search of neighbours: fans round any node, double fans, dense
 //! meshes and shuffled grids, as they are, grown, spoilt, with a node doubled or a triangle in another, and in tables of odd lengths. Each goes through
-//! all seven calls; answers and every table entry are compared. Usage: hard COUNT [SEED]. A run in which a kind of mesh never met one of the outcomes
+//! all eight calls; answers and every table entry are compared. Usage: hard COUNT [SEED]. A run in which a kind of mesh never met one of the outcomes
 //! below fails too: it is to be longer.
 use compare::meshes::{dense, double_fan, fan, ladder, shuffled, Mesh};
 use compare::{agreed, made, rival, Call};
-use rival::calls::{quarter, refine, Tables};
-use rival::random::{correction, grid, lend, point, Dice};
+use rival::calls::Tables;
+use rival::random::{any_way, correction, grid, lend, point, Dice};
 use std::collections::{BTreeMap, HashSet};
 
 const SHAPES: [&str; 4] = ["fans", "double fans", "dense meshes", "grids"];
@@ -36,10 +36,11 @@ enum State {
 
 /// The calls, and the outcomes that each must have met with every shape: "changed" is 0 with other counts than before, "5 far" names a row whose
 /// edge another holds that stands 500 rows lower or more, "held" is a restore that leaves more nodes since a row holds a split edge.
-const OUTCOMES: [(&str, &[&str]); 7] = [
+const OUTCOMES: [(&str, &[&str]); 8] = [
     ("check", &["0", "1", "5", "5 far", "10", "11", "12"]),
     ("refine", &["changed", "1", "5", "5 far", "9"]),
     ("quarter", &["changed", "1", "5", "5 far", "9"]),
+    ("refine_red", &["changed", "1", "5", "5 far", "9"]),
     ("coarsen", &["changed", "1", "5", "5 far"]),
     ("restore", &["changed", "held", "1", "5", "5 far"]),
     ("set_correction", &["0", "1", "5", "5 far", "13", "15"]),
@@ -143,13 +144,12 @@ fn marks(d: &mut Dice, count: usize) -> Vec<u8> {
     (0..count).map(|_| d.once_in(every) as u8).collect()
 }
 
-/// Some refinements of the rival's, of either way.
+/// Some refinements of the rival's, of any way.
 fn grow(d: &mut Dice, g: &mut Tables) {
     let n0 = g.n;
     for _ in 0..3 {
         let marks = marks(d, g.t);
-        let by = if d.once_in(2) { quarter } else { refine };
-        by(g, n0, &marks);
+        any_way(d)(g, n0, &marks);
     }
     g.scratch.iter_mut().for_each(|s| *s = d.below(9) as u32);
 }
@@ -221,13 +221,14 @@ fn spoil(d: &mut Dice, g: &mut Tables, state: State) -> Option<(usize, usize)> {
     }
 }
 
-/// The seven calls, with the base's node count or, once in four, any.
-fn calls(d: &mut Dice, g: &Tables, base: usize) -> [Call; 7] {
+/// The eight calls, with the base's node count or, once in four, any.
+fn calls(d: &mut Dice, g: &Tables, base: usize) -> [Call; 8] {
     let n0 = if d.once_in(4) { d.below(g.n + 1) } else { base };
-    let (rows, more_rows, nodes) = (marks(d, g.t), marks(d, g.t), marks(d, g.n));
+    let ([rows, more_rows, red_rows], nodes) = ([0; 3].map(|_| marks(d, g.t)), marks(d, g.n));
     let node = [d.below(g.n), n0 + d.below(g.n - n0), g.n][d.below(3)];
     let (set, ask) = (Call::Set(n0, node, correction(d)), Call::Ask(n0, point(d, g)));
-    [Call::Check, Call::Refine(n0, rows), Call::Quarter(n0, more_rows), Call::Coarsen(n0, nodes), Call::Restore(n0), set, ask]
+    let (refine, quarter, red) = (Call::Refine(n0, rows), Call::Quarter(n0, more_rows), Call::Red(n0, red_rows));
+    [Call::Check, refine, quarter, red, Call::Coarsen(n0, nodes), Call::Restore(n0), set, ask]
 }
 
 /// What the check may say of a lawful mesh of this shape in this state. A row that holds a split edge has the node strictly inside; a triangle in a row
@@ -244,7 +245,7 @@ fn checked_as(shape: &str, state: State) -> &'static [u32] {
     }
 }
 
-/// One mesh through all seven calls; what they say is held against what was done to the mesh, and counted.
+/// One mesh through all eight calls; what they say is held against what was done to the mesh, and counted.
 fn compare_one(seed: u64, seen: &mut BTreeMap<(&str, &str, String), u64>) {
     let mut d = Dice::new(seed);
     let shape = SHAPES[seed as usize % SHAPES.len()];
@@ -299,5 +300,5 @@ fn main() {
         std::process::exit(1);
     }
     let fives: u64 = seen.iter().filter(|((_, _, outcome), _)| outcome == "5").map(|(_, times)| times).sum();
-    println!("hard: {count} meshes from seed {first}, {} calls agree, {fives} of them said 5 and named the row; every outcome was met", 7 * count);
+    println!("hard: {count} meshes from seed {first}, {} calls agree, {fives} of them said 5 and named the row; every outcome was met", 8 * count);
 }

@@ -95,13 +95,14 @@ fn asked(name: &str, row: fn(&Tables) -> Option<usize>, n: usize) -> Case {
 fn copied(one: &Case, count: usize) -> Case {
     let n0 = match one.call {
         Call::Check => 0,
-        Call::Refine(n0, _) | Call::Quarter(n0, _) | Call::Coarsen(n0, _) | Call::Restore(n0) | Call::Set(n0, ..) | Call::Ask(n0, _) => n0,
+        Call::Refine(n0, _) | Call::Quarter(n0, _) | Call::Red(n0, _) | Call::Coarsen(n0, _) | Call::Restore(n0) | Call::Set(n0, ..) | Call::Ask(n0, _) => n0,
     };
     let given = copies(&one.given, n0, count);
     let call = match &one.call {
         Call::Check => Call::Check,
         Call::Refine(_, marks) => Call::Refine(n0 * count, marks.repeat(count)),
         Call::Quarter(_, marks) => Call::Quarter(n0 * count, marks.repeat(count)),
+        Call::Red(_, marks) => Call::Red(n0 * count, marks.repeat(count)),
         Call::Coarsen(_, marks) => Call::Coarsen(n0 * count, marks.repeat(count)),
         Call::Restore(_) => Call::Restore(n0 * count),
         // the first copy's node
@@ -115,13 +116,14 @@ fn copied(one: &Case, count: usize) -> Case {
     all
 }
 
-/// Every call in its family: a grid is checked, and asked about points; a square that was grown is refined, cut in four, coarsened and restored,
+/// Every call in its family: a grid is checked, and asked about points; a square that was grown is refined in the three ways, coarsened and restored,
 /// and a node of it is set.
 fn families() -> Vec<Case> {
-    let families: [fn(usize) -> Case; 9] = [
+    let families: [fn(usize) -> Case; 10] = [
         checked,
         |n| added("refine", Call::Refine, 3, n),
         |n| added("quarter", Call::Quarter, 9, n),
+        |n| added("refine_red", Call::Red, 9, n),
         |n| case("one full pass", Call::Coarsen(4, vec![1; n]), grown(n)),
         |n| case("restore", Call::Restore(4), grown(n)),
         |n| case("set_correction", Call::Set(4, n - 1, [-3, 5]), grown(n)),

@@ -1,7 +1,7 @@
 //! The words of the Rust wrapper: for every number and some culprits; and of a call that draws each refusal. tests/words/words.out has what
 //! is written.
 use spoutbeetle::reader::{State, OUT, PIECE};
-use spoutbeetle::{check, coarsen, correction_at, quarter, refine, restore, set_correction, Answer, Node, Refusal, Tables};
+use spoutbeetle::{check, coarsen, correction_at, quarter, refine, refine_red, restore, set_correction, Answer, Node, Refusal, Tables};
 
 /// The tables of a mesh, to be spoilt.
 struct Sheet {
@@ -32,7 +32,7 @@ type Spoil = fn(&mut Sheet);
 type Made = fn(Tables) -> Result<Answer, Refusal>;
 
 /// A call for each number, on the square spoilt in one way.
-const CALLS: [(&str, Spoil, Made); 19] = [
+const CALLS: [(&str, Spoil, Made); 20] = [
     ("check, the square", |_| (), check),
     ("check, scratch a number short", |g| g.scratch.truncate(4 * (16 + 32) - 1), check),
     ("refine, a mark for one row of two", |_| (), |g| refine(g, 4, &[1])),
@@ -46,6 +46,7 @@ const CALLS: [(&str, Spoil, Made); 19] = [
     ("restore, nodes 4 and 5 more", |g| g.n = 6, |g| restore(g, 4)),
     ("refine, an edge of odd height", |g| g.nodes[2].y = 7, |g| refine(g, 4, &[1, 0])),
     ("quarter, room for four nodes", |g| g.nodes.truncate(4), |g| quarter(g, 4, &[1, 0])),
+    ("refine_red, room for five rows", |g| g.rows.truncate(15), |g| refine_red(g, 4, &[1, 0])),
     ("check, row 1 turned", |g| (g.rows[3], g.rows[4], g.rows[5]) = (0, 2, 3), check),
     ("check, row 1 alone cut at the middle of 0-2", |g| add(g, &[(4, 4)], 1, &[4, 3, 0, 4, 2, 3]), check),
     ("check, a triangle over both rows", |g| add(g, &[(3, 1), (5, 3), (2, 4)], 2, &[4, 5, 6]), check),

@@ -1,4 +1,4 @@
--- All rows cut are the rows of document 01's refined mesh, where the notes say its numbers; and their count. Assumes nothing.
+-- All rows cut are the rows of the refined mesh, where the notes say its numbers; and their count. Assumes nothing.
 use mathlib.Core.Bool.{Bool, true, false, _&&_}
 use mathlib.Core.Path.{_≡_, refl, sym, ap, _∙_}
 use mathlib.Core.List.{List, [], _∷_, _++_, map, append-nil}

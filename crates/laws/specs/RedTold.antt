@@ -161,11 +161,14 @@ done-else-0 : (k r : ℕ) → (r ≢ 1 → r ≡ 0) → ifDone k r ≢ 1 → ifD
 done-else-0 zero r f n = f n
 done-else-0 (suc k) r f n = refl
 
+-- what a call leaves but for the field
+pub but-for-the-field : (k : Manner) (q : Quarters) (g : Given) (n0 : ℕ) (marks : List ℕ) (x : TintedOut) → x ≡ refineByOut k q g n0 marks → x .outcome ≡ refineOut (wayOf k q) g n0 marks
+unfolding refineByOut
+but-for-the-field k q g n0 marks x e = ap (λ (y : TintedOut). y .outcome) e
+
 module _ (g : Given) (n0 : ℕ) (marks : List ℕ) (x : TintedOut) (made : x ≡ redOut g n0 marks) where
-  -- what the call leaves but for the field
   pub red-outcome : x .outcome ≡ refineOut inRed g n0 marks
-  unfolding refineByOut
-  red-outcome = ap (λ (y : TintedOut). y .outcome) made
+  red-outcome = but-for-the-field AllThree Red g n0 marks x made
 
   abbrev cuts : ℕ
   cuts = redMade Red (toSplit inRed (meshOf g) marks) (meshOf g .tris)

@@ -96,7 +96,7 @@ carried q nodes rows s n t n1 =
     (filled (pos 0) (length nodes) (flatNodes (items (nodeAt (iter (placeRow n rows s) 0 t nodes)) 0 n1)))
     (filled 0 (length rows) (flatRows (cutAll (items (cutAt q n rows s) 0 t))))
 
--- carried out, it is document 01's refined mesh
+-- carried out, it is the refined mesh
 pub record Planned (how : Manner) (q : Quarters) (nodes : List ℤ) (rows s marks : List ℕ) (n t n1 t1 x : ℕ) : Type 0 where
   pub carry : Carry q nodes rows s n t n1 t1
   pub nodes-are : items (nodeAt (iter (placeRow n rows s) 0 t nodes)) 0 n1 ≡ afterIn how q nodes rows marks n t .nodes

@@ -32,6 +32,7 @@ use Rattle.neighbours.specs.Ready.{Ready}
 use Rattle.notes.specs.Notes.{noteAt}
 use Rattle.notes.specs.Met.{after}
 use Rattle.laws.specs.Meshes.{Standing, meshAt, row-stands}
+use Rattle.laws.specs.RedTold.{but-for-the-field}
 use Rattle.nodes.specs.Nodes.{oddAt, placeRow}
 use Rattle.nodes.specs.OddLaw.{odd-found}
 use Rattle.nodes.specs.PlacedLaw.{placed-mesh, rooms}
@@ -295,10 +296,9 @@ module _ (how : Manner) (q : Quarters) (nodes : List ℤ) (rows s marks : List �
         ∙ refine-out)
         (rw h (d′ .red-is))
 
--- what the call leaves but for its field
+-- `but-for-the-field`, as calls need it
 pub plainly : (how : Manner) (q : Quarters) (g : Given) (n0 : ℕ) (marks : List ℕ) (o : Outcome) (x : ℕ) → tinted o x ≡ refineByOut how q g n0 marks → o ≡ refineOut (wayOf how q) g n0 marks
-unfolding refineByOut
-plainly how q g n0 marks o x e = ap (λ (y : TintedOut). y .outcome) e
+plainly how q g n0 marks o x = but-for-the-field how q g n0 marks (tinted o x)
 
 -- scratch before the call does not matter, but for its length
 module _ (how : Manner) (q : Quarters) (nodes a : List ℤ) (rows b s s₁ s₂ marks : List ℕ) (n0 n t len : ℕ) where

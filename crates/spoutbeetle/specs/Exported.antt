@@ -12,7 +12,8 @@ use Rattle.meaning.specs.declared.Told.{Told}
 use Rattle.meaning.specs.Mesh.{place, correction}
 use Rattle.meaning.specs.Split.{Way, inRed}
 use Rattle.meaning.specs.Tables.{Given, Outcome, outcome, answer}
-use Rattle.meaning.specs.Calls.{checkOut, refineOut, TintedOut, tinted, refineByOut, redOut, coarsenOut, setOut, toldAs, heard, askOut}
+use Rattle.meaning.specs.Calls.{checkOut, refineOut, tinted, redOut, coarsenOut, setOut, toldAs, heard, askOut}
+use Rattle.laws.specs.RedTold.{red-outcome}
 use Rattle.laws.specs.CallLaw.{AsGiven, check-leaves, refine-no-passes, coarsen-no-passes, set-no-passes, set-counts}
 use Rattle.text.specs.Writing.{wrote}
 use Rattle.reader.specs.declared.Took.{Took}
@@ -41,8 +42,10 @@ module _ (a : Answer) (nodes : List ℤ) (rows scratch : List ℕ) where
   -- W8: the new field r stands beside
   pub red-answer : (r : ℕ) (marks : List ℕ) (g : Given) (n0 : ℕ) → tinted (outcome a nodes rows scratch) r ≡ redOut g n0 marks →
       tinted (outcome (answer (a .number) (a .n) (a .t) 0 (a .culprit)) nodes rows scratch) r ≡ redOut g n0 marks
-  unfolding refineByOut
-  red-answer r marks g n0 e = ap (λ (o : Outcome). tinted o r) (no-passes-shown (ap (λ (x : TintedOut). x .outcome .answer .passes) e ∙ refine-no-passes inRed g n0 marks)) ∙ e
+  red-answer r marks g n0 e =
+      ap (λ (o : Outcome). tinted o r)
+      (no-passes-shown (ap (λ (o : Outcome). o .answer .passes) (red-outcome g n0 marks (tinted (outcome a nodes rows scratch) r) e) ∙ refine-no-passes inRed g n0 marks))
+      ∙ e
 
   pub coarsen-answer : (marks : List ℕ) (g : Given) (n0 : ℕ) → outcome a nodes rows scratch ≡ coarsenOut g n0 marks →
       outcome (answer (a .number) (a .n) (a .t) 0 (a .culprit)) nodes rows scratch ≡ coarsenOut g n0 marks

@@ -29,10 +29,10 @@ check-empty : check_no (mesh [] []) ≡ 0
 unfolding lowest lowest_from first_crowded first_overlap first_clash uncrowded disjoint compatible check_no
 check-empty = rw (lawful-refusal (mesh [] []) empty-lawful)
 
-module _ (g : Given) (no__node : g.n ≡ 0) (no_row : g.t ≡ 0) where
+module _ (g : Given) (no_node : g.n ≡ 0) (no_row : g.t ≡ 0) where
   mesh-empty : mesh_of g ≡ mesh [] []
   unfolding mesh_of items items_from
-  mesh-empty = rw (no__node, no_row)
+  mesh-empty = rw (no_node, no_row)
 
   pub check-of-empty : Sizes g 0 → (check_out g).answer.number ≡ 0
   check-of-empty s = (check-leaves g).check-number ∙ rw ((sizes-exact g 0).1 s, mesh-empty) check-empty

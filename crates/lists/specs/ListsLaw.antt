@@ -73,6 +73,7 @@ module _ {A : Type 0} where
 
   pub All-at : {P : A → Type 0} {x : A} {l : List A} → All P l → Memᴰ x l → P x
   All-at {P} (cons h hs) (Memᴰ.head e) = subst⁻¹ P e h
+  All-at {P = P} nil x4 = elim x4 [ ]
   All-at (cons h hs) (Memᴰ.tail i) = All-at hs i
 
   pub All-of : {P : A → Type 0} (l : List A) → ((x : A) → Memᴰ x l → P x) → All P l

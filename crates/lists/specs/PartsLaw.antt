@@ -20,6 +20,7 @@ module _ {A : Type 0} (f : A → Bool) where
   only-append (x ∷ xs) ys = ap (cons_if (f x) x) (only-append xs ys) ∙ cons_if-append (f x) x (only f xs) (only f ys)
 
   pub in-only : {x : A} (l : List A) → Memᴰ x (only f l) → Memᴰ x l × (f x ≡ true)
+  in-only {x = x} [] i = elim i [ ]
   in-only {x} (y ∷ ys) i = go (f y) refl i (in-only ys)
     where
       go : (b : Bool) → f y ≡ b → Memᴰ x (cons_if b y (only f ys)) → (Memᴰ x (only f ys) → Memᴰ x ys × (f x ≡ true)) → Memᴰ x (y ∷ ys) × (f x ≡ true)
@@ -40,6 +41,7 @@ module _ {A : Type 0} (f : A → Bool) where
 
 module _ {A B : Type 0} (f : A → List B) where
   pub in-joined : {y : B} (l : List A) → Memᴰ y (joined f l) → (x : A) × Memᴰ x l × Memᴰ y (f x)
+  in-joined {y = y} [] i = elim i [ ]
   in-joined {y} (z ∷ zs) i = go (f z) refl i (in-joined zs)
     where
       go : (xs : List B) → f z ≡ xs → Memᴰ y (xs ++ joined f zs) → (Memᴰ y (joined f zs) → (x : A) × Memᴰ x zs × Memᴰ y (f x)) → (x : A) × Memᴰ x (z ∷ zs) × Memᴰ y (f x)

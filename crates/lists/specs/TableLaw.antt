@@ -2,7 +2,7 @@
 -- read is written back; lengths. Assumes nothing.
 use Rattle.std.specs.Prelude.{◌≡◌, ◌≢◌, set, take, drop, replicate}
 use Rattle.std.proofs.Math.Path.{refl}
-use Rattle.std.proofs.Common.{sym, ap, ap₂, ◌∙◌, mul-zero, mul-suc, mul-le-mul_left, length-append, get_or-set_other, get_or-append-add, drop-cons, take-add, length-take-le}
+use Rattle.std.proofs.Common.{sym, ap, ap₂, ◌∙◌, mul-zero, mul-suc, mul-le-mul_left, length-append, get_or-set_other, get_or-append-add, drop-cons, take-add, length-take-le, subst}
 use mathlib.Core.List.{List, [], ◌∷◌, ◌++◌, append_assoc, append-nil}
 use Prim.Native.Nat.{ℕ, zero, suc, ◌+◌, ◌-◌, ◌*◌, ◌≤◌, ◌<◌}
 use Rattle.std.proofs.Math.Numerals.{add-one}
@@ -70,15 +70,15 @@ numbers_apart w j k i i' o a b e = go (ℕ_discrete (j - k) 0)
 module _ {A R : Type 0} (F : Form A R) (S : Faithful F) where
   fields-length : (r : R) → length (F.fields r) ≡ F.width
   fields-length r =
-      ap (λ (x : R). length (F.fields x)) (sym (S.from__fields r [])) ∙ ap length (S.fields-from (λ n. get_or (F.fields r ++ []) n F.blank) 0)
+      ap (λ (x : R). length (F.fields x)) (sym (S.from_fields r [])) ∙ ap length (S.fields-from (λ n. get_or (F.fields r ++ []) n F.blank) 0)
       ∙ from-count (λ n. get_or (F.fields r ++ []) n F.blank) 0 F.width
 
   -- a record is its numbers
   from-same : (f g : ℕ → A) (a b : ℕ) → ((i : ℕ) → i < F.width → f (a + i) ≡ g (b + i)) → F.from f a ≡ F.from g b
   from-same f g a b h =
-      sym (S.from__fields (F.from f a) [])
+      sym (S.from_fields (F.from f a) [])
       ∙ ap (λ (l : List A). F.from (λ n. get_or (l ++ []) n F.blank) 0) (S.fields-from f a ∙ from-shifted f g a b F.width h ∙ sym (S.fields-from g b))
-      ∙ S.from__fields (F.from g b) []
+      ∙ S.from_fields (F.from g b) []
 
   pub form-table : Table F.width (read_at F) (write_at F)
   form-table = record {
@@ -89,7 +89,7 @@ module _ {A R : Type 0} (F : Form A R) (S : Faithful F) where
         (λ i b.
         (let z : 0 + i ≡ i = omega arith in
         rw (z, append-nil) (sets-here (F.fields r) l (F.width * k) i F.blank (omega arith) (omega arith))))
-        ∙ S.from__fields r []);
+        ∙ S.from_fields r []);
     other = λ l k j r o.
         from-same (λ n. get_or (write_at F l k r) n F.blank) (λ n. get_or l n F.blank) (F.width * j) (F.width * j)
         (λ i b. sets-other (F.fields r) l (F.width * k) (F.width * j + i) F.blank (λ i' c. numbers_apart F.width j k i i' o b (rw (fields-length r) at c)));
@@ -100,7 +100,7 @@ module _ {A R : Type 0} (F : Form A R) (S : Faithful F) where
   flatten-length (r ∷ rs) = omega (arith, length-append (F.fields r) (flatten F rs), fields-length r, flatten-length rs, mul-suc F.width (length rs))
 
   first-record : (r : R) (l : List A) → read_at F (F.fields r ++ l) 0 ≡ r
-  first-record r l = ap (F.from (λ n. get_or (F.fields r ++ l) n F.blank)) (mul-zero F.width) ∙ S.from__fields r l
+  first-record r l = ap (F.from (λ n. get_or (F.fields r ++ l) n F.blank)) (mul-zero F.width) ∙ S.from_fields r l
 
   next-record : (r : R) (l : List A) (j : ℕ) → read_at F (F.fields r ++ l) (1 + j) ≡ read_at F l (0 + j)
   next-record r l j =
@@ -117,7 +117,8 @@ module _ {A R : Type 0} (F : Form A R) (S : Faithful F) where
   unfolding items_from
   from-read [] more = refl
   from-read (r ∷ rs) more =
-      rw append_assoc
+      let e : flatten F (r ∷ rs) ++ more ≡ F.fields r ++ (flatten F rs ++ more) = append_assoc (F.fields r) (flatten F rs) more in
+      subst (λ (l : List A). items_from (read_at F l) 0 (length (r ∷ rs)) ≡ r ∷ rs) (sym e)
       (ap₂ ◌∷◌ (first-record r (flatten F rs ++ more))
       (from-shifted (read_at F (F.fields r ++ (flatten F rs ++ more))) (read_at F (flatten F rs ++ more)) 1 0 (length rs) (λ i l. next-record r (flatten F rs ++ more) i)
       ∙ from-read rs more))

@@ -1,4 +1,6 @@
 // Which lines are taken, and which refine. A line that is not taken answers `ff` and changes nothing.
+#![tactic(auto)]
+
 ghost use Rattle.std.specs.Prelude.{◌≡◌, ◌+◌, ◌*◌, ◌≤◌, ltb, length};
 ghost use Rattle.text.specs.Digits.{field, listed};
 ghost use Rattle.protocol.specs.Frames as f;

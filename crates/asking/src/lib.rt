@@ -1,4 +1,6 @@
 // W6: the correction at a point: the lowest row that holds it, and the mean of the corrections at its corners.
+#![tactic(auto)]
+
 ghost use Rattle.std.specs.Prelude.{◌≡◌, ℕ, ◌+◌, ◌*◌, ◌≤◌, ◌<◌, length, replicate};
 ghost use Rattle.lists.specs.Search.{lowest};
 ghost use Rattle.meaning.specs.Tables.{given, row_at};

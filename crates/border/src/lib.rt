@@ -1,1 +1,2 @@
 // What the border of a mesh alone says about points inside rows: see specs/.
+#![tactic(auto)]

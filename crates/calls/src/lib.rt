@@ -1,4 +1,6 @@
 // Frames 03 to 06, 08 to 0a: the calls. Numbers listed have four digits each.
+#![tactic(auto)]
+
 ghost use Rattle.std.specs.Prelude.{◌≡◌, true, ◌+◌, ◌*◌, ◌/◌, ◌≤◌, length};
 ghost use Rattle.lists.specs.Search.{iter};
 ghost use Rattle.meaning.specs.Tables.{given, outcome};

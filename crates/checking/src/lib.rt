@@ -1,4 +1,6 @@
 // What stands in the way of the base check: 1 to 7, then 11, 12 and 10.
+#![tactic(auto)]
+
 ghost use Rattle.std.specs.Prelude.{◌≡◌, [], ◌+◌, ◌*◌, ◌≤◌, length, replicate};
 ghost use Rattle.lists.specs.Search.{lowest};
 ghost use Rattle.meaning.specs.Tables.{given};

@@ -1,5 +1,7 @@
 // Which rows are split, as 1 in their notes: from each row with a starting edge on, the row across the refinement edge, as far as rows are
 // not split. So each split row costs one search, each marked row one look at its note, and each side that starts one search more.
+#![tactic(auto)]
+
 ghost use Rattle.std.specs.Prelude.{◌≡◌, ◌*◌, ◌≤◌, ◌<◌, length};
 ghost use Rattle.lists.specs.Search.{iter};
 ghost use Rattle.neighbours.specs.Ready.{Ready};

@@ -9,7 +9,7 @@ ghost use Rattle.columns.specs.Coords.{corners_of};
 use meaning::{Place, Tri};
 
 // What the three corners of a row have along an axis.
-#[derive(Drop)]
+#[derive(Clone, Copy)]
 pub struct Three {
     pub p: u32,
     pub q: u32,

@@ -5,7 +5,7 @@ ghost use Rattle.columns.specs.Coords.{Reaches};
 use crate::Scale;
 
 // The least and the greatest coordinate.
-#[derive(Drop)]
+#[derive(Clone, Copy)]
 pub struct Extent {
     pub least: u32,
     pub most: u32,

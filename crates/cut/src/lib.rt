@@ -1,5 +1,7 @@
 // Cutting: the rows of one triangle, and all rows of a table in place, from the last to the first. A row's midpoint that a lower row
 // numbered is looked up among the rows below, which are still whole.
+#![tactic(auto)]
+
 ghost use Rattle.std.specs.Prelude.{◌≡◌, ◌+◌, ◌-◌, ◌*◌, ◌≤◌, ◌<◌, length};
 ghost use Rattle.lists.specs.Search.{items, iter, lowest};
 ghost use Rattle.lists.specs.ItemsLaw.{sum_to};
@@ -13,7 +15,7 @@ use meaning::{Mids, Quarters, Tri};
 use notes::Note;
 
 // The rows that one triangle yields, and their number.
-#[derive(Drop)]
+#[derive(Clone, Copy)]
 struct Children {
     pub rows: [u32; 12],
     pub count: usize,

@@ -1,4 +1,6 @@
 // The line program of document 01: what one line does to the tables, and what it writes.
+#![tactic(auto)]
+
 ghost use Rattle.std.specs.Prelude.{◌≡◌, true, length};
 ghost use Rattle.protocol.specs.Frames as f;
 ghost use Rattle.fitting.specs.Lent as l;
@@ -8,7 +10,7 @@ use protocol::Session;
 use text::{read, write};
 
 // After a line: the session, and how many bytes were written.
-#[derive(Drop)]
+#[derive(Clone, Copy)]
 pub struct Answered {
     pub session: Session,
     pub written: usize,

@@ -4,6 +4,8 @@
 //   z          the new number of node z
 //   nc + z     the number of the pair b, c of node z where it goes, else 0
 //   2 nc + i   what becomes of row i: 0 it stays, 1 it goes, c + 2 it becomes (q, r, c)
+#![tactic(auto)]
+
 ghost use Rattle.std.specs.Prelude.{◌≡◌, ℕ, ◌+◌, ◌*◌, ◌/◌, ◌%◌, ◌≤◌, ◌<◌, pos, length, get_or, set, take, replicate};
 ghost use Rattle.lists.specs.Search.{items};
 ghost use Rattle.lists.specs.Loops.{noted, remaining};
@@ -288,7 +290,7 @@ fn close_nodes(nodes: &mut [i32], scratch: &[u32], nc: usize, n: usize) -> usize
 
 // ---- all of it
 
-#[derive(Drop)]
+#[derive(Clone, Copy)]
 pub struct Counts {
     pub n: usize,
     pub t: usize,

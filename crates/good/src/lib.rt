@@ -2,6 +2,8 @@
 //
 // Notes, with nc the room of nodes: at nc + z twice the number of the pair b, c of node z (0 where it does not meet G1 to G4, or is a
 // base node), and 1 more where it is good. Below nc and from 2 nc on stand the rows round each node, later the nodes of one bucket.
+#![tactic(auto)]
+
 mod rival;
 mod sign;
 

@@ -1,4 +1,6 @@
 // Restore: full passes while a node goes. It rests on what coarsen promises.
+#![tactic(auto)]
+
 ghost use Rattle.std.specs.Prelude.{◌≡◌, min, replicate};
 ghost use Rattle.meaning.specs.Tables.{given, outcome, most_nodes};
 ghost use Rattle.meaning.specs.Calls.{coarsen_out, restore_out};

@@ -1,4 +1,6 @@
 // What every call judges first, before a node or a row is written: 1, then 2, then 3 to 7.
+#![tactic(auto)]
+
 ghost use Rattle.std.specs.Prelude.{◌≡◌, length, replicate};
 ghost use Rattle.meaning.specs.Tables.{given, answer};
 ghost use Rattle.judging.specs.Sizes.{fitting};

@@ -1,4 +1,6 @@
 // The judge of a mesh: document 01's numbers 3 to 7, each with the lowest node or row at fault.
+#![tactic(auto)]
+
 ghost use Rattle.std.specs.Prelude.{◌≡◌, false, ◌+◌, ◌*◌, ◌/◌, ◌≤◌, ◌<◌, length, take, replicate, set, leb};
 ghost use Rattle.lists.specs.declared.Found.TheVariants.{Nothing};
 ghost use Rattle.lists.specs.Search.{lowest, items, iter};

@@ -1,11 +1,13 @@
 // The line program of document 01. It only moves bytes from standard input to standard output: `reader` cuts them into lines and
 // `frames` answers each; the tables are here.
+#![tactic(auto)]
+
 ghost use Rattle.std.specs.Prelude.{◌≤◌, length};
 
 use reader::Carried;
 
 // What is carried from call to call: the reader's, how many bytes of the piece are taken, and whether to go on.
-#[derive(Drop)]
+#[derive(Clone, Copy)]
 struct Talk {
     carried: Carried,
     at: usize,

@@ -1,5 +1,7 @@
 // Where a search ended: at a number, or nowhere. The functions and laws on lists are in specs/.
-#[derive(Drop)]
+#![tactic(auto)]
+
+#[derive(Clone, Copy)]
 pub enum Found {
     At(usize),
     Nothing,

@@ -1,5 +1,7 @@
 // The neighbour search. Scratch, as every call uses it: the numbers below `index_at` are notes of the running call; from there on stands
 // the index of the search, which only this crate reads and writes.
+#![tactic(auto)]
+
 ghost use Rattle.std.specs.Prelude.{◌≡◌, ◌+◌, ◌*◌, ◌≤◌, length, take};
 ghost use Rattle.lists.specs.Search.{lowest};
 ghost use Rattle.meaning.specs.Tables.{row_at};

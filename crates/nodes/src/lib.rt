@@ -1,4 +1,6 @@
 // The new nodes: whether a split edge has an exact midpoint, and the nodes of the split edges in their table.
+#![tactic(auto)]
+
 ghost use Rattle.std.specs.Prelude.{◌≡◌, ℕ, ◌+◌, ◌*◌, ◌≤◌, ◌<◌, length, pos, ◌+ℤ◌};
 ghost use Rattle.lists.specs.Search.{lowest, iter};
 ghost use Rattle.meaning.specs.Lawful.{InRange, InBounds, NodeInRange};

@@ -1,5 +1,7 @@
 // The notes of refine: one number of scratch a row says which of its edges are split, which of these are first met there, and how many
 // new nodes lower rows have. From these the number of the new node on any edge is read.
+#![tactic(auto)]
+
 ghost use Rattle.std.specs.Prelude.{◌≡◌, ◌+◌, ◌*◌, ◌≤◌, ◌<◌, length};
 ghost use Rattle.neighbours.specs.Ready.{Ready};
 ghost use Rattle.notes.specs.Notes.{Tight, Short, packed, unpacked, note_at, own_m, own_u, own_v, on_arrow, own_on, split_on, across, mid_for, mids_at};
@@ -9,7 +11,7 @@ use meaning::{Mids, Tri};
 
 // 1 where q-r, p-q, r-p is split, and 1 where it is split and first met in this row; before: how many new nodes are first met in lower
 // rows.
-#[derive(Drop)]
+#[derive(Clone, Copy)]
 pub struct Note {
     pub m: u32,
     pub u: u32,

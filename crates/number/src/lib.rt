@@ -1,6 +1,8 @@
 // Which edges of each row are split, which of these are first met there, and how many new nodes lower rows have: the note of each row,
 // made row by row upward. Before, each edge that is split has its bit in one of its rows, and bit 0 says that a row is split; after, in
 // both.
+#![tactic(auto)]
+
 ghost use Rattle.std.specs.Prelude.{◌≡◌, ◌+◌, ◌*◌, ◌≤◌, ◌<◌, length};
 ghost use Rattle.lists.specs.Search.{iter};
 ghost use Rattle.neighbours.specs.Ready.{Ready};
@@ -11,7 +13,7 @@ use lists::Found;
 use notes::Note;
 
 // Of an edge of a row: 1 where it is split, and 1 where it is split and no lower row holds it.
-#[derive(Drop)]
+#[derive(Clone, Copy)]
 struct Met {
     on: u32,
     first: u32,

@@ -1,5 +1,7 @@
 // W7: the border of a mesh, and whether it is clear: no border arrow meets another but in a node of both, and no row lies just right of the
 // middle of one. The first b border arrows stand in scratch: arrow j as two numbers, from at 2 j and to at 2 j + 1.
+#![tactic(auto)]
+
 ghost use Rattle.std.specs.Prelude.{true, ◌≡◌, ℕ, ◌+◌, ◌*◌, ◌/◌, ◌≤◌, ◌<◌, pos, ◌+ℤ◌, ◌*ℤ◌, length};
 ghost use Rattle.std.specs.Int.Signed.{lt_z, le_z};
 ghost use Rattle.meaning.specs.Good.{same_z};
@@ -23,14 +25,14 @@ mod listing; // listing.rt: the border arrows, put into scratch
 // ---- an arrow with its places
 
 // An end of an arrow: its node, where that stands, and the key of the place.
-#[derive(Drop)]
+#[derive(Clone, Copy)]
 struct End {
     node: u32,
     place: Place,
     key: i64,
 }
 
-#[derive(Drop)]
+#[derive(Clone, Copy)]
 struct Edge {
     from: End,
     to: End,

@@ -1,4 +1,6 @@
 // W7: two rows side by side: a corner of one on a side of the other, an interior point of both.
+#![tactic(auto)]
+
 ghost use Rattle.std.specs.Prelude.{◌≡◌, ◌+◌, ◌*◌, ◌≤◌, length};
 ghost use Rattle.meaning.specs.Lawful.{InRange};
 ghost use Rattle.meaning.specs.Tables.{place_at, row_at};
@@ -12,13 +14,13 @@ use meaning::{Place, Tri};
 // ---- a row with its places
 
 // A corner of a row: its node, and where that stands.
-#[derive(Drop)]
+#[derive(Clone, Copy)]
 struct Corner {
     node: u32,
     place: Place,
 }
 
-#[derive(Drop)]
+#[derive(Clone, Copy)]
 struct Seen {
     p: Corner,
     q: Corner,

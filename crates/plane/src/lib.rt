@@ -1,4 +1,6 @@
 // Nodes in the plane: the ranges of a place and of a correction, twice-areas.
+#![tactic(auto)]
+
 ghost use Rattle.std.specs.Prelude.{◌≡◌, ◌+ℤ◌, ◌-ℤ◌, ◌*ℤ◌};
 ghost use Rattle.meaning.specs.Mesh.{turn};
 ghost use Rattle.meaning.specs.Lawful.{InRange, far, outside, too_long, beyond, node_outside};
@@ -9,7 +11,7 @@ ghost use Rattle.plane.specs.Plane.{Short, Wide, Spans, flat_tri};
 use meaning::{Correction, Node, Place};
 
 // From one place to another.
-#[derive(Drop)]
+#[derive(Clone, Copy)]
 struct Span {
     x: i64,
     y: i64,

@@ -1,9 +1,10 @@
 // The line program of document 01: what it knows between lines. What each line does is in specs/.
+#![tactic(auto)]
 
 use meaning::{Manner, Quarters};
 
 // What the program knows beside its tables: how many nodes and rows they hold, whether a base is accepted, and its node count.
-#[derive(Drop)]
+#[derive(Clone, Copy)]
 pub struct Session {
     pub n: usize,
     pub t: usize,
@@ -12,7 +13,7 @@ pub struct Session {
 }
 
 // Whether a frame of a kind refines, in which manner, and how it quarters.
-#[derive(Drop)]
+#[derive(Clone, Copy)]
 pub enum Refines {
     In(Manner, Quarters),
     Never,

@@ -1,5 +1,7 @@
 // The reader: lines that arrive in pieces, cut anywhere. The caller lends the line buffer and the tables, and carries `Carried` from call
 // to call: `begin`, then `take` for each piece, then `end`. A call writes one answer at most, so that a buffer of 32,768 bytes holds it.
+#![tactic(auto)]
+
 ghost use Rattle.std.specs.Prelude.{true, ◌++◌, [], ◌≡◌, ◌≤◌, eqb, length};
 ghost use Rattle.lists.specs.Lists.{cases};
 ghost use Rattle.text.specs.Lines.{ff_line};
@@ -13,7 +15,7 @@ use text::write;
 
 // What is carried beside the line buffer and the tables: how many bytes of the unfinished line stand in the buffer, whether the end was
 // announced, and the session.
-#[derive(Drop)]
+#[derive(Clone, Copy)]
 pub struct Carried {
     pub used: usize,
     pub ended: bool,
@@ -21,14 +23,14 @@ pub struct Carried {
 }
 
 // After a byte: what is carried, and how many bytes were written.
-#[derive(Drop)]
+#[derive(Clone, Copy)]
 pub struct Heard {
     pub carried: Carried,
     pub written: usize,
 }
 
 // A call's answer: its number, how many bytes of the piece were taken, how many were written, and what is carried on.
-#[derive(Drop)]
+#[derive(Clone, Copy)]
 pub struct Took {
     pub number: u32,
     pub taken: usize,

@@ -1,4 +1,6 @@
 // The steps of refine, in any manner and however a triangle becomes four: all is judged before a node or a row is written.
+#![tactic(auto)]
+
 ghost use Rattle.std.specs.Prelude.{◌≡◌, length, replicate};
 ghost use Rattle.meaning.specs.Tables.{given, outcome, answer};
 ghost use Rattle.meaning.specs.Calls.{tinted, refine_by_out};
@@ -8,7 +10,7 @@ ghost use Rattle.refining.specs.Refine.{weighed, Weighty, late_number, Planned, 
 use meaning::{Fault, Manner, Quarters, Tinted};
 
 // What refine is to do: 0, the counts of nodes and rows after, and 1 when it makes a red cut, else 0; or the number of the refusal.
-#[derive(Drop)]
+#[derive(Clone, Copy)]
 struct Plan {
     number: u32,
     n: usize,

@@ -4,6 +4,8 @@
 //   z          the lowest row of which node z is the newest vertex
 //   nc + z     1 where a row holds node z otherwise
 //   2 nc + i   the next row with the newest vertex of row i
+#![tactic(auto)]
+
 mod notes;
 mod pair;
 
@@ -17,7 +19,7 @@ ghost use Rattle.round.specs.Round.{Around, next_of, round_by, two_or_four, With
 ghost use Rattle.round.specs.Pair.{edge_of};
 
 // The numbers of the rows of which a node is the newest vertex, lowest first.
-#[derive(Drop)]
+#[derive(Clone, Copy)]
 pub struct Round {
     pub first: u32,
     pub second: u32,
@@ -27,7 +29,7 @@ pub struct Round {
 }
 
 // The pair b, c of a node, the lower first.
-#[derive(Drop)]
+#[derive(Clone, Copy)]
 pub struct Ends {
     pub lo: u32,
     pub hi: u32,

@@ -1,4 +1,6 @@
 // W5: the correction of one node is set, after all is judged.
+#![tactic(auto)]
+
 ghost use Rattle.std.specs.Prelude.{◌≡◌, ◌*◌, ◌≤◌, ◌<◌, pos, length, replicate};
 ghost use Rattle.meaning.specs.Tables.{given, outcome, filled, flat_nodes};
 ghost use Rattle.meaning.specs.Calls.{set_out};

@@ -1,6 +1,8 @@
 // The calls for programs in other languages. A slice passes as a pointer and a length; counts that a call may change pass by reference and
 // are the new ones after. Every call leaves behind `culprit` the node or row that is to blame for a refusal as 3 to 7, and 0 with any other
 // number.
+#![tactic(auto)]
+
 mod reading;
 
 ghost use Rattle.std.specs.Prelude.{◌≡◌};

@@ -1,4 +1,6 @@
 // W7: the rows of a lawful mesh compared two by two, those alone whose boxes can meet: how grave it is.
+#![tactic(auto)]
+
 ghost use Rattle.std.specs.Prelude.{◌≡◌, ℕ, ◌+◌, ◌*◌, ◌≤◌, ◌<◌, max, length, replicate};
 ghost use Rattle.meaning.specs.Lawful.{Lawful};
 ghost use Rattle.meaning.specs.Tables.{place_at};

@@ -1,4 +1,6 @@
 // Reading and writing the tables that a caller lends: rows, nodes and notes.
+#![tactic(auto)]
+
 ghost use Rattle.std.specs.Prelude.{◌≡◌, ◌++◌, ◌+◌, ◌*◌, ◌≤◌, ◌<◌, length, drop, replicate, get_or, set, pos};
 ghost use Rattle.lists.specs.Lists.{is_found};
 ghost use Rattle.lists.specs.Search.{items};

@@ -1,4 +1,6 @@
 // W6: the mean of three corrections by weights, rounded down, in 64 bits.
+#![tactic(auto)]
+
 ghost use Rattle.std.specs.Prelude.{◌≡◌, ◌≤◌, pos, nat_abs, ◌*ℤ◌, ◌<ℤ◌};
 ghost use Rattle.meaning.specs.Lawful.{InBounds};
 ghost use Rattle.meaning.specs.Rounding.{floor};
@@ -7,7 +9,7 @@ ghost use Rattle.weighing.specs.Weighing.{sum_of, weighed, mean_of, means, Balan
 use meaning::Correction;
 
 // The weights of the corners p, q and r.
-#[derive(Drop)]
+#[derive(Clone, Copy)]
 pub struct Weights {
     pub p: i64,
     pub q: i64,

@@ -1,1 +1,2 @@
 // Laws of whole numbers, in specs/: no code.
+#![tactic(auto)]

@@ -1,0 +1,7 @@
+use Rattle.cut.specs.Cutting.{splits}
+use borrow.Author.Rules.{rules}
+use Rattle.cut.proofs.added_at.Goals as goal
+
+pub returns : goal.returns
+unfolding splits
+returns c = cc

@@ -1,0 +1,16 @@
+use Rattle.cut.specs.Cutting.{wholly_at}
+use Rattle.lists.specs.SearchLaw.{searching}
+use Rattle.lists.specs.Search.{lowest}
+use Prim.Native.Nat.{◌≤◌, ◌-◌}
+use mathlib.Core.Path.{◌≡◌}
+use borrow.Author.Rules.{rules}
+use Rattle.cut.proofs.find_wholly.Goals as goal
+
+pub returns-then-wholly_at : goal.returns-then-wholly_at
+returns-then-wholly_at c = search (rules, searching)
+
+pub loop-i-preserved : goal.loop-i-preserved
+loop-i-preserved c = search (rules, searching)
+
+pub returns : goal.returns
+returns c = search (rules, searching)

@@ -1,0 +1,19 @@
+use Rattle.cut.specs.CutLaw.{count-start, count_fits, count_turn, count-end}
+use Rattle.cut.specs.Cutting.{splits}
+use Rattle.lists.specs.ItemsLaw.{sum_to}
+use Prim.Native.Nat.{◌≤◌, ◌-◌, ◌+◌}
+use mathlib.Core.Path.{◌≡◌}
+use borrow.Author.Rules.{rules}
+use Rattle.cut.proofs.rows_after.Goals as goal
+
+pub loop-i-init : goal.loop-i-init
+loop-i-init c = search (rules, count-start)
+
+pub overflow_add-r : goal.overflow_add-r
+overflow_add-r c = search (rules, count_fits)
+
+pub loop-i-preserved : goal.loop-i-preserved
+loop-i-preserved c = search (rules, count_turn)
+
+pub returns : goal.returns
+returns c = search (rules, count-end)

@@ -1,0 +1,16 @@
+use mathlib.Core.Path.{◌≡◌}
+use Prim.Native.Nat.{◌≤◌, ◌-◌}
+use lib.ListN.{length, take}
+use Rattle.neighbours.specs.Sized.{index_at}
+use Rattle.neighbours.specs.Join.{Exact, exact-end, notes-on, in-range-at}
+use borrow.Author.Rules.{rules}
+use Rattle.neighbours.proofs.index.join_slots.Goals as goal
+
+pub join_slot-requires-clause-k_bound_2 : goal.join_slot-requires-clause-k_bound_2
+join_slot-requires-clause-k_bound_2 c = search in-range-at
+
+pub loop-k-preserved : goal.loop-k-preserved
+loop-k-preserved c = (search rules, search rules, search notes-on, search rules)
+
+pub returns-clause-exact : goal.returns-clause-exact
+returns-clause-exact c = search exact-end

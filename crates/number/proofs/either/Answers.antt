@@ -1,0 +1,9 @@
+use Rattle.number.specs.NumberStep.{either-own, either-other}
+use borrow.Author.Rules.{rules}
+use Rattle.number.proofs.either.Goals as goal
+
+pub returns-then-own-eq1 : goal.returns-then-own-eq1
+returns-then-own-eq1 c = search (rules, either-own)
+
+pub returns : goal.returns
+returns c = search (rules, either-other)

@@ -1,0 +1,7 @@
+use Rattle.round.specs.Pair.{brother_in}
+use borrow.Author.Rules.{rules}
+use Rattle.round.proofs.pair.brother_in.Goals as goal
+
+pub returns : goal.returns
+unfolding brother_in
+returns c = cc

@@ -1,0 +1,7 @@
+use Rattle.round.specs.Pair.{two_in}
+use borrow.Author.Rules.{rules}
+use Rattle.round.proofs.pair.two_in.Goals as goal
+
+pub returns : goal.returns
+unfolding two_in
+returns c = cc

@@ -1,0 +1,13 @@
+use mathlib.Core.Path.{◌≡◌}
+use Prim.Native.Nat.{◌≤◌, ◌-◌}
+use mathlib.Core.List.{◌++◌}
+use lib.ListN.{length, replicate, drop}
+use Rattle.lists.specs.FillLaw.{fill-turn, fill_end}
+use borrow.Author.Rules.{rules}
+use Rattle.tables.proofs.clear.Given as goal
+
+abbrev pub invariant-loop-i : goal.invariant-loop-i
+invariant-loop-i l = (length l.table ≡ length l.initial.table) × (l.i ≤ length l.initial.table) × (l.table ≡ replicate l.i 0 ++ drop l.i l.initial.table)
+
+abbrev pub decreases-loop-i : goal.decreases-loop-i
+decreases-loop-i l = length l.initial.table - l.i

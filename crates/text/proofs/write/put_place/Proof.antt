@@ -1,9 +1,0 @@
-use Rattle.text.specs.LinesLaw.{signed-put}
-use borrow.Author.Rules.{rules}
-use Rattle.text.proofs.write.put_place.Statement.{statement}
-use Rattle.text.proofs.write.put_place.Tie as tie
-
-pub put-place-spec : {M : Type 1} → statement M
-put-place-spec = tie.close (tie.spec
-    (λ c κs. search rules) (λ c. search rules) (λ c κs. search rules) (λ c κs. search rules) (λ c. search rules)
-    (λ c κs. search rules) (λ c. search rules) (λ c. search (rules, signed-put)))

@@ -2,7 +2,7 @@
 use Rattle.std.specs.Prelude.{◌≡◌, ◌⊎◌, List, [], ◌∷◌, ℕ, zero, suc, ◌≤◌, ◌<◌, length}
 use Rattle.std.proofs.Math.Path.{refl}
 use Rattle.std.proofs.Common.{sym, ap, subst, ◌∙◌, inl, inr, arith}
-use Rattle.std.proofs.Math.Logic.{Dec·and}
+use Rattle.std.proofs.Math.Logic.Dec
 use Rattle.std.proofs.Math.Decide.{dec_le, dec_lt, ℕ_discrete}
 use Rattle.growth.specs.Labels.Names.{Name, mid, mid-same, Halfway, base-not-halfway}
 use Rattle.growth.specs.Labels.Paths.{Path, Stream, Side, L, R, AllL, anchor, AllL-anchor, On, ⊑_refl, ⊑-step}
@@ -46,7 +46,7 @@ module _ {B : List (Corners ℕ)} {t : ℕ} {lab : ℕ → Label} {Z : Name → 
   Goes j = Z (corners-of B (lab j)).p × EndsR (lab j).path
 
   pub goes? : (j : ℕ) → Dec (Z (corners-of B (lab j)).p × EndsR (lab j).path)
-  goes? j = Dec·and (X.decided (corners-of B (lab j)).p) (ends_r? (lab j).path)
+  goes? j = Dec.and (X.decided (corners-of B (lab j)).p) (ends_r? (lab j).path)
 
   -- The family that is left: the rows that do not go, in order, lifted.
   pub record Coarsened (t' : ℕ) (lab' : ℕ → Label) : Type 0 where

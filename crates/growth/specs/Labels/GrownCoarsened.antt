@@ -2,7 +2,7 @@
 use Rattle.std.specs.Prelude.{◌≡◌, refl, List, ◌∷◌}
 use Rattle.std.proofs.Math.Path.{sym, ap}
 use Rattle.std.proofs.Common.{subst, ◌∙◌, inl, inr, arith}
-use Rattle.std.proofs.Math.Logic.{Dec·and}
+use Rattle.std.proofs.Math.Logic.Dec
 use Prim.Native.Nat.{ℕ, ◌≤◌, ◌<◌}
 use Rattle.std.proofs.Math.Decide.{dec_le}
 use Rattle.meaning.specs.declared.Place.{Place}
@@ -43,7 +43,7 @@ module _ {B : List (Corners ℕ)} {n₀ n t : ℕ} {rows : ℕ → Corners ℕ} 
     pub removed : D node
 
   gone? : (x : Name) → Dec (Gone x)
-  gone? x = go (some-below? (λ z. Dec·and (name? x (G.name z)) (Y.decided z)) n)
+  gone? x = go (some-below? (λ z. Dec.and (name? x (G.name z)) (Y.decided z)) n)
     where
       go : Dec ((z : ℕ) × (z < n) × ((x ≡ G.name z) × D z)) → Dec (Gone x)
       go (yes (z, l, (e, h))) = yes (record { node = z; node-below = l; is_name = e; removed = h })

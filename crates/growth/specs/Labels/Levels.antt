@@ -3,7 +3,7 @@
 use Rattle.std.specs.Prelude.{◌≡◌, ◌⊎◌, ◌≢◌, List, [], ◌∷◌, length}
 use Rattle.std.proofs.Math.Path.{refl}
 use Rattle.std.proofs.Common.{sym, ap, subst, ◌∙◌, inl, inr, arith}
-use Rattle.std.proofs.Math.Logic.{Dec·and}
+use Rattle.std.proofs.Math.Logic.Dec
 use Prim.Native.Nat.{ℕ, zero, suc, pred, ◌≤◌, ◌<◌, max}
 use Rattle.std.proofs.Math.Decide.{ℕ_discrete}
 use Rattle.growth.specs.Labels.Names.{Name, base, node, mid, mid-cases, base≢mid, name?, Same, straight, crossed, same-sym, same_turn, same-trans, same_base}
@@ -12,7 +12,7 @@ use Rattle.growth.specs.Labels.Corners.{Corners, row, half, corners, Distinct, E
 
 -- Two pairs are decided to be the same or not.
 pub same? : {A : Type 0} → Discrete A → (a b c d : A) → Dec (Same a b c d)
-same? D a b c d = go (Dec·and (D a c) (D b d)) (Dec·and (D a d) (D b c))
+same? D a b c d = go (Dec.and (D a c) (D b d)) (Dec.and (D a d) (D b c))
   where
     go : Dec ((a ≡ c) × (b ≡ d)) → Dec ((a ≡ d) × (b ≡ c)) → Dec (Same a b c d)
     go (yes h) _ = yes (straight h.0 h.1)

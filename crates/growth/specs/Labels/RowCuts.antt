@@ -1,7 +1,7 @@
 -- Refining in node numbers: rows cut by pattern at numbered midpoints are named by the refined labels. Assumes nothing.
 use Rattle.std.specs.Prelude.{◌≡◌, refl, List, [], ◌∷◌, map, Bool, true, false, ℕ, ◌<◌}
 use Rattle.std.proofs.Common.{ap, ap₂, ◌∙◌}
-use Rattle.std.proofs.Math.Logic.{Dec·and}
+use Rattle.std.proofs.Math.Logic.Dec
 use Rattle.growth.specs.Labels.Names.{Name, name?, mid}
 use Rattle.growth.specs.Labels.Paths.{Side, L, R}
 use Rattle.growth.specs.Labels.Corners.{Corners, half, corners, Edge}
@@ -62,7 +62,7 @@ module _ {B : List (Corners ℕ)} {t : ℕ} {lab : ℕ → Label} {n : ℕ} {nam
 
   -- It is decided.
   pub by-name? : (x y : Name) → Dec (ByName x y)
-  by-name? x y = go (some-below? (λ a. Dec·and (name? x (name a)) (some-below? (λ b. Dec·and (name? y (name b)) (K.decided a b)) n)) n)
+  by-name? x y = go (some-below? (λ a. Dec.and (name? x (name a)) (some-below? (λ b. Dec.and (name? y (name b)) (K.decided a b)) n)) n)
     where
       go : Dec ((a : ℕ) × (a < n) × ((x ≡ name a) × ((b : ℕ) × (b < n) × ((y ≡ name b) × E a b)))) → Dec (ByName x y)
       go (yes (a, la, (e, (b, lb, (f, h))))) = yes (record { one = a; two = b; one_below = la; two-below = lb; one_name = e; two-name = f; inside = h })

@@ -1,7 +1,7 @@
 -- The rows around a node that is newest everywhere: one pair of brothers or two, facing each other. Assumes nothing.
 use Rattle.std.specs.Prelude.{◌≡◌, refl, ◌⊎◌, ◌≢◌, List, [], ◌∷◌, ℕ, ◌≤◌, ◌<◌}
 use Rattle.std.proofs.Common.{sym, ap, ◌∙◌, inl, inr, arith}
-use Rattle.std.proofs.Math.Logic.{Dec·and, Dec·not}
+use Rattle.std.proofs.Math.Logic.Dec
 use Rattle.std.proofs.Math.Decide.{ℕ_discrete}
 use Rattle.growth.specs.Labels.Names.{Name, name?, mid, mid-injective, Halfway, base-not-halfway, Same, straight, crossed}
 use Rattle.growth.specs.Labels.Paths.{L, R, L≢R, Path, anchor}
@@ -141,7 +141,7 @@ module _ {B : List (Corners ℕ)} (C : Compatible B) {t : ℕ} {lab : ℕ → La
 
   -- THE STAR: the rows around a midpoint newest everywhere are a pair, or two pairs that face each other.
   pub star : Halfway z → NewestEverywhere B t lab z → ArrowsOnce B t lab → (P : Pair B t lab z) → Star P
-  star H N A P = go (some-below? (λ k. Dec·and (holds? z (corners-of B (lab k))) (Dec·and (Dec·not (ℕ_discrete k P.left)) (Dec·not (ℕ_discrete k P.right)))) t)
+  star H N A P = go (some-below? (λ k. Dec.and (holds? z (corners-of B (lab k))) (Dec.and (Dec.not (ℕ_discrete k P.left)) (Dec.not (ℕ_discrete k P.right)))) t)
     where
       go : Dec ((k : ℕ) × (k < t) × (Holds z (corners-of B (lab k)) × (k ≢ P.left × k ≢ P.right))) → Star P
       go (yes (k, l, (h, (not_left, not_right)))) = face (pair_of H N k l h)

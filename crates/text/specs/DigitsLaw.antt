@@ -1,13 +1,12 @@
 -- Digits and numbers in the form in which the code reads them. Assumes nothing.
-use Rattle.std.specs.Prelude.{◌≡◌, refl, Bool, true, false, List, [], ◌∷◌, ℕ, zero, suc, ◌+◌, ◌-◌, ◌*◌, ◌≤◌, ◌<◌, T, leb, ltb, ℤ, pos, negsuc, nat_abs, length, get_or}
-use Rattle.std.proofs.Common.{sym, ap, ◌∙◌, Fits, SFits, to_z, of_z}
+use Rattle.std.specs.Prelude.{◌≡◌, true, false, List, ℕ, suc, ◌+◌, ◌-◌, ◌*◌, ◌≤◌, ◌<◌, T, ℤ, pos, negsuc, nat_abs, get_or}
+use Rattle.std.proofs.Common.{sym, ◌∙◌, Fits, SFits, to_z, of_z}
 use native.Mathlib.Omega.{arith}
 use borrow.Author.Tests.{lt-ltb, le-ltb, le-leb, lt-leb}
 use Rattle.std.proofs.Math.Dec.{leb-zero}
 use Rattle.std.specs.Int.Signed.{le_z, non_neg}
 use mir.Syntax.{w32}
 use Rattle.std.proofs.Math.Facts.{to_z_pos, to_z-neg}
-use Rattle.lists.specs.Lists.{cases}
 use Rattle.lists.specs.ListsLaw.{clash}
 use Rattle.meaning.specs.declared.Correction.{Correction}
 use Rattle.meaning.specs.Mesh.{place, correction, node, tri}

@@ -1,8 +1,8 @@
 -- Numbers written as digits, in the form in which the code writes them. Assumes nothing.
-use Rattle.std.specs.Prelude.{◌≡◌, refl, List, [], ◌∷◌, ◌++◌, ℕ, zero, suc, ◌+◌, ◌-◌, ◌*◌, ◌/◌, ◌%◌, ◌^◌, ◌≤◌, ◌<◌}
-use Rattle.std.proofs.Common.{sym, ap, ◌∙◌, arith, lt-ltb, le-ltb}
+use Rattle.std.specs.Prelude.{◌≡◌, [], ◌∷◌, ◌++◌, ℕ, ◌+◌, ◌/◌, ◌%◌, ◌≤◌, ◌<◌}
+use Rattle.std.proofs.Common.{arith, lt-ltb, le-ltb}
 use Rattle.text.specs.Digits.{hex_digit, hex}
-use Rattle.text.specs.Writing.{Wrote, wrote, writes, then}
+use Rattle.text.specs.Writing.{Wrote, writes, then}
 
 pub digit_low : (d : ℕ) → d < 10 → 48 + d ≡ hex_digit d
 unfolding hex_digit

@@ -1,6 +1,6 @@
 -- The lines that the program writes, in the form in which the code writes them. Assumes nothing.
-use Rattle.std.specs.Prelude.{◌≡◌, refl, List, [], ◌∷◌, ◌++◌, ℕ, ℤ}
-use Rattle.std.proofs.Common.{sym, ap, ◌∙◌, eq-eqb, ne_eqb, SFits, to_z, of_z, to_z-of_z}
+use Rattle.std.specs.Prelude.{◌≡◌, List, [], ◌∷◌, ◌++◌, ℕ, ℤ}
+use Rattle.std.proofs.Common.{eq-eqb, ne_eqb, SFits, to_z, of_z, to_z-of_z}
 use Rattle.std.specs.Int.{w32}
 use Rattle.lists.specs.Lists.{joined}
 use Rattle.lists.specs.Search.{items}
@@ -10,7 +10,7 @@ use Rattle.meaning.specs.declared.Tri.{Tri}
 use Rattle.meaning.specs.Tables.{node_at, row_at}
 use Rattle.text.specs.Digits.{unsigned, hex}
 use Rattle.text.specs.Lines.{red_field, answer_line, node_line, row_line, all_lines}
-use Rattle.text.specs.Writing.{Wrote, wrote, writes, writes-append, then}
+use Rattle.text.specs.Writing.{Wrote, writes, writes-append, then}
 
 -- two numbers with signs, of as many digits each: a place, a correction
 pub signed-put : (w x y : Wrote) (k u v : ℕ) (a b : ℤ) → SFits w32 a → SFits w32 b → u ≡ unsigned (to_z w32 (of_z w32 a)) → v ≡ unsigned (to_z w32 (of_z w32 b)) →

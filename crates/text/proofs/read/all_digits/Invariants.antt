@@ -1,10 +1,8 @@
 use Rattle.text.specs.Digits.{is_digit}
-use Rattle.lists.specs.AllLaw.{all-on, all-off, all_end}
 use Rattle.lists.specs.Lists.{all}
 use lib.ListN.{length, drop}
 use Prim.Native.Nat.{◌≤◌, ◌-◌}
 use mathlib.Core.Path.{◌≡◌}
-use borrow.Author.Rules.{rules}
 use Rattle.text.proofs.read.all_digits.Given as goal
 
 abbrev pub invariant-loop-i : goal.invariant-loop-i

@@ -1,4 +1,4 @@
-use Rattle.text.specs.Writing.{wrote, writes, line-turn, line-end}
+use Rattle.text.specs.Writing.{wrote, writes}
 use Rattle.text.specs.Lines.{node_line}
 use Rattle.meaning.specs.Tables.{node_at}
 use Rattle.lists.specs.Search.{items}
@@ -6,7 +6,6 @@ use Rattle.lists.specs.Lists.{joined}
 use lib.ListN.{length}
 use Prim.Native.Nat.{◌≤◌, ◌+◌, ◌*◌, ◌-◌}
 use mathlib.Core.Path.{◌≡◌}
-use borrow.Author.Rules.{rules}
 use Rattle.text.proofs.write.put_nodes.Given as goal
 
 abbrev pub invariant-loop-i : goal.invariant-loop-i

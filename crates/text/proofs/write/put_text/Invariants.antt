@@ -1,8 +1,7 @@
-use Rattle.text.specs.Writing.{wrote, writes, text-turn, text-end}
+use Rattle.text.specs.Writing.{wrote, writes}
 use lib.ListN.{length, drop}
 use Prim.Native.Nat.{◌≤◌, ◌+◌, ◌-◌}
 use mathlib.Core.Path.{◌≡◌}
-use borrow.Author.Rules.{rules}
 use Rattle.text.proofs.write.put_text.Given as goal
 
 abbrev pub invariant-loop-i : goal.invariant-loop-i

@@ -1,0 +1,6 @@
+use borrow.Author.Rules.{rules}
+use Rattle.text.specs.LinesLaw.{answer-put}
+use Rattle.text.proofs.write.put_answer.Goals as goal
+
+pub returns : goal.returns
+returns c = search (rules, answer-put)

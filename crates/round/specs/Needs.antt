@@ -5,11 +5,10 @@ use Rattle.lists.specs.declared.Found.{Found}
 use Rattle.lists.specs.Lists.{cases}
 use Rattle.lists.specs.Search.{lowest}
 use Rattle.lists.specs.Loops.{code}
-use Rattle.lists.specs.ChainLaw.{From, nowhere, there, search_is, linked, linked-length}
+use Rattle.lists.specs.ChainLaw.{From, nowhere, there, search_is, linked}
 use Rattle.meaning.specs.declared.Tri.{Tri}
 use Rattle.meaning.specs.Mesh.{tri}
 use Rattle.meaning.specs.Tables.{row_at}
-use Rattle.round.specs.declared.Round.{Round}
 use Rattle.laws.specs.Meshes.{Fair}
 use Rattle.round.specs.Round.{newest_at, Around, older_step, link_step, next_of, round, round_by, row_in, Within}
 

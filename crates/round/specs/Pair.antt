@@ -1,5 +1,5 @@
 -- G2 and the pair b, c, from the two or four rows round a node. Assumes nothing.
-use Rattle.std.specs.Prelude.{Bool, true, false, ◌&&◌, List, [], ◌∷◌, ℕ, eqb}
+use Rattle.std.specs.Prelude.{Bool, false, ◌&&◌, List, ℕ, eqb}
 use Rattle.lists.specs.Lists.{cases}
 use Rattle.meaning.specs.declared.Tri.{Tri}
 use Rattle.meaning.specs.Mesh.{Edge, arrow, holds_arrow}

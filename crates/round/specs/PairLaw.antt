@@ -1,25 +1,23 @@
 -- What pairing off two or four rows gives, and with it G2 and the pair b, c. Assumes nothing.
-use Rattle.std.specs.Prelude.{◌≡◌, ◌≢◌, Bool, not, ◌&&◌, ◌||◌, List, [], ◌∷◌, ℕ, zero, suc, ◌+◌, ◌*◌, ◌≤◌, ◌<◌, min, max, length, get_or}
+use Rattle.std.specs.Prelude.{◌≡◌, Bool, ◌&&◌, ◌||◌, List, [], ◌∷◌, ℕ, suc, ◌+◌, ◌≤◌, ◌<◌, min, max, length}
 use Rattle.std.proofs.Math.Path.{refl, sym, ap}
 use Rattle.std.proofs.Common.{subst, ◌∙◌, arith}
 use Rattle.std.proofs.Math.Bool.{true, false}
 use Rattle.std.proofs.Math.Dec.{eqb}
 use borrow.Author.Tests.{ne_eqb}
-use Rattle.lists.specs.Lists.{cases, all, any, only}
-use Rattle.lists.specs.ListsLaw.{clash, and_left, and_right, or_left}
-use Rattle.lists.specs.PartsLaw.{not_so}
-use Rattle.lists.specs.Tally.{bit, tally}
+use Rattle.lists.specs.Lists.{cases, all}
+use Rattle.lists.specs.ListsLaw.{clash, and_right}
+use Rattle.lists.specs.Tally.{bit}
 use Rattle.lists.specs.Search.{items}
 use Rattle.meaning.specs.declared.Tri.{Tri}
-use Rattle.meaning.specs.Mesh.{Mesh, Edge, edge, arrow, same_tri, holds_arrow, mesh}
-use Rattle.meaning.specs.Lawful.{Named}
+use Rattle.meaning.specs.Mesh.{Edge, edge, arrow, same_tri, holds_arrow}
 use Rattle.meaning.specs.Good.{Brothers, brothers, rows_of, pair_off, pairs, span_of, span, closes, G1, G2}
 use Rattle.meaning.specs.Tables.{row_at}
 use Rattle.laws.specs.Edges.{same_tri-refl, same_tri-comm}
 use Rattle.laws.specs.Pairs.{RowsOnce, only-rows}
 use Rattle.round.specs.declared.Round.{Round}
 use Rattle.laws.specs.Meshes.{rows_alone, Fair}
-use Rattle.round.specs.Round.{newest, older, rows_round, Around, round_by, row_in, two_or_four}
+use Rattle.round.specs.Round.{newest, rows_round, Around, round_by, row_in}
 use Rattle.round.specs.RoundLaw.{Shape, two, four, other, shape_is, shape-test, round-rows, older-none}
 use Rattle.round.specs.Pair.{joins, closing, four_test, brother_of, two_in, four_in, brother_in, edge_of}
 

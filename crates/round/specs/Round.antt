@@ -1,5 +1,5 @@
 -- The rows round a node, by number: a chain of the rows of which it is the newest vertex, from the lowest on. Assumes nothing.
-use Rattle.std.specs.Prelude.{◌≡◌, Bool, true, false, not, ◌&&◌, ◌||◌, List, ℕ, zero, suc, ◌+◌, ◌*◌, ◌≤◌, ◌<◌, eqb, length, get_or, set}
+use Rattle.std.specs.Prelude.{◌≡◌, Bool, not, ◌&&◌, ◌||◌, List, ℕ, zero, suc, ◌+◌, ◌*◌, ◌≤◌, ◌<◌, eqb, length, get_or, set}
 use Rattle.lists.specs.Lists.{any, only}
 use Rattle.lists.specs.Tally.{bit}
 use Rattle.lists.specs.Search.{lowest, items}

@@ -1,16 +1,15 @@
 -- The chain of rows round a node is the list of these rows; G1 by it. Assumes nothing.
-use Rattle.std.specs.Prelude.{◌≡◌, ◌≢◌, Bool, true, not, ◌&&◌, ◌||◌, eqb}
+use Rattle.std.specs.Prelude.{◌≡◌, ◌≢◌, Bool, true, ◌&&◌, ◌||◌, eqb}
 use Rattle.std.proofs.Math.Path.{refl, ap}
-use Rattle.std.proofs.Common.{sym, subst, ◌∙◌, add-one, eqb-true, eq-eqb, ne_eqb}
+use Rattle.std.proofs.Common.{sym, ◌∙◌, eqb-true, ne_eqb}
 use Rattle.std.proofs.Math.Bool.{false}
 use mathlib.Core.List.{List, [], ◌∷◌, Memᴰ}
-use Prim.Native.Nat.{ℕ, zero, suc, ◌+◌, ◌*◌, ◌≤◌, ◌<◌}
+use Prim.Native.Nat.{ℕ, suc, ◌+◌, ◌*◌, ◌≤◌, ◌<◌}
 use native.Mathlib.Omega.{arith}
 use Rattle.std.proofs.Math.ListN.{length, get_or}
 use Rattle.lists.specs.declared.Found.{Found}
-use Rattle.lists.specs.declared.Found.TheVariants.{At, Nothing}
-use Rattle.lists.specs.Lists.{all, any, only, All}
-use Rattle.lists.specs.ListsLaw.{clash, or_left, or_right, or_no, and_left, All-of, All-at, All-imp, all_yes, yes-all, any-row, any_none}
+use Rattle.lists.specs.Lists.{all, any, only}
+use Rattle.lists.specs.ListsLaw.{clash, or_no, All-at, All-imp, all_yes, yes-all, any-row, any_none}
 use Rattle.lists.specs.MembersLaw.{only-in, only-passes, only-cong}
 use Rattle.lists.specs.PartsLaw.{not_so}
 use Rattle.lists.specs.Tally.{bit}

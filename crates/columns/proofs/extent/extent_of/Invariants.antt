@@ -1,6 +1,5 @@
 use Prim.Native.Nat.{◌-◌}
 use Rattle.columns.specs.Coords.{Reaches}
-use borrow.Author.Rules.{rules}
 use Rattle.columns.proofs.extent.extent_of.Given as goal
 
 abbrev pub invariant-loop-k : goal.invariant-loop-k

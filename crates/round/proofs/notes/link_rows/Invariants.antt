@@ -1,10 +1,8 @@
 use Rattle.round.specs.Round.{link_step}
-use Rattle.lists.specs.LoopsLaw.{downward}
 use Rattle.lists.specs.Loops.{down}
 use lib.ListN.{length}
-use Prim.Native.Nat.{◌≤◌, ◌-◌}
+use Prim.Native.Nat.{◌≤◌}
 use mathlib.Core.Path.{◌≡◌}
-use borrow.Author.Rules.{rules}
 use Rattle.round.proofs.notes.link_rows.Given as goal
 
 abbrev pub invariant-loop-i : goal.invariant-loop-i

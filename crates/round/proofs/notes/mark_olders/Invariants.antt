@@ -1,10 +1,8 @@
 use Rattle.round.specs.Round.{older_step}
-use Rattle.lists.specs.IterLaw.{looping}
 use Rattle.lists.specs.Search.{iter}
 use lib.ListN.{length}
 use Prim.Native.Nat.{◌≤◌, ◌-◌}
 use mathlib.Core.Path.{◌≡◌}
-use borrow.Author.Rules.{rules}
 use Rattle.round.proofs.notes.mark_olders.Given as goal
 
 abbrev pub invariant-loop-i : goal.invariant-loop-i

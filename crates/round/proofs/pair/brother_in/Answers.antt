@@ -1,5 +1,4 @@
 use Rattle.round.specs.Pair.{brother_in}
-use borrow.Author.Rules.{rules}
 use Rattle.round.proofs.pair.brother_in.Goals as goal
 
 pub returns : goal.returns

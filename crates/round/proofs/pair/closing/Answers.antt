@@ -1,5 +1,4 @@
 use Rattle.round.specs.Pair.{closing}
-use borrow.Author.Rules.{rules}
 use Rattle.round.proofs.pair.closing.Goals as goal
 
 pub returns : goal.returns

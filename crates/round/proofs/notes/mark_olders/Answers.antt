@@ -1,0 +1,9 @@
+use Rattle.lists.specs.IterLaw.{looping}
+use borrow.Author.Rules.{rules}
+use Rattle.round.proofs.notes.mark_olders.Goals as goal
+
+pub loop-i-preserved : goal.loop-i-preserved
+loop-i-preserved c = search (rules, looping)
+
+pub returns : goal.returns
+returns c = search (rules, looping)

@@ -1,5 +1,5 @@
 -- Midpoints by the tables: which split edge has none, and a table in which they become nodes. Assumes nothing.
-use Rattle.std.specs.Prelude.{Bool, not, ◌&&◌, ◌||◌, List, ℕ, ◌+◌, ◌≤◌, eqb, ℤ, nat_abs, ◌+ℤ◌}
+use Rattle.std.specs.Prelude.{Bool, not, ◌&&◌, ◌||◌, List, ℕ, ◌≤◌, eqb, ℤ, nat_abs, ◌+ℤ◌}
 use Rattle.lists.specs.Lists.{cases}
 use Rattle.meaning.specs.declared.Node.{Node}
 use Rattle.meaning.specs.declared.Place.{Place}

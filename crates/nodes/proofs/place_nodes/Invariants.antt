@@ -1,14 +1,10 @@
-use Rattle.nodes.specs.NodesLaw.{row-standing}
 use Rattle.laws.specs.Meshes.{Standing}
 use Rattle.nodes.specs.Nodes.{place_row}
 use Rattle.meaning.specs.Tables.{row_at}
-use Rattle.lists.specs.IterLaw.{iter_turn, iter_end}
 use Rattle.lists.specs.Search.{iter}
 use lib.ListN.{length}
-use native.Mathlib.Omega.{arith}
 use Prim.Native.Nat.{ℕ, ◌≤◌, ◌<◌, ◌-◌}
 use mathlib.Core.Path.{◌≡◌}
-use borrow.Author.Rules.{rules}
 use Rattle.nodes.proofs.place_nodes.Given as goal
 
 abbrev pub invariant-loop-i : goal.invariant-loop-i

@@ -1,52 +1,34 @@
-use mathlib.Core.Path.{◌≡◌, ◌∙◌}
-use mir.Syntax.{w64}
-use mir.Val.{to_z, of_z}
-use mir.Facts.{to_z-of_z}
-use lib.IntN.{◌*ℤ◌}
-use borrow.Author.Rules.{rules, sfits_of}
+use Rattle.std.proofs.Common.{◌≡◌, ◌∙◌, ℤ, ◌*ℤ◌, SFits, to_z, of_z, to_z-of_z, w32, w64}
+use borrow.Author.Rules.{sfits_of}
 use Rattle.weighing.specs.MeanLaw.{weight-fits, p-most, q-most, r-most, two-weighed-fit, weighed-fits}
 use Rattle.weighing.proofs.weighed.Goals as goal
 
--- each product, exactly
-at_p : (c : tie.After-times) → to_z w64 (of_z w64 c.times.result) ≡ c.before.before.args.v.p *ℤ c.before.before.args.a
-at_p c =
-    let s = c.before.before in
-    to_z-of_z (sfits_of c.times.type-inv) ∙ (rw (to_z-of_z (weight-fits s.args.v.p (p-most s.args.v s.requires.balanced)), to_z-of_z s.ranges.a) at c.times.ensures)
-
-at-q : (c : tie.After-times2) → to_z w64 (of_z w64 c.times2.result) ≡ c.before.before.before.before.args.v.q *ℤ c.before.before.before.before.args.b
-at-q c =
-    let s = c.before.before.before.before in
-    to_z-of_z (sfits_of c.times2.type-inv) ∙ (rw (to_z-of_z (weight-fits s.args.v.q (q-most s.args.v s.requires.balanced)), to_z-of_z s.ranges.b) at c.times2.ensures)
-
-at-r : (c : tie.After-times3) → to_z w64 (of_z w64 c.times3.result) ≡ c.before.before.before.before.before.before.args.v.r *ℤ c.before.before.before.before.before.before.args.c
-at-r c =
-    let s = c.before.before.before.before.before.before in
-    to_z-of_z (sfits_of c.times3.type-inv) ∙ (rw (to_z-of_z (weight-fits s.args.v.r (r-most s.args.v s.requires.balanced)), to_z-of_z s.ranges.c) at c.times3.ensures)
-
-pub times-requires : goal.times-requires
-times-requires c = search (rules, p-most)
-
-pub times-requires-2 : goal.times-requires-2
-times-requires-2 c = search (rules, q-most)
+-- a product, exactly: what its call tells, of numbers that fit
+exactly : (v x r : ℤ) → SFits w64 v → SFits w32 x → SFits w64 r → r ≡ to_z w64 (of_z w64 v) *ℤ to_z w32 (of_z w32 x) → to_z w64 (of_z w64 r) ≡ v *ℤ x
+exactly v x r p q f e = to_z-of_z f ∙ (rw (to_z-of_z p, to_z-of_z q) at e)
 
 pub overflow_add-result : goal.overflow_add-result
-overflow_add-result c = let p = c.before.before in
-    let s = p.before.before in
-    rw (at_p p, at-q c) (two-weighed-fit s.args.v s.args.a s.args.b s.args.c s.requires)
-
-pub times-requires-3 : goal.times-requires-3
-times-requires-3 c = search (rules, r-most)
+overflow_add-result c =
+    let s = c.args in
+    let h = c.requires.balanced in
+    let p = exactly s.v.p s.a _ (weight-fits s.v.p (p-most s.v h)) c.ranges.a (sfits_of c.times.type_inv) c.times.ensures in
+    let q = exactly s.v.q s.b _ (weight-fits s.v.q (q-most s.v h)) c.ranges.b (sfits_of c.times-2.type_inv) c.times-2.ensures in
+    rw (p, q) (two-weighed-fit s.v s.a s.b s.c c.requires)
 
 pub overflow_add-result-2 : goal.overflow_add-result-2
-overflow_add-result-2 c = let q = c.before.before in
-    let p = q.before.before in
-    let s = p.before.before in
-    rw (at_p p, at-q q, at-r c, to_z-of_z (two-weighed-fit s.args.v s.args.a s.args.b s.args.c s.requires))
-    (weighed-fits s.args.v s.args.a s.args.b s.args.c s.requires)
+overflow_add-result-2 c =
+    let s = c.args in
+    let h = c.requires.balanced in
+    let p = exactly s.v.p s.a _ (weight-fits s.v.p (p-most s.v h)) c.ranges.a (sfits_of c.times.type_inv) c.times.ensures in
+    let q = exactly s.v.q s.b _ (weight-fits s.v.q (q-most s.v h)) c.ranges.b (sfits_of c.times-2.type_inv) c.times-2.ensures in
+    let r = exactly s.v.r s.c _ (weight-fits s.v.r (r-most s.v h)) c.ranges.c (sfits_of c.times-3.type_inv) c.times-3.ensures in
+    rw (p, q, r, to_z-of_z (two-weighed-fit s.v s.a s.b s.c c.requires)) (weighed-fits s.v s.a s.b s.c c.requires)
 
 pub returns : goal.returns
-returns c = let q = c.before.before in
-    let p = q.before.before in
-    let s = p.before.before in
-    rw (at_p p, at-q q, at-r c, to_z-of_z (two-weighed-fit s.args.v s.args.a s.args.b s.args.c s.requires))
-    (to_z-of_z (weighed-fits s.args.v s.args.a s.args.b s.args.c s.requires))
+returns c =
+    let s = c.args in
+    let h = c.requires.balanced in
+    let p = exactly s.v.p s.a _ (weight-fits s.v.p (p-most s.v h)) c.ranges.a (sfits_of c.times.type_inv) c.times.ensures in
+    let q = exactly s.v.q s.b _ (weight-fits s.v.q (q-most s.v h)) c.ranges.b (sfits_of c.times-2.type_inv) c.times-2.ensures in
+    let r = exactly s.v.r s.c _ (weight-fits s.v.r (r-most s.v h)) c.ranges.c (sfits_of c.times-3.type_inv) c.times-3.ensures in
+    rw (p, q, r, to_z-of_z (two-weighed-fit s.v s.a s.b s.c c.requires)) (to_z-of_z (weighed-fits s.v s.a s.b s.c c.requires))

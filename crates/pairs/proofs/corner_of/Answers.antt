@@ -1,0 +1,6 @@
+use Rattle.pairs.specs.SeenLaw.{corner-made}
+use borrow.Author.Rules.{rules}
+use Rattle.pairs.proofs.corner_of.Goals as goal
+
+pub returns : goal.returns
+returns c = corner-made _ _ _ c.corner-place.ensures

@@ -1,0 +1,7 @@
+use Rattle.pairs.specs.Seen.{meets}
+use borrow.Author.Rules.{rules}
+use Rattle.pairs.proofs.meets.Goals as goal
+
+pub returns : goal.returns
+unfolding meets
+returns c = rw (c.is_on_some.ensures, c.is_on_some-2.ensures, c.is_on_some-3.ensures)

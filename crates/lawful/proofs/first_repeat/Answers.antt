@@ -12,6 +12,20 @@ use borrow.Author.Rules.{rules}
 use Rattle.lawful.proofs.first_repeat.Goals as goal
 
 pub loop-i-preserved : goal.loop-i-preserved
-loop-i-preserved c = let turn = c.before.before.before.before in
-    let on = lowest-on (repeat_at _) _ _ _ _ turn.before.before.before.loop-test.true turn.before.repeat-at.ensures turn.if1.false turn.before.before.before.before.loop.invariant.4 in
+loop-i-preserved c = let on = lowest-on (repeat_at _) _ _ _ _ c.loop-i-test.true c.repeat_at.ensures c.if-repeat_at.false c.loop-i.invariant.4 in
     (search rules, search rules, search notes-kept, search rules, on)
+
+pub returns-then-repeat_at-clause-answer : goal.returns-then-repeat_at-clause-answer
+returns-then-repeat_at-clause-answer c = search (rules, searching)
+
+pub returns-then-repeat_at-clause-ready : goal.returns-then-repeat_at-clause-ready
+returns-then-repeat_at-clause-ready c = λ e. at_some _ e
+
+pub add_row-requires : goal.add_row-requires
+add_row-requires c = search (rules, corners-at)
+
+pub returns-clause-answer : goal.returns-clause-answer
+returns-clause-answer c = search (rules, searching)
+
+pub returns-clause-ready : goal.returns-clause-ready
+returns-clause-ready c = search (rules, ready-end)

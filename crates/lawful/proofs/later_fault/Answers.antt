@@ -35,3 +35,9 @@ returns-clause-answer c = search (rules, chain)
 pub returns-clause-after : goal.returns-clause-after
 unfolding later_by
 returns-clause-after c = search (rules, judged-right)
+
+pub first_repeat-a-requires-clause-ready_2 : goal.first_repeat-a-requires-clause-ready_2
+first_repeat-a-requires-clause-ready_2 c = search (rules, ready-start)
+
+pub first_unused-c-requires-clause-scratch_value : goal.first_unused-c-requires-clause-scratch_value
+first_unused-c-requires-clause-scratch_value c = search (rules, front-zero)

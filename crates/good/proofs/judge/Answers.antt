@@ -1,0 +1,14 @@
+use Rattle.good.specs.RivalLaw.{some-row, all-judged}
+use Rattle.laws.specs.Meshes.{fair}
+use native.Mathlib.Omega.{arith}
+use borrow.Author.Rules.{rules}
+use Rattle.good.proofs.judge.Goals as goal
+
+pub signs-requires-clause-fair : goal.signs-requires-clause-fair
+signs-requires-clause-fair c = search (rules, fair)
+
+pub signs-requires-clause-n_le_nc : goal.signs-requires-clause-n_le_nc
+signs-requires-clause-n_le_nc c = (search rules, search rules)
+
+pub returns : goal.returns
+returns c = all-judged _ _ _ _ _ c.requires.lawful _ _ _ _ c.signs.ensures c.tag_lone.ensures (omega arith) (omega arith)

@@ -1,0 +1,12 @@
+use Rattle.good.specs.SignLaw.{sign-not-1, sign-not-2, sign-all, came}
+use borrow.Author.Rules.{rules}
+use Rattle.good.proofs.sign.sign.Goals as goal
+
+pub span_of-e-requires-clause-z_value : goal.span_of-e-requires-clause-z_value
+span_of-e-requires-clause-z_value c = came _ _ c.g1.ensures c.if-not-g1.false
+
+pub span_of-e-requires-clause-z_value_2 : goal.span_of-e-requires-clause-z_value_2
+span_of-e-requires-clause-z_value_2 c = came _ _ c.g2.ensures c.if-not-g2.false
+
+pub sign_on-requires-clause-z_lt_n : goal.sign_on-requires-clause-z_lt_n
+sign_on-requires-clause-z_lt_n c = (search rules, search rules, search rules)

@@ -1,0 +1,16 @@
+use mathlib.Core.Path.{◌≡◌}
+use Prim.Native.Nat.{◌≤◌, ◌-◌}
+use Rattle.lists.specs.Search.{lowest}
+use Rattle.lists.specs.SearchLaw.{searching}
+use Rattle.lawful.specs.Tests.{blank_at}
+use borrow.Author.Rules.{rules}
+use Rattle.lawful.proofs.first_blank.Goals as goal
+
+pub returns-then-blank_at : goal.returns-then-blank_at
+returns-then-blank_at c = search (rules, searching)
+
+pub loop-z-preserved : goal.loop-z-preserved
+loop-z-preserved c = search (rules, searching)
+
+pub returns : goal.returns
+returns c = search (rules, searching)

@@ -1,0 +1,16 @@
+use mathlib.Core.Path.{◌≡◌}
+use Prim.Native.Nat.{◌≤◌, ◌-◌}
+use Rattle.lists.specs.Search.{lowest}
+use Rattle.lists.specs.SearchLaw.{searching}
+use Rattle.lawful.specs.Tests.{misnamed_at}
+use borrow.Author.Rules.{rules}
+use Rattle.lawful.proofs.first_misnamed.Goals as goal
+
+pub returns-then-misnamed_at : goal.returns-then-misnamed_at
+returns-then-misnamed_at c = search (rules, searching)
+
+pub loop-i-preserved : goal.loop-i-preserved
+loop-i-preserved c = search (rules, searching)
+
+pub returns : goal.returns
+returns c = search (rules, searching)

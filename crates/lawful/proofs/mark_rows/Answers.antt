@@ -1,0 +1,18 @@
+use mathlib.Core.Path.{◌≡◌}
+use Prim.Native.Nat.{◌≤◌, ◌-◌}
+use lib.ListN.{length}
+use Rattle.lists.specs.Search.{iter}
+use Rattle.lists.specs.IterLaw.{looping}
+use Rattle.lawful.specs.Tests.{mark_step}
+use Rattle.lawful.specs.TestsLaw.{not-misnamed}
+use borrow.Author.Rules.{rules}
+use Rattle.lawful.proofs.mark_rows.Goals as goal
+
+pub mark_row-requires : goal.mark_row-requires
+mark_row-requires c = search (rules, not-misnamed)
+
+pub loop-i-preserved : goal.loop-i-preserved
+loop-i-preserved c = search (rules, looping)
+
+pub returns : goal.returns
+returns c = search (rules, looping)

@@ -1,0 +1,7 @@
+use Rattle.outline.specs.Seen.{meet}
+use borrow.Author.Rules.{rules}
+use Rattle.outline.proofs.meet.Goals as goal
+
+pub returns : goal.returns
+unfolding meet
+returns c = rw (c.parted-across.ensures, c.parted-along.ensures, c.is_on.ensures)

@@ -79,8 +79,8 @@ impl Tables {
         let (nc, tc) = (self.nodes.len() / 4, self.rows.len() / 3);
         self.nodes.len() % 4 == 0
             && self.rows.len() % 3 == 0
-            && nc <= 32_768
-            && tc <= 65_536
+            && nc <= 1024
+            && tc <= 2048
             && self.n <= nc
             && self.t <= tc
             && n0 <= self.n

@@ -1,4 +1,4 @@
--- G5 by the numbers of the pairs: nodes are linked by the bucket of their number, one of t. Assumes nothing.
+-- G5 by the numbers of the pairs: nodes are linked by the remainder of their number by t. Assumes nothing.
 use Rattle.std.specs.Prelude.{◌≡◌, Bool, not, ◌&&◌, List, ℕ, ◌+◌, ◌*◌, ◌/◌, ◌%◌, ◌≤◌, ◌<◌, eqb, length, get_or}
 use Rattle.lists.specs.Lists.{cases, is_found}
 use Rattle.lists.specs.Tally.{bit}
@@ -33,19 +33,14 @@ judged n0 m z = 2 * sign_from n0 m z + bit (good n0 m z)
 
 -- ---- how a rival is found
 
--- for the pair lo–hi the remainder of 104,729 lo + hi + 1 by t; the prime is above every t, so that pairs with a node in common have buckets of
--- their own
-abbrev pub bucket_of : ℕ → ℕ → ℕ
-bucket_of t v = (v + v / 32_768 * 71_961) % t
-
--- t where there is no number
+-- the remainder; t where there is no number
 abbrev pub key_of : ℕ → ℕ → ℕ
-key_of t v = cases (eqb v 0) t (bucket_of t v)
+key_of t v = cases (eqb v 0) t (v % t)
 
 abbrev pub same_key : ℕ → (ℕ → ℕ) → ℕ → ℕ → Bool
 same_key t sg z y = eqb (key_of t (sg y)) (key_of t (sg z))
 
--- the nodes below n are linked by the buckets of their numbers
+-- the nodes below n are linked by the remainders of their numbers
 pub record Linked (s : List ℕ) (nc n t : ℕ) : Type 0 where
   pub chain : Chain (λ z. key_of t (numbers_at s nc z)) t (2 * nc) 0 n 0 s
   pub room : n ≤ nc
@@ -55,4 +50,4 @@ abbrev pub blank : ℕ → ℕ
 blank i = 0
 
 unfoldable pub link_node : ℕ → ℕ → ℕ → List ℕ → List ℕ
-link_node nc t z s = cases (eqb (numbers_at s nc z) 0) s (linked (2 * nc + bucket_of t (numbers_at s nc z)) z z s)
+link_node nc t z s = cases (eqb (numbers_at s nc z) 0) s (linked (2 * nc + numbers_at s nc z % t) z z s)

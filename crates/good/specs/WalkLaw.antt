@@ -15,7 +15,7 @@ use Rattle.lists.specs.SearchLaw.{lowest-some, lowest-agree}
 use Rattle.lists.specs.Loops.{code, down, noted}
 use Rattle.lists.specs.LoopsLaw.{down-makes, noted-turn, noted-length, noted-at, noted-below, noted-above}
 use Rattle.lists.specs.ChainLaw.{Chain, linked, linked-length, linked-other, chain-start, chain-skip, chain_link, chain-kept, On, over, at, on-start, on-next, ahead, ahead-less}
-use Rattle.good.specs.Rival.{numbers_at, rivals, bucket_of, lone, tagged, Tags, key_of, same_key, Linked, blank, link_node}
+use Rattle.good.specs.Rival.{numbers_at, rivals, lone, tagged, Tags, key_of, same_key, Linked, blank, link_node}
 
 -- ---- where there is a node, t is above 0
 
@@ -32,7 +32,7 @@ pub link-not : (v nc t z : ℕ) (s : List ℕ) → v ≡ numbers_at s nc z → v
 unfolding link_node
 link-not v nc t z s e h = rw (← e, h)
 
-pub link-it : (v b nc t z : ℕ) (s s' : List ℕ) → v ≡ numbers_at s nc z → (v ≡ 0 → ⊥) → b ≡ bucket_of t v → s' ≡ linked (2 * nc + b) z z s → s' ≡ link_node nc t z s
+pub link-it : (v b nc t z : ℕ) (s s' : List ℕ) → v ≡ numbers_at s nc z → (v ≡ 0 → ⊥) → b ≡ v % t → s' ≡ linked (2 * nc + b) z z s → s' ≡ link_node nc t z s
 unfolding link_node
 link-it v b nc t z s s' e h f g = g ∙ rw (← e, ne_eqb v 0 h, ← f)
 
@@ -51,15 +51,15 @@ module _ (nc n t : ℕ) (room : n ≤ nc) where
       same : numbers_at s nc i ≡ numbers_at s₀ nc i
       same = ap (λ (x : ℕ). x / 2) (l.between i h)
 
-      go : (b : Bool) → eqb (numbers_at s nc i) 0 ≡ b → Linking s₀ i (cases b s (linked (2 * nc + bucket_of t (numbers_at s nc i)) i i s))
+      go : (b : Bool) → eqb (numbers_at s nc i) 0 ≡ b → Linking s₀ i (cases b s (linked (2 * nc + numbers_at s nc i % t) i i s))
       go true e = record {
         chain = chain-skip (λ z. key_of t (numbers_at s₀ nc z)) t (2 * nc) 0 n i s h l.chain (rw (← same, e) (omega arith));
         long = l.long;
         between = l.between;
       }
       go false e =
-          let k : key_of t (numbers_at s₀ nc i) ≡ bucket_of t (numbers_at s nc i) = rw (← same, e) in
-          linked-in (bucket_of t (numbers_at s nc i)) k (mod-lt (numbers_at s nc i + numbers_at s nc i / 32_768 * 71_961) some)
+          let k : key_of t (numbers_at s₀ nc i) ≡ numbers_at s nc i % t = rw (← same, e) in
+          linked-in (numbers_at s nc i % t) k (mod-lt (numbers_at s nc i) some)
         where
           linked-in : (b : ℕ) → key_of t (numbers_at s₀ nc i) ≡ b → b < t → Linking s₀ i (linked (2 * nc + b) i i s)
           linked-in b k lt =
@@ -113,15 +113,15 @@ abbrev pub Walk : List ℕ → ℕ → ℕ → ℕ → ℕ → ℕ → Type 0
 Walk s nc n t z k = On (rivals (numbers_at s nc) z) (same_key t (numbers_at s nc) z) n k
 
 module _ (s : List ℕ) (nc n t z : ℕ) (d : Linked s nc n t) (l : z < n) (os : numbers_at s nc z ≡ 0 → ⊥) (some : 0 < t) where
-  key-is : key_of t (numbers_at s nc z) ≡ bucket_of t (numbers_at s nc z)
+  key-is : key_of t (numbers_at s nc z) ≡ numbers_at s nc z % t
   key-is = rw (ne_eqb (numbers_at s nc z) 0 os)
 
   key_in : key_of t (numbers_at s nc z) < t
-  key_in = rw key-is (mod-lt (numbers_at s nc z + numbers_at s nc z / 32_768 * 71_961) some)
+  key_in = rw key-is (mod-lt (numbers_at s nc z) some)
 
-  pub walk_start : (v b k : ℕ) → v ≡ numbers_at s nc z → b ≡ bucket_of t v → k ≡ get_or s (2 * nc + b) 0 → Walk s nc n t z k
+  pub walk_start : (v b k : ℕ) → v ≡ numbers_at s nc z → b ≡ v % t → k ≡ get_or s (2 * nc + b) 0 → Walk s nc n t z k
   walk_start v b k e f g =
-      let q : b ≡ key_of t (numbers_at s nc z) = f ∙ ap (bucket_of t) e ∙ sym key-is in
+      let q : b ≡ key_of t (numbers_at s nc z) = f ∙ ap (λ (x : ℕ). x % t) e ∙ sym key-is in
       let w : k ≡ code (lowest (same_key t (numbers_at s nc) z) 0 n) = g ∙ rw q (d.chain.heads (key_of t (numbers_at s nc z)) key_in) in
       rw w (on-start (rivals (numbers_at s nc) z) (same_key t (numbers_at s nc) z) n (rivals-same_key t (numbers_at s nc) z))
 

@@ -1,7 +1,7 @@
 // Good nodes: G1 to G5 of document 01, for all nodes of a lawful mesh as given.
 //
 // Notes, with nc the room of nodes: at nc + z twice the number of the pair b, c of node z (0 where it does not meet G1 to G4, or is a
-// base node), and 1 more where it is good. Below nc and from 2 nc on stand the rows round each node, later the nodes of one bucket.
+// base node), and 1 more where it is good. Below nc and from 2 nc on stand the rows round each node, later the nodes of one remainder.
 #![tactic(auto)]
 
 mod rival;

@@ -1,14 +1,14 @@
-// G5: nodes with the same number, looked for among those in the same of t buckets. Only scratch is asked.
+// G5: nodes with the same number, looked for among those with the same remainder by t. Only scratch is asked.
 //
 // Notes, with nc the room of nodes; a node is noted one too large, and 0 says none:
 //   nc + z     twice the number of node z, later 1 more where no other node has it
-//   2 nc + k   the lowest node whose number is in bucket k
-//   z          the next node in the same bucket
+//   2 nc + k   the lowest node whose number leaves the remainder k by t
+//   z          the next node with the same remainder
 ghost use Rattle.std.specs.Prelude.{◌≡◌, ℕ, ◌+◌, ◌-◌, ◌*◌, ◌%◌, ◌≤◌, ◌<◌, length};
 ghost use Rattle.lists.specs.Lists.{is_found};
 ghost use Rattle.lists.specs.Search.{lowest};
 ghost use Rattle.lists.specs.Loops.{down, noted};
-ghost use Rattle.good.specs.Rival.{numbers_at, rivals, bucket_of, Linked, tagged, Tags, blank, link_node};
+ghost use Rattle.good.specs.Rival.{numbers_at, rivals, Linked, tagged, Tags, blank, link_node};
 
 fn number_at(scratch: &[u32], nc: usize, z: usize) -> u32
     requires { nc + z < length scratch.now }
@@ -18,7 +18,7 @@ fn number_at(scratch: &[u32], nc: usize, z: usize) -> u32
     tables::note_at(scratch, nc + z) / 2
 }
 
-// ---- nodes are linked by buckets
+// ---- nodes are linked by their remainders
 
 fn blank_rows(scratch: &mut [u32], o: usize, t: usize)
     requires { o + t ≤ length scratch.old }
@@ -31,13 +31,12 @@ fn blank_rows(scratch: &mut [u32], o: usize, t: usize)
     }
 }
 
-// The bucket of a number, the same for equal ones. Any would be right; this one keeps apart the pairs that have a node in common.
 fn bucket(v: u32, t: usize) -> usize
     requires { 0 < t }
-    ensures is { result ≡ bucket_of t v }
+    ensures is { result ≡ v % t }
     ensures below { result < t }
 {
-    (v as usize + v as usize / 32768 * 71961) % t
+    v as usize % t
 }
 
 fn link_node(scratch: &mut [u32], nc: usize, t: usize, z: usize)
@@ -69,7 +68,7 @@ fn link_nodes(scratch: &mut [u32], nc: usize, n: usize, t: usize)
     }
 }
 
-// ---- a walk along the nodes of one bucket
+// ---- a walk along the nodes with one remainder
 
 fn rival(scratch: &[u32], nc: usize, z: usize, y: usize) -> bool
     requires z_in_bounds { nc + z < length scratch.now }

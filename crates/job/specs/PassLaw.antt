@@ -1,15 +1,14 @@
 -- The turn of restore, in the form of its needs. It rests on what coarsen leaves, and on laws of passes. Assumes nothing.
-use Rattle.std.specs.Prelude.{◌≡◌, refl, ◌≢◌, Bool, true, false, List, [], ◌∷◌, ℕ, zero, suc, ◌+◌, ◌≤◌, ◌<◌, min, ℤ, take}
-use Rattle.std.proofs.Common.{sym, ◌∙◌, arith, ne_eqb, Fits}
-use Rattle.std.proofs.Math.Path.{ap}
-use Rattle.std.proofs.Math.ListN.{length, replicate, length-replicate}
+use Rattle.std.specs.Prelude.{◌≡◌, refl, ◌≢◌, Bool, true, false, List, [], ◌∷◌, ℕ, zero, suc, ◌+◌, ◌≤◌, ◌<◌, min, ℤ, replicate, take}
+use Rattle.std.proofs.Common.{sym, ap, ◌∙◌, arith, ne_eqb, Fits}
+use Rattle.std.proofs.Math.ListN.{length, length-replicate}
 use Rattle.std.specs.Int.{w64}
 use Rattle.lists.specs.Lists.{cases}
 use Rattle.meaning.specs.declared.Answer.{Answer}
 use Rattle.meaning.specs.Mesh.{Mesh}
 use Rattle.meaning.specs.Lawful.{Lawful, refusal}
 use Rattle.meaning.specs.Coarsen.{coarsened, good_nodes, all_marked, pass, Restored, restored}
-use Rattle.meaning.specs.Tables.{Given, Outcome, given, outcome, answer, mesh_of, cleared, most_nodes}
+use Rattle.meaning.specs.Tables.{Given, Outcome, given, outcome, answer, mesh_of, cleared}
 use Rattle.meaning.specs.Calls.{culprit_of, unless, marks_fit, coarsen_no, coarsens, restores, says, sizes_fit, untouched, done, leaves, coarsen_out, restore_out}
 use Rattle.laws.specs.Lawful.{refusal-lawful, lawful-refusal}
 use Rattle.laws.specs.Marks.{marks-exact, ones-fit}
@@ -27,16 +26,13 @@ take-ones zero k h = refl
 take-ones (suc m) zero h = absurd (omega arith)
 take-ones (suc m) (suc k) h = ap (λ (l : List ℕ). 1 ∷ l) (take-ones m k (omega arith))
 
-module _ (ones : List ℕ) (m n : ℕ) (e : m ≡ min n most_nodes) (all : ones ≡ replicate most_nodes 1) where
-  lent : take {A = ℕ} m ones ≡ replicate m 1
-  lent = ap (take m) all ∙ take-ones m most_nodes (omega arith)
+pub ones-count : (m n : ℕ) → m ≡ min n 1024 → m ≡ length (take {A = ℕ} m (replicate 1024 1))
+ones-count m n e = rw (take-ones m 1024 (omega arith)) (sym (length-replicate m 1))
 
-  pub ones-count : m ≡ length (take {A = ℕ} m ones)
-  ones-count = rw lent (sym (length-replicate m 1))
-
-  pub pass-made : (o : Outcome) (nodes : List ℤ) (rows scratch : List ℕ) (n0 t : ℕ) → o ≡ coarsen_out (given nodes rows scratch n t) n0 (take {A = ℕ} m ones) → o ≡ pass_out (given nodes rows scratch n t) n0
-  unfolding pass_out
-  pass-made o nodes rows scratch n0 t f = f ∙ ap (coarsen_out (given nodes rows scratch n t) n0) (lent ∙ ap (λ (x : ℕ). replicate {A = ℕ} x 1) e)
+pub pass-made : (o : Outcome) (nodes : List ℤ) (rows scratch : List ℕ) (n0 n t m : ℕ) → m ≡ min n 1024 →
+    o ≡ coarsen_out (given nodes rows scratch n t) n0 (take {A = ℕ} m (replicate 1024 1)) → o ≡ pass_out (given nodes rows scratch n t) n0
+unfolding pass_out
+pass-made o nodes rows scratch n0 n t m e f = f ∙ ap (coarsen_out (given nodes rows scratch n t) n0) (take-ones m 1024 (omega arith) ∙ ap (λ (x : ℕ). replicate {A = ℕ} x 1) e)
 
 -- ---- what a pass leaves, and what restore leaves, of the same tables
 
@@ -48,9 +44,9 @@ pass-and-restore : (g : Given) (n0 : ℕ) → Said g n0 (pass_out g n0) (restore
 unfolding pass_out coarsen_out restore_out coarsens restores coarsen_no pass
 pass-and-restore g n0 = go (sizes_fit g n0) refl
   where
-    marks : Sizes g n0 → replicate {A = ℕ} (min g.n most_nodes) 1 ≡ all_marked (mesh_of g).nodes
+    marks : Sizes g n0 → replicate {A = ℕ} (min g.n 1024) 1 ≡ all_marked (mesh_of g).nodes
     marks s =
-        let d : min g.n most_nodes ≡ length (mesh_of g).nodes = omega (arith, nodes-count g, s.few-nodes, s.n-fits) in
+        let d : min g.n 1024 ≡ length (mesh_of g).nodes = omega (arith, nodes-count g, s.few-nodes, s.n-fits) in
         ap (λ (x : ℕ). replicate {A = ℕ} x 1) d ∙ ones-mark-all (mesh_of g).nodes
 
     fit : marks_fit (length (mesh_of g).nodes) (all_marked (mesh_of g).nodes) ≡ true
@@ -63,7 +59,7 @@ pass-and-restore g n0 = go (sizes_fit g n0) refl
 
     go : (b : Bool) → sizes_fit g n0 ≡ b →
         Said g n0
-        (cases b (leaves g (says (unless (marks_fit (length (mesh_of g).nodes) (replicate (min g.n most_nodes) 1)) 2 (refusal (mesh_of g))) (mesh_of g) (coarsened n0 (mesh_of g) (replicate (min g.n most_nodes) 1)) 0)) (untouched g 1 0))
+        (cases b (leaves g (says (unless (marks_fit (length (mesh_of g).nodes) (replicate (min g.n 1024) 1)) 2 (refusal (mesh_of g))) (mesh_of g) (coarsened n0 (mesh_of g) (replicate (min g.n 1024) 1)) 0)) (untouched g 1 0))
         (cases b (leaves g (says (refusal (mesh_of g)) (mesh_of g) (restored n0 (mesh_of g)).end (restored n0 (mesh_of g)).passes)) (untouched g 1 0))
     go true e = let s = (sizes-exact g n0).0 e in rw (marks s, fit) (lawful s (refusal (mesh_of g)) refl)
     go false e = refused 1 0 (omega arith)

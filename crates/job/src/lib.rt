@@ -1,54 +1,51 @@
 // Restore: full passes while a node goes. It rests on what coarsen promises.
 #![tactic(auto)]
 
-ghost use Rattle.std.specs.Prelude.{◌≡◌, min, replicate};
-ghost use Rattle.meaning.specs.Tables.{given, outcome, most_nodes};
+ghost use Rattle.std.specs.Prelude.{◌≡◌, min};
+ghost use Rattle.meaning.specs.Tables.{given, outcome};
 ghost use Rattle.meaning.specs.Calls.{coarsen_out, restore_out};
 ghost use Rattle.job.specs.Pass.{pass_out};
 
-use meaning::{Answer, MOST_NODES};
+use meaning::Answer;
 
 fn at_most(n: usize) -> usize
-    ensures { result ≡ min n most_nodes }
+    ensures { result ≡ min n 1024 }
 {
-    if n < MOST_NODES { n } else { MOST_NODES }
+    if n < 1024 { n } else { 1024 }
 }
 
-// A full pass: coarsen with all nodes marked. With more nodes than a table may hold it is refused whatever is marked.
+// A full pass: coarsen with all nodes marked. With more than 1,024 nodes it is refused whatever is marked.
 fn full_pass(
     nodes: &mut [i32],
     rows: &mut [u32],
     scratch: &mut [u32],
-    ones: &[u8],
     n0: usize,
     n: usize,
     t: usize,
 ) -> Answer
-    requires { ones.now ≡ replicate most_nodes 1 }
     ensures { outcome result nodes.new rows.new scratch.new ≡ pass_out (given nodes.old rows.old scratch.old n t) n0 }
 {
+    let ones: [u8; 1024] = [1; 1024];
     let m = at_most(n);
     mesh::coarsen(nodes, rows, scratch, &ones[..m], n0, n, t)
 }
 
-// Passes while a good node exists. The last look, which finds none, is not counted.
-fn all_passes(
+// Restore makes passes while a good node exists. The last look, which finds none, is not counted.
+pub fn restore(
     nodes: &mut [i32],
     rows: &mut [u32],
     scratch: &mut [u32],
-    ones: &[u8],
     n0: usize,
     n: usize,
     t: usize,
 ) -> Answer
-    requires { ones.now ≡ replicate most_nodes 1 }
     ensures { outcome result nodes.new rows.new scratch.new ≡ restore_out (given nodes.old rows.old scratch.old n t) n0 }
 {
     let mut m = n;
     let mut u = t;
     let mut passes = 0;
     loop {
-        let a = full_pass(nodes, rows, scratch, ones, n0, m, u);
+        let a = full_pass(nodes, rows, scratch, n0, m, u);
         if a.number != 0 {
             return Answer {
                 number: a.number,
@@ -71,19 +68,4 @@ fn all_passes(
         u = a.t;
         passes += 1;
     }
-}
-
-// Restore. The ones that every pass lends are made once.
-pub fn restore(
-    nodes: &mut [i32],
-    rows: &mut [u32],
-    scratch: &mut [u32],
-    n0: usize,
-    n: usize,
-    t: usize,
-) -> Answer
-    ensures { outcome result nodes.new rows.new scratch.new ≡ restore_out (given nodes.old rows.old scratch.old n t) n0 }
-{
-    let ones: [u8; MOST_NODES] = [1; MOST_NODES];
-    all_passes(nodes, rows, scratch, &ones, n0, n, t)
 }

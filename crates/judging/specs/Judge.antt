@@ -9,7 +9,7 @@ use Rattle.lists.specs.Search.{items}
 use Rattle.meaning.specs.declared.Fault.{Fault}
 use Rattle.meaning.specs.Mesh.{Mesh, mesh}
 use Rattle.meaning.specs.Lawful.{Lawful, fault, fault_of, refusal}
-use Rattle.meaning.specs.Tables.{Given, given, mesh_of, most_nodes, row_at, node_at}
+use Rattle.meaning.specs.Tables.{Given, given, mesh_of, row_at, node_at}
 use Rattle.meaning.specs.Calls.{marks_fit, sizes_fit}
 use Rattle.laws.specs.Lawful.{refusal-lawful}
 use Rattle.laws.specs.CallLaw.{Sizes, sizes-exact}
@@ -33,7 +33,7 @@ pub record Admitted (nodes : List ℤ) (rows scratch marks : List ℕ) (k n t : 
   pub sizes : Sized (length nodes / 4) (length rows) (length scratch)
   pub nodes-fit : 4 * n ≤ length nodes
   pub rows_fit : 3 * t ≤ length rows
-  pub few : length nodes / 4 ≤ most_nodes
+  pub few : length nodes / 4 ≤ 1024
   pub marks-fit : length marks ≡ k
   pub notes : take (index_at (length nodes / 4) (length rows)) scratch ≡ replicate (index_at (length nodes / 4) (length rows)) 0
   pub ready : Ready scratch (length nodes / 4) rows t

@@ -2,13 +2,13 @@
 use Rattle.std.specs.Prelude.{◌≡◌, refl, Bool, true, false, ◌&&◌, List, ℕ, ◌+◌, ◌*◌, ◌/◌, ◌%◌, eqb, leb, ℤ, length}
 use Rattle.std.proofs.Common.{arith, leb-true, leb-false, le-leb}
 use Rattle.std.proofs.lemmas.Bool.{lt-leb}
-use Rattle.meaning.specs.Tables.{given, most_nodes, most_rows}
+use Rattle.meaning.specs.Tables.{given}
 use Rattle.meaning.specs.Calls.{sizes_fit}
 
 -- `sizes_fit`, by lengths
 unfoldable pub fitting : ℕ → ℕ → ℕ → ℕ → ℕ → ℕ → Bool
 fitting nl tl sl n0 n t =
-    eqb (nl % 4) 0 && eqb (tl % 3) 0 && leb (nl / 4) most_nodes && leb (tl / 3) most_rows && leb n (nl / 4) && leb t (tl / 3) && leb n0 n && leb (4 * (nl / 4 + tl / 3)) sl
+    eqb (nl % 4) 0 && eqb (tl % 3) 0 && leb (nl / 4) 1024 && leb (tl / 3) 2048 && leb n (nl / 4) && leb t (tl / 3) && leb n0 n && leb (4 * (nl / 4 + tl / 3)) sl
 
 pub fitting-is : (nodes : List ℤ) (rows s : List ℕ) (n0 n t : ℕ) → fitting (length nodes) (length rows) (length s) n0 n t ≡ sizes_fit (given nodes rows s n t) n0
 unfolding fitting sizes_fit

@@ -6,7 +6,7 @@ ghost use Rattle.meaning.specs.Tables.{given, answer};
 ghost use Rattle.judging.specs.Sizes.{fitting};
 ghost use Rattle.judging.specs.Judge.{early, Admitted};
 
-use meaning::{Answer, Fault, MOST_NODES, MOST_ROWS};
+use meaning::{Answer, Fault};
 
 mod marks; // marks.rt: 2
 
@@ -16,8 +16,8 @@ fn sizes_fit(nl: usize, tl: usize, sl: usize, n0: usize, n: usize, t: usize) -> 
 {
     (nl % 4 == 0)
         & (tl % 3 == 0)
-        & (nl / 4 <= MOST_NODES)
-        & (tl / 3 <= MOST_ROWS)
+        & (nl / 4 <= 1024)
+        & (tl / 3 <= 2048)
         & (n <= nl / 4)
         & (t <= tl / 3)
         & (n0 <= n)

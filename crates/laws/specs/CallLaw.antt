@@ -9,7 +9,7 @@ use Rattle.lists.specs.ListsLaw.{and_left, and_right}
 use Rattle.meaning.specs.declared.Correction.{Correction}
 use Rattle.meaning.specs.declared.Place.{Place}
 use Rattle.meaning.specs.Mesh.{Mesh, correction}
-use Rattle.meaning.specs.Tables.{Given, Outcome, node_form, row_form, mesh_of, room_of, most_nodes, most_rows, flat_nodes, flat_rows, filled, cleared}
+use Rattle.meaning.specs.Tables.{Given, Outcome, node_form, row_form, mesh_of, room_of, flat_nodes, flat_rows, filled, cleared}
 use Rattle.meaning.specs.Lawful.{Names, names-none, refusal}
 use Rattle.meaning.specs.Split.{Way, refined}
 use Rattle.meaning.specs.Coarsen.{coarsened, restored}
@@ -28,8 +28,8 @@ use Rattle.laws.specs.TableMesh.{nodes-count, rows-count, flat-nodes-length, fla
 pub record Sizes (g : Given) (n0 : ℕ) : Type 0 where
   pub nodes-whole : length g.nodes % node_form.width ≡ 0
   pub rows_whole : length g.rows % row_form.width ≡ 0
-  pub few-nodes : (room_of g).nodes ≤ most_nodes
-  pub few-rows : (room_of g).rows ≤ most_rows
+  pub few-nodes : (room_of g).nodes ≤ 1024
+  pub few-rows : (room_of g).rows ≤ 2048
   pub n-fits : g.n ≤ (room_of g).nodes
   pub t-fits : g.t ≤ (room_of g).rows
   pub n0-fits : n0 ≤ g.n

@@ -13,7 +13,7 @@ use Rattle.meaning.specs.Coarsen.{coarsened, restored}
 use Rattle.meaning.specs.Setting.{corrected, set_fault}
 use Rattle.meaning.specs.Proper.{uncrowded, disjoint}
 use Rattle.meaning.specs.Asking.{row_holding, correction_at}
-use Rattle.meaning.specs.Tables.{Given, Outcome, Room, outcome, answer, node_form, row_form, mesh_of, room_of, most_nodes, most_rows, flat_nodes, flat_rows, filled, cleared}
+use Rattle.meaning.specs.Tables.{Given, Outcome, Room, outcome, answer, node_form, row_form, mesh_of, room_of, flat_nodes, flat_rows, filled, cleared}
 
 -- ---- of a mesh
 
@@ -120,7 +120,7 @@ asks m P = told (ask_no m P) (culprit_of m (ask_no m P)) (correction_at m P)
 unfoldable pub sizes_fit : Given → ℕ → Bool
 sizes_fit g n0 =
     eqb (length g.nodes % node_form.width) 0 && eqb (length g.rows % row_form.width) 0 &&
-    leb (room_of g).nodes most_nodes && leb (room_of g).rows most_rows &&
+    leb (room_of g).nodes 1024 && leb (room_of g).rows 2048 &&
     leb g.n (room_of g).nodes && leb g.t (room_of g).rows && leb n0 g.n &&
     leb (4 * ((room_of g).nodes + (room_of g).rows)) (length g.scratch)
 

@@ -6,7 +6,7 @@ use Rattle.meaning.specs.declared.Manner.TheVariants.{Newest, AllThree}
 use Rattle.meaning.specs.declared.Quarters.{Quarters}
 use Rattle.meaning.specs.declared.Quarters.TheVariants.{Bisected, Red}
 use Rattle.meaning.specs.Split.{starts_of, way_of, split_edges, started, red_made}
-use Rattle.meaning.specs.Tables.{Room, most_nodes, most_rows}
+use Rattle.meaning.specs.Tables.{Room}
 use Rattle.meaning.specs.Calls.{Reply, checks, refines, coarsens, restores, sets, if_done}
 
 pub data Call : Type 0 where
@@ -81,7 +81,7 @@ within nc tc n0 m c s = record { room = record { nodes = nc; rows = tc }; n0 = n
 
 -- in tables with all the room there may be
 abbrev pub case : ℕ → Mesh → Call → Said → Case
-case = within most_nodes most_rows
+case = within 1024 2048
 
 -- nodes that carry no correction: by two numbers not below 0, and by any two
 abbrev pub at : ℕ → ℕ → Node

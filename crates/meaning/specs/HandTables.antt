@@ -114,6 +114,9 @@ outcomes =
     (refine_out all_three (lent spare wide 40 4 2) 5 (1 ∷ 0 ∷ []) is said 1 4 2 0 spare wide 40) ∷
     (coarsen_out (lent spare wide 40 4 2) 5 (1 ∷ []) is said 1 4 2 0 spare wide 40) ∷
     (restore_out (lent spare wide 40 4 2) 5 is said 1 4 2 0 spare wide 40) ∷
+    (check_out (lent (replicate 4096 0) (replicate 6144 0) 12288 0 0) is said 0 0 0 0 (replicate 4096 0) (replicate 6144 0) 12288) ∷
+    wrong (replicate 4100 0) [] 4100 0 0 ∷
+    wrong [] (replicate 6147 0) 8196 0 0 ∷
     -- 3 to 7 name a node or a row
     (check_out (lent outside wide 40 4 2) is blamed 3 1 4 2 outside wide 40) ∷
     (refine_out newest (lent spare misnamed 40 4 2) 4 (0 ∷ 0 ∷ []) is blamed 4 1 4 2 spare misnamed 40) ∷

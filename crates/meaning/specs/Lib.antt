@@ -20,4 +20,3 @@ pub mod SettingMeshes
 pub mod AskingMeshes
 pub mod ProperMeshes
 pub mod HandTables
-pub mod Limits

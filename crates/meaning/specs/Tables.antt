@@ -73,13 +73,6 @@ pub record Room : Type 0 where
 abbrev pub room_of : Given → Room
 room_of g = record { nodes = length g.nodes / node_form.width; rows = length g.rows / row_form.width }
 
--- W9: "room for 32,768 nodes and 65,536 rows": the largest rooms that a call takes
-abbrev pub most_nodes : ℕ
-most_nodes = 32_768
-
-abbrev pub most_rows : ℕ
-most_rows = 65_536
-
 -- ---- writing
 
 abbrev pub flat_nodes : List Node → List ℤ

@@ -1,11 +1,6 @@
 // What the device holds and what a call answers: the structs that code and definitions share. Document 01 as definitions is in specs/.
 #![tactic(auto)]
 
-// W9: the most nodes and rows that a table lent to a call may have room for. A larger room is refused as 1.
-pub const MOST_NODES: usize = 32_768;
-
-pub const MOST_ROWS: usize = 65_536;
-
 // Where a node stands.
 #[derive(Clone, Copy)]
 pub struct Place {

@@ -12,7 +12,7 @@ use Rattle.lists.specs.Tally.{if-so, bit, tally, tally-le, tally-eq, tally-zero,
 use Rattle.meaning.specs.declared.Tri.{Tri}
 use Rattle.meaning.specs.Mesh.{Mesh, Arrow, tri, arrow, arrows, same_arrow}
 use Rattle.meaning.specs.Lawful.{Lawful}
-use Rattle.meaning.specs.Tables.{row_at, most_rows}
+use Rattle.meaning.specs.Tables.{row_at}
 use Rattle.neighbours.specs.Slots.{many}
 use Rattle.neighbours.specs.Walk.{count_at, rarer}
 use Rattle.neighbours.specs.Join.{Exact}
@@ -125,17 +125,17 @@ turns-few ts once = rw (arrows-length ts) at (out-few (joined arrows ts) once)
 pub turns-lawful : (m : Mesh) → Lawful m → turns m.tris * turns m.tris ≤ 3 * length m.tris * (3 * length m.tris) * (3 * length m.tris)
 turns-lawful m law = turns-few m.tris law.no_twice
 
--- W9: "65,536 rows": 196,608 searches of fewer than 444 turns, on the average
-pub turns-most : (m : Mesh) → Lawful m → length m.tris ≤ most_rows → turns m.tris ≤ 87_176_971
-turns-most m law few = go (leb (turns m.tris) 87_176_971) refl
+-- "room TC at most 2,048 rows": 6,144 searches of fewer than 79 turns, on the average
+pub turns-01 : (m : Mesh) → Lawful m → length m.tris ≤ 2048 → turns m.tris ≤ 481_589
+turns-01 m law few = go (leb (turns m.tris) 481_589) refl
   where
-    go : (t : Bool) → leb (turns m.tris) 87_176_971 ≡ t → turns m.tris ≤ 87_176_971
-    go true e = leb-true (turns m.tris) 87_176_971 e
+    go : (t : Bool) → leb (turns m.tris) 481_589 ≡ t → turns m.tris ≤ 481_589
+    go true e = leb-true (turns m.tris) 481_589 e
     go false e =
         let a = turns-lawful m law in
-        let corners : 3 * length m.tris ≤ 196_608 = omega arith in
+        let corners : 3 * length m.tris ≤ 6144 = omega arith in
         let b = mul-le-mul (mul-le-mul corners corners) corners in
-        let more : 87_176_972 ≤ turns m.tris = leb-false (turns m.tris) 87_176_971 e in
+        let more : 481_590 ≤ turns m.tris = leb-false (turns m.tris) 481_589 e in
         let c = mul-le-mul more more in
         absurd (omega arith)
 

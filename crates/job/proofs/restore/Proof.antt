@@ -6,14 +6,14 @@ use lib.ListN.{length}
 use Prim.Native.Nat.{◌≤◌, ◌+◌}
 use mathlib.Core.Path.{◌≡◌}
 use borrow.Author.Rules.{rules}
-use Rattle.job.proofs.all_passes.Statement.{statement}
-use Rattle.job.proofs.all_passes.Tie as tie
+use Rattle.job.proofs.restore.Statement.{statement}
+use Rattle.job.proofs.restore.Tie as tie
 
 abbrev invariant-loop : tie.invariant-loop
-invariant-loop nodes₀ rows₀ scratch₀ ones n0 n t m₀ u₀ passes₀ nodes rows scratch m u passes = (length nodes ≡ length nodes₀) × (length rows ≡ length rows₀) × (length scratch ≡ length scratch₀) × (passes + m ≤ n) × (after passes n t (restore_out (given nodes rows scratch m u) n0) ≡ restore_out (given nodes₀ rows₀ scratch₀ n t) n0)
+invariant-loop nodes₀ rows₀ scratch₀ n0 n t m₀ u₀ passes₀ nodes rows scratch m u passes = (length nodes ≡ length nodes₀) × (length rows ≡ length rows₀) × (length scratch ≡ length scratch₀) × (passes + m ≤ n) × (after passes n t (restore_out (given nodes rows scratch m u) n0) ≡ restore_out (given nodes₀ rows₀ scratch₀ n t) n0)
 
 abbrev decreases-loop : tie.decreases-loop
-decreases-loop nodes₀ rows₀ scratch₀ ones n0 n t m₀ u₀ passes₀ nodes rows scratch m u passes = m
+decreases-loop nodes₀ rows₀ scratch₀ n0 n t m₀ u₀ passes₀ nodes rows scratch m u passes = m
 
 loop-holds : tie.Need-loop-init invariant-loop decreases-loop
 loop-holds c = (search rules, search rules, search rules, search rules, after-start _ _)
@@ -33,8 +33,8 @@ loop-less c = search (rules, less)
 loop-again : tie.Need-loop-preserved invariant-loop decreases-loop
 loop-again c = (search rules, search rules, search rules, search passes-in, search goes_on)
 
-pub all-passes-spec : {M : Type 1} → statement M
-all-passes-spec =
+pub restore-spec : {M : Type 1} → statement M
+restore-spec =
     tie.close
     (tie.spec
     invariant-loop decreases-loop loop-holds (λ c κs. search rules) (λ c. search rules) (λ c. search rules)

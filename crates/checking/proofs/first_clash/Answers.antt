@@ -1,0 +1,16 @@
+use mathlib.Core.Path.{◌≡◌}
+use Prim.Native.Nat.{◌≤◌, ◌-◌}
+use Rattle.lists.specs.Search.{lowest}
+use Rattle.lists.specs.SearchLaw.{searching}
+use Rattle.checking.specs.Clash.{clash_at}
+use borrow.Author.Rules.{rules}
+use Rattle.checking.proofs.first_clash.Goals as goal
+
+pub returns-then-clash_at : goal.returns-then-clash_at
+returns-then-clash_at c = search (rules, searching)
+
+pub loop-i-preserved : goal.loop-i-preserved
+loop-i-preserved c = search (rules, searching)
+
+pub returns : goal.returns
+returns c = search (rules, searching)

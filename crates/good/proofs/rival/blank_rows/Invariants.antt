@@ -1,0 +1,14 @@
+use Rattle.good.specs.Rival.{blank}
+use Rattle.lists.specs.LoopsLaw.{noted-start, noting}
+use Rattle.lists.specs.Loops.{noted}
+use lib.ListN.{length}
+use Prim.Native.Nat.{◌≤◌, ◌-◌}
+use mathlib.Core.Path.{◌≡◌}
+use borrow.Author.Rules.{rules}
+use Rattle.good.proofs.rival.blank_rows.Given as goal
+
+abbrev pub invariant-loop-i : goal.invariant-loop-i
+invariant-loop-i l = (l.i ≤ l.t) × (length l.scratch ≡ length l.initial.scratch) × (l.scratch ≡ noted l.o blank l.i l.initial.scratch)
+
+abbrev pub decreases-loop-i : goal.decreases-loop-i
+decreases-loop-i l = l.t - l.i

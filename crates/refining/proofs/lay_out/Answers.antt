@@ -18,8 +18,8 @@ number-k-requires-clause-ready c = search (rules, closed-ready)
 pub weigh-requires : goal.weigh-requires
 weigh-requires c = weighty _ _ _ _ _ _ _ c.requires _ _ _ c.close.ensures c.number-k.ensures
 
-pub returns : goal.returns
-returns c = (
-      late-number _ _ _ _ _ _ _ c.requires _ _ _ c.close.ensures c.number-k.ensures _ _ c.weigh.ensures,
-      late-plan _ _ _ _ _ _ _ c.requires _ _ _ c.close.ensures c.number-k.ensures _ _ c.weigh.ensures,
-    )
+pub returns-clause-number : goal.returns-clause-number
+returns-clause-number c = late-number _ _ _ _ _ _ _ c.requires _ _ _ c.close.ensures c.number-k.ensures _ _ c.weigh.ensures
+
+pub returns-clause-plan : goal.returns-clause-plan
+returns-clause-plan c = late-plan _ _ _ _ _ _ _ c.requires _ _ _ c.close.ensures c.number-k.ensures _ _ c.weigh.ensures

@@ -1,5 +1,5 @@
 -- Where no two rows share an interior point, no row lies just right of a border arrow that no other meets. Assumes nothing.
-use Rattle.std.specs.Prelude.{Bool, true, false, not, ◌≢◌, ◌≡◌, refl, ℕ, suc, ◌+◌, ◌≤◌, ◌<◌, ℤ, pos, neg_ℤ, ◌+ℤ◌, ◌<ℤ◌, length, get_or}
+use Rattle.std.specs.Prelude.{Bool, true, false, not, ◌≢◌, ◌≡◌, refl, ℕ, suc, ◌≤◌, ◌<◌, ℤ, pos, neg_ℤ, ◌+ℤ◌, ◌<ℤ◌, length, get_or}
 use mathlib.Core.List.{List, [], ◌∷◌, Memᴰ}
 use Rattle.std.proofs.Common.{arith}
 use Rattle.std.proofs.Math.Decide.{dec_lt}

@@ -1,6 +1,6 @@
 -- A quiet border: no arrow of it begins on another, but in a node of both, and no two cross. Then each arrow is alone: no other meets it between its ends, nor has
 -- an end with the key of its middle. Assumes nothing.
-use Rattle.std.specs.Prelude.{Bool, true, false, not, ◌≡◌, refl, ℕ, ◌<◌, eqb, pos, ℤ, neg_ℤ, ◌+ℤ◌, ◌-ℤ◌, ◌*ℤ◌, ◌<ℤ◌, ◌≢◌}
+use Rattle.std.specs.Prelude.{Bool, true, false, not, ◌≡◌, refl, ℕ, eqb, pos, ℤ, neg_ℤ, ◌+ℤ◌, ◌-ℤ◌, ◌*ℤ◌, ◌<ℤ◌, ◌≢◌}
 use mathlib.Core.List.{List, Memᴰ}
 use Rattle.std.proofs.Common.{sym, ap, subst, ◌∙◌, ap₂, arith, eqb-true, eq-eqb}
 use Rattle.std.proofs.lemmas.Bool.{not-true}

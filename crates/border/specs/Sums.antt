@@ -1,5 +1,5 @@
 -- Sums of whole numbers over a list. Assumes nothing.
-use Rattle.std.specs.Prelude.{Bool, true, false, not, ◌||◌, List, [], ◌∷◌, ◌++◌, ◌≡◌, refl, ◌+◌, ◌≤◌, ℤ, pos, neg_ℤ, ◌+ℤ◌}
+use Rattle.std.specs.Prelude.{Bool, true, false, not, ◌||◌, List, [], ◌∷◌, ◌++◌, ◌≡◌, refl, ◌≤◌, ℤ, pos, neg_ℤ, ◌+ℤ◌}
 use Rattle.std.proofs.Common.{sym, ap, ◌∙◌, arith}
 use Rattle.whole.specs.Diff.{onℤ, sumℤ, negℤ-ud}
 use Rattle.lists.specs.Lists.{any, only, cons_if, count, suc_if, joined, All, nil, cons}

@@ -1,5 +1,5 @@
 -- Where the border in the tables is clear, the mesh draws neither 11 nor 12. Assumes nothing.
-use Rattle.std.specs.Prelude.{◌≡◌, refl, Bool, true, ◌&&◌, ◌||◌, List, [], ◌∷◌, ℕ, ◌<◌, ℤ, pos, length}
+use Rattle.std.specs.Prelude.{◌≡◌, refl, Bool, true, ◌&&◌, ◌||◌, List, ℕ, ◌<◌, ℤ, pos, length}
 use Rattle.std.proofs.Math.Path.{ap₂}
 use Rattle.std.proofs.Common.{sym, ◌∙◌}
 use Rattle.std.proofs.Math.Bool.{not}
@@ -17,7 +17,7 @@ use Rattle.meaning.specs.Proper.{facing}
 use Rattle.meaning.specs.Tables.{place_at, row_at}
 use Rattle.laws.specs.Meshes.{mesh_at, place_is, count-nodes}
 use Rattle.proper.specs.ProperLaw.{proper-exact}
-use Rattle.border.specs.Sums.{one, added, added-eq}
+use Rattle.border.specs.Sums.{one, added-eq}
 use Rattle.border.specs.Under.{key, under}
 use Rattle.border.specs.Cancel.{border}
 use Rattle.border.specs.Clear.{steep, middle, crosses, meets, under_middle, right_free, clear}

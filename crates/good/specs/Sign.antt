@@ -1,5 +1,5 @@
 -- One number a node: 0 where it does not meet G1 to G4, else the number of its pair b, c. Assumes nothing.
-use Rattle.std.specs.Prelude.{Bool, true, false, ◌&&◌, ℕ, ◌+◌, ◌*◌, leb}
+use Rattle.std.specs.Prelude.{◌&&◌, ℕ, ◌+◌, ◌*◌, leb}
 use Rattle.lists.specs.Lists.{cases}
 use Rattle.meaning.specs.Mesh.{Mesh, Edge}
 use Rattle.meaning.specs.Good.{span, G3, G4, G1-4}

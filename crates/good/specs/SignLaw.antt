@@ -1,18 +1,16 @@
 -- A node's number, test by test, in the form of needs. Assumes nothing.
-use Rattle.std.specs.Prelude.{◌≡◌, ◌≢◌, Bool, true, false, not, ◌&&◌, ◌||◌, List, [], ◌∷◌, ℕ, zero, suc, ◌+◌, ◌*◌, ◌≤◌, ◌<◌, min, max, eqb, leb, ℤ, set}
+use Rattle.std.specs.Prelude.{◌≡◌, Bool, true, false, not, ◌&&◌, ◌||◌, List, [], ◌∷◌, ℕ, ◌+◌, ◌*◌, ◌≤◌, ◌<◌, min, max, ℤ, set}
 use Rattle.std.proofs.Math.Path.{refl, sym}
-use Rattle.std.proofs.Common.{subst, ap, ◌∙◌, arith}
-use borrow.Author.Tests.{not-true, not-false, lt-leb, le-leb, eqb-true, eq-eqb, ne_eqb}
+use Rattle.std.proofs.Common.{ap, ◌∙◌, arith}
+use borrow.Author.Tests.{not-true, not-false, lt-leb, le-leb}
 use Rattle.lists.specs.declared.Found.{Found}
-use Rattle.lists.specs.Lists.{cases, any, is_found}
-use Rattle.lists.specs.ListsLaw.{clash, and_left, and_right}
+use Rattle.lists.specs.Lists.{any, is_found}
 use Rattle.lists.specs.Search.{lowest, items}
 use Rattle.lists.specs.SearchLaw.{lowest-any}
 use Rattle.lists.specs.Loops.{noted}
 use Rattle.lists.specs.LoopsLaw.{noted-turn}
 use Rattle.meaning.specs.declared.Place.{Place}
-use Rattle.meaning.specs.declared.Tri.{Tri}
-use Rattle.meaning.specs.Mesh.{Mesh, Edge, edge, arrow, holds_arrow, holds_edge, at}
+use Rattle.meaning.specs.Mesh.{Mesh, Edge, edge, arrow, holds_arrow, holds_edge}
 use Rattle.meaning.specs.Good.{Brothers, is_middle, pairs, span_of, span, G1, G2, G3, G4, G1-4}
 use Rattle.meaning.specs.Tables.{place_at, row_at}
 use Rattle.laws.specs.EdgeArrow.{edge-arrows}

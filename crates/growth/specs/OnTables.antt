@@ -1,6 +1,6 @@
 -- Calls on tables that hold a mesh grown from a base: they keep that, the tables' lengths, and that the counts fit; and what a full pass
 -- and a restore then do. Assumes nothing.
-use Rattle.std.specs.Prelude.{Bool, true, false, ◌≡◌, refl, ℕ, ◌+◌, ◌*◌, ◌/◌, ◌≤◌, ◌<◌, leb, ℤ, length}
+use Rattle.std.specs.Prelude.{Bool, true, false, ◌≡◌, refl, ℕ, ◌+◌, ◌*◌, ◌≤◌, ◌<◌, leb, ℤ, length}
 use mathlib.Core.List.{List}
 use Rattle.std.proofs.Common.{sym, subst, ap, ◌∙◌, arith, leb-true, leb-false}
 use Rattle.std.proofs.Math.Path.{subst₂, ap₂}

@@ -2,20 +2,20 @@
 use Rattle.std.specs.Prelude.{Bool, true, false, ◌≡◌, refl, ℕ, min, max, ◌+◌, ◌-◌, ◌≤◌, ◌<◌, length}
 use mathlib.Core.List.{List, ◌++◌, map, Memᴰ}
 use Rattle.std.proofs.Math.Option.{Option, none, some}
-use Rattle.std.proofs.Common.{sym, subst, subst₂, ap₂, ◌∙◌, arith}
+use Rattle.std.proofs.Common.{sym, subst, subst₂, ◌∙◌, arith}
 use Rattle.std.proofs.Math.Path.{ap}
 use Rattle.std.proofs.Math.ListN.{get_or, get_or-map}
 use Rattle.std.proofs.lemmas.List.{length-map}
 use Rattle.lists.specs.declared.Found.{Found}
 use Rattle.lists.specs.declared.Found.TheVariants.{At}
-use Rattle.lists.specs.Lists.{all, where_first, joined}
+use Rattle.lists.specs.Lists.{all, where_first}
 use Rattle.lists.specs.ListsLaw.{clash, All-at, All-get_or, all_yes, any_at, any-row, WhereIs, nowhere, place_of, where-is}
 use Rattle.lists.specs.MembersLaw.{mem-at, at_mem}
 use Rattle.meaning.specs.declared.Tri.{Tri}
 use Rattle.meaning.specs.Mesh.{Mesh, Edge, tri, edge, edges, same_edge, at}
 use Rattle.meaning.specs.Lawful.{row_of}
 use Rattle.meaning.specs.Good.{Middle}
-use Rattle.meaning.specs.Split.{Way, Cut, bisected, mem_edge, plus, number_of, halves, midpoint, cut_of, split_edges, split_at, split, started, refined}
+use Rattle.meaning.specs.Split.{Way, bisected, mem_edge, plus, number_of, halves, midpoint, split_edges, split_at, split, started, refined}
 use Rattle.meaning.specs.Tables.{Room}
 use Rattle.meaning.specs.Calls.{refine_no}
 use Rattle.laws.specs.Area.{middle-either}

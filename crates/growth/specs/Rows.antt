@@ -1,5 +1,5 @@
 -- The rows of a mesh by number, as corners; what tests say of them; the rows of a lawful, compatibly labelled base. Assumes nothing.
-use Rattle.std.specs.Prelude.{Bool, true, false, ◌||◌, ◌≢◌, ◌≡◌, refl, ℕ, min, max, ◌+◌, ◌≤◌, ◌<◌, eqb, length, get_or}
+use Rattle.std.specs.Prelude.{Bool, true, false, ◌||◌, ◌≢◌, ◌≡◌, refl, ℕ, min, max, ◌≤◌, ◌<◌, eqb, length}
 use mathlib.Core.List.{List, map, Memᴰ}
 use Rattle.std.proofs.Common.{sym, subst, ap, ap₂, ◌∙◌, arith, eqb-true, eq-eqb}
 use Rattle.std.proofs.Math.Decide.{dec_lt}

@@ -1,5 +1,5 @@
 -- Document 01, 'Meshes to check by hand', cases 1 to 10: rows of one list, under one claim. Assumes nothing.
-use Rattle.std.specs.Prelude.{◌≡◌, refl, List, [], ◌∷◌, ◌++◌, map, ℕ, replicate}
+use Rattle.std.specs.Prelude.{◌≡◌, refl, List, [], ◌∷◌, ◌++◌, map, replicate}
 use Rattle.lists.specs.Search.{lowest, lowest_from}
 use Rattle.meaning.specs.Mesh.{Node, Mesh, tri, mesh, total, twice_area}
 use Rattle.meaning.specs.Lawful.{refusal, compatible, fault_of, first_outside, first_misnamed, first_repeat, first_flat, first_unused, first_clash}

@@ -1,14 +1,14 @@
 -- Document 01, 'What a call says', W2 and W5: lawful meshes and compatible labellings, as named facts, and as what is computed: the number
 -- of the refusal and the lowest node or row at fault. Assumes nothing.
-use Rattle.std.specs.Prelude.{Bool, true, false, not, ◌&&◌, ◌||◌, ◌≡◌, ◌≢◌, ◌⊎◌, ℕ, zero, suc, ◌≤◌, ◌<◌, leb, eqb, ℤ, pos, negsuc, nat_abs, ◌<ℤ◌, ◌≤ℤ◌, length, get_or, take}
-use mathlib.Core.List.{List, [], ◌∷◌, Memᴰ}
+use Rattle.std.specs.Prelude.{Bool, true, not, ◌&&◌, ◌||◌, ◌≡◌, ◌≢◌, ◌⊎◌, ℕ, ◌≤◌, ◌<◌, leb, eqb, ℤ, pos, negsuc, nat_abs, ◌<ℤ◌, ◌≤ℤ◌, length, get_or, take}
+use mathlib.Core.List.{List, Memᴰ}
 use Rattle.std.specs.Int.Signed.{lt_z}
 use Rattle.lists.specs.declared.Found.{Found}
 use Rattle.lists.specs.declared.Found.TheVariants.{At, Nothing}
 use Rattle.lists.specs.Lists.{any, count, joined, where_first, is_found, All}
 use Rattle.lists.specs.Search.{lowest}
 use Rattle.meaning.specs.declared.Fault.{Fault}
-use Rattle.meaning.specs.Mesh.{Place, Correction, Node, Tri, Mesh, Arrow, Edge, tri, arrows, base, same_arrow, same_edge, holds_node, holds_arrow, holds_edge, node_of, twice_area}
+use Rattle.meaning.specs.Mesh.{Place, Correction, Node, Tri, Mesh, Arrow, tri, arrows, base, same_arrow, same_edge, holds_node, holds_arrow, holds_edge, node_of, twice_area}
 
 -- ---- as facts
 

@@ -1,5 +1,5 @@
 -- Document 01, 'What the device holds': nodes, triangles, edges, twice-area. Assumes nothing.
-use Rattle.std.specs.Prelude.{Bool, true, false, ◌&&◌, ◌||◌, List, [], ◌∷◌, ℕ, min, max, eqb, ℤ, pos, ◌+ℤ◌, ◌-ℤ◌, ◌*ℤ◌, length, get_or}
+use Rattle.std.specs.Prelude.{Bool, ◌&&◌, ◌||◌, List, [], ◌∷◌, ℕ, min, max, eqb, ℤ, pos, ◌+ℤ◌, ◌-ℤ◌, ◌*ℤ◌, get_or}
 use Rattle.lists.specs.Lists.{any}
 -- "A node is a place (x, y)"; W5: "Each node is to carry its stretch correction, dx and dy"
 pub use Rattle.meaning.specs.declared.Place.{Place}

@@ -11,7 +11,7 @@ use Rattle.meaning.specs.Coarsen.{taken, without, coarsened, good_nodes, pass, r
 use Rattle.meaning.specs.Setting.{corrected, set_fault}
 use Rattle.meaning.specs.Calls.{culprit_of, check_no, refine_no, coarsen_no, checks, refines, coarsens, restores, sets}
 use Rattle.meaning.specs.HandCase.{Case, check, refine, coarsen, restore, setting, computed, says, blames, case, at}
-use Rattle.meaning.specs.HandMeshes.{S, R}
+use Rattle.meaning.specs.HandMeshes.{S}
 
 -- the node at (a, b) that carries (c, d)
 abbrev bears : ℕ → ℕ → ℤ → ℤ → Node

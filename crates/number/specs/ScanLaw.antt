@@ -34,7 +34,6 @@ use Rattle.notes.specs.Met as Met
 use Rattle.notes.specs.NotesLaw.{mids-path}
 use Rattle.close.specs.Drawn.{on_found}
 use Rattle.close.specs.EdgeLaw.{OnceAt, Side, side-m, side-u, side-v, side-at, side-edge, edge-side, edge-ends, found_side}
-use Rattle.number.specs.Numbered.{Met}
 use Rattle.number.specs.OnceLaw.{edge-sym, Apart, none, apart, new_to, any-once-edge, once_more, once-place}
 
 -- ---- a scan of the rows of a table, for the edges of a set

@@ -8,7 +8,6 @@ use Rattle.meaning.specs.declared.Manner.{Manner}
 use Rattle.meaning.specs.declared.Manner.TheVariants.{Newest, AllThree}
 use Rattle.meaning.specs.declared.Quarters.{Quarters}
 use Rattle.meaning.specs.declared.Quarters.TheVariants.{Bisected, Red}
-use Rattle.meaning.specs.declared.Tinted.{Tinted}
 use Rattle.meaning.specs.Tables.{Given, given, Outcome, outcome, answer, filled}
 use Rattle.meaning.specs.Calls.{TintedOut, tinted, check_out, refine_by_out, coarsen_out, restore_out, set_out}
 use Rattle.tables.specs.Put.{set_node, set_row}

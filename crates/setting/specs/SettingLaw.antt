@@ -20,7 +20,7 @@ use Rattle.meaning.specs.Mesh.{Mesh, node, at, origin}
 use Rattle.meaning.specs.Lawful.{beyond, fault, fault_of, first_outside, first_misnamed, first_repeat, first_flat, first_unused, or_later}
 use Rattle.meaning.specs.Setting.{corrected, found_if, or_found, set_fault}
 use Rattle.meaning.specs.Tables.{Given, given, outcome, answer, node_at, place_at, row_at, mesh_of, flat_nodes, flat_rows, filled}
-use Rattle.meaning.specs.Calls.{says_of, sets, sizes_fit, untouched, leaves_by, leaves, sized, set_out}
+use Rattle.meaning.specs.Calls.{says_of, sets, sizes_fit, untouched, leaves_by, leaves, set_out}
 use Rattle.laws.specs.CallLaw.{Sizes, sizes-exact}
 use Rattle.laws.specs.Setting.{corrected-count, set-0}
 use Rattle.laws.specs.TableMesh.{nodes-count, rows-count}

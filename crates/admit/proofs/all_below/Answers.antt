@@ -1,10 +1,5 @@
 use Rattle.admit.specs.AdmitLaw.{listed-on, listed-off, listed-end}
-use Rattle.text.specs.Digits.{field, listed}
-use Rattle.protocol.specs.Frames.{all_below}
-use Rattle.lists.specs.Search.{items}
-use lib.ListN.{length}
-use Prim.Native.Nat.{◌≤◌, ◌-◌, ◌/◌}
-use mathlib.Core.Path.{◌≡◌}
+use Rattle.text.specs.Digits.{listed}
 use borrow.Author.Rules.{rules}
 use Rattle.admit.proofs.all_below.Goals as goal
 

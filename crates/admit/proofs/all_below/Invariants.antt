@@ -1,11 +1,9 @@
-use Rattle.admit.specs.AdmitLaw.{listed-on, listed-off, listed-end}
 use Rattle.text.specs.Digits.{field, listed}
 use Rattle.protocol.specs.Frames.{all_below}
 use Rattle.lists.specs.Search.{items}
 use lib.ListN.{length}
 use Prim.Native.Nat.{◌≤◌, ◌-◌, ◌/◌}
 use mathlib.Core.Path.{◌≡◌}
-use borrow.Author.Rules.{rules}
 use Rattle.admit.proofs.all_below.Given as goal
 
 abbrev pub invariant-loop-i : goal.invariant-loop-i

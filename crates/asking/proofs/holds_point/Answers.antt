@@ -1,6 +1,6 @@
 use mir.Facts.{to_z-of_z}
 use Rattle.asking.specs.AskingLaw.{right-of-qr, right-of-rp, right-of-pq, right-of-none}
-use borrow.Author.Rules.{rules, sfits_of}
+use borrow.Author.Rules.{sfits_of}
 use Rattle.asking.proofs.holds_point.Goals as goal
 
 pub returns-then-side-lt0 : goal.returns-then-side-lt0

@@ -1,8 +1,4 @@
-use mathlib.Core.Path.{◌≡◌}
-use Prim.Native.Nat.{◌≤◌, ◌-◌}
-use Rattle.lists.specs.Search.{lowest}
 use Rattle.lists.specs.SearchLaw.{searching}
-use Rattle.asking.specs.Asking.{holds_at}
 use borrow.Author.Rules.{rules}
 use Rattle.asking.proofs.row_holding.Goals as goal
 

@@ -1,9 +1,7 @@
 use mathlib.Core.Path.{◌≡◌}
 use Prim.Native.Nat.{◌≤◌, ◌-◌}
 use Rattle.lists.specs.Search.{lowest}
-use Rattle.lists.specs.SearchLaw.{searching}
 use Rattle.checking.specs.Clash.{clash_at}
-use borrow.Author.Rules.{rules}
 use Rattle.checking.proofs.first_clash.Given as goal
 
 abbrev pub invariant-loop-i : goal.invariant-loop-i

@@ -1,5 +1,4 @@
 use Rattle.close.specs.Drawn.{across_row}
-use borrow.Author.Rules.{rules}
 use Rattle.close.proofs.across.Goals as goal
 
 pub returns : goal.returns

@@ -1,9 +1,4 @@
 use Rattle.close.specs.DrawLaw.{zeros-less, draw-on, draw-out, draw-stop, across-below, ready-note}
-use Rattle.close.specs.Drawn.{draws, zeros}
-use Rattle.neighbours.specs.Ready.{Ready}
-use lib.ListN.{length}
-use Prim.Native.Nat.{◌<◌}
-use mathlib.Core.Path.{◌≡◌}
 use borrow.Author.Rules.{rules}
 use Rattle.close.proofs.draw.Goals as goal
 

@@ -1,11 +1,5 @@
 use Rattle.close.specs.DrawLaw.{ready_marked}
-use Rattle.close.specs.Drawn.{draw_marked}
-use Rattle.neighbours.specs.Ready.{Ready}
 use Rattle.lists.specs.IterLaw.{looping}
-use Rattle.lists.specs.Search.{iter}
-use lib.ListN.{length}
-use Prim.Native.Nat.{◌≤◌, ◌-◌}
-use mathlib.Core.Path.{◌≡◌}
 use borrow.Author.Rules.{rules}
 use Rattle.close.proofs.draw_all.Goals as goal
 

@@ -1,9 +1,4 @@
-use Rattle.close.specs.Drawn.{note_start}
 use Rattle.lists.specs.IterLaw.{looping}
-use Rattle.lists.specs.Search.{iter}
-use lib.ListN.{length}
-use Prim.Native.Nat.{◌≤◌, ◌-◌}
-use mathlib.Core.Path.{◌≡◌}
 use borrow.Author.Rules.{rules}
 use Rattle.close.proofs.note_starts.Goals as goal
 

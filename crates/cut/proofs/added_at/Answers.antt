@@ -1,5 +1,4 @@
 use Rattle.cut.specs.Cutting.{splits}
-use borrow.Author.Rules.{rules}
 use Rattle.cut.proofs.added_at.Goals as goal
 
 pub returns : goal.returns

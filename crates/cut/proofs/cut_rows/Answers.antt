@@ -1,4 +1,4 @@
-use Rattle.cut.specs.CutLaw.{Partly, cutting}
+use Rattle.cut.specs.CutLaw.{cutting}
 use borrow.Author.Rules.{rules}
 use Rattle.cut.proofs.cut_rows.Goals as goal
 

@@ -1,5 +1,4 @@
-use Rattle.cut.specs.CutLaw.{Partly, cutting}
-use borrow.Author.Rules.{rules}
+use Rattle.cut.specs.CutLaw.{Partly}
 use Rattle.cut.proofs.cut_rows.Given as goal
 
 abbrev pub invariant-loop-i : goal.invariant-loop-i

@@ -1,8 +1,4 @@
-use Rattle.cut.specs.Cutting.{wholly_at}
 use Rattle.lists.specs.SearchLaw.{searching}
-use Rattle.lists.specs.Search.{lowest}
-use Prim.Native.Nat.{◌≤◌, ◌-◌}
-use mathlib.Core.Path.{◌≡◌}
 use borrow.Author.Rules.{rules}
 use Rattle.cut.proofs.find_wholly.Goals as goal
 

@@ -1,8 +1,3 @@
-use mathlib.Core.Path.{◌≡◌}
-use Prim.Native.Nat.{◌≤◌, ◌-◌}
-use lib.ListN.{length}
-use Rattle.cut.specs.Cutting.{append}
-use Rattle.lists.specs.Search.{iter}
 use Rattle.lists.specs.IterLaw.{iter_turn, iter_end}
 use borrow.Author.Rules.{rules}
 use Rattle.cut.proofs.place_rest.Goals as goal

@@ -3,8 +3,6 @@ use Prim.Native.Nat.{◌≤◌, ◌-◌}
 use lib.ListN.{length}
 use Rattle.cut.specs.Cutting.{append}
 use Rattle.lists.specs.Search.{iter}
-use Rattle.lists.specs.IterLaw.{iter_turn, iter_end}
-use borrow.Author.Rules.{rules}
 use Rattle.cut.proofs.place_rest.Given as goal
 
 abbrev pub invariant-loop-k : goal.invariant-loop-k

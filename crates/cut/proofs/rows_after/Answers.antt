@@ -1,8 +1,4 @@
 use Rattle.cut.specs.CutLaw.{count-start, count_fits, count_turn, count-end}
-use Rattle.cut.specs.Cutting.{splits}
-use Rattle.lists.specs.ItemsLaw.{sum_to}
-use Prim.Native.Nat.{◌≤◌, ◌-◌, ◌+◌}
-use mathlib.Core.Path.{◌≡◌}
 use borrow.Author.Rules.{rules}
 use Rattle.cut.proofs.rows_after.Goals as goal
 

@@ -14,7 +14,7 @@ use Rattle.laws.specs.Area.{middle-swap}
 use Rattle.growth.specs.Labels.Names.{Name, mid, mid-sym, mid-same, mid-injective, Same, straight, crossed, Halfway, same_map}
 use Rattle.growth.specs.Labels.Paths.{Side, L, R}
 use Rattle.growth.specs.Labels.Corners.{Corners, corners, Holds, is-p, is-q, is-r, Edge, edge-holds, edge-pq, edge-qr, edge-rp}
-use Rattle.growth.specs.Labels.Cover.{Label, at, corners-of, Present, ends-present}
+use Rattle.growth.specs.Labels.Cover.{Label, corners-of, Present, ends-present}
 use Rattle.growth.specs.Labels.Forest.{Forest}
 use Rattle.growth.specs.Labels.Groups.{total, total-same, total_mono}
 use Rattle.growth.specs.Labels.ForestRefined.{forest-refined, Closed}

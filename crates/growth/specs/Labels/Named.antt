@@ -3,7 +3,7 @@ use Rattle.std.specs.Prelude.{◌≡◌, refl, List, ℕ, ◌<◌}
 use Rattle.std.proofs.Common.{sym, ap, ◌∙◌}
 use Rattle.growth.specs.Labels.Names.{Name, Same, straight, crossed, same_map}
 use Rattle.growth.specs.Labels.Corners.{Corners, Holds, is-p, is-q, is-r, Edge, edge-qr, edge-pq, edge-rp, Arrow, arrow-qr, arrow-pq, arrow-rp}
-use Rattle.growth.specs.Labels.Cover.{Label, corners-of, at}
+use Rattle.growth.specs.Labels.Cover.{Label, corners-of}
 use Rattle.growth.specs.Labels.Newest.{NewestEverywhere}
 use Rattle.growth.specs.Labels.Star.{ArrowsOnce}
 

@@ -6,7 +6,7 @@ use Rattle.growth.specs.Labels.Names.{Name, name?, mid}
 use Rattle.growth.specs.Labels.Paths.{Side, L, R}
 use Rattle.growth.specs.Labels.Corners.{Corners, half, corners, Edge}
 use Rattle.growth.specs.Labels.Levels.{some-below?}
-use Rattle.growth.specs.Labels.Cover.{Label, at, corners-of}
+use Rattle.growth.specs.Labels.Cover.{Label, corners-of}
 use Rattle.growth.specs.Labels.ForestRefined.{Closed}
 use Rattle.growth.specs.Labels.Pieces.{ask, ask-same, leftmost, others, m?, u?, v?, mine, rest}
 use Rattle.growth.specs.Labels.Named.{Named, edge-name, edge-number, named, p-below, q-below, r-below}

@@ -1,5 +1,4 @@
 use Rattle.lawful.specs.Tests.{blank_at}
-use borrow.Author.Rules.{rules}
 use Rattle.lawful.proofs.blank_at.Goals as goal
 
 pub returns : goal.returns

@@ -1,4 +1,3 @@
-use borrow.Author.Rules.{rules}
 use Rattle.lawful.proofs.edge_below.Goals as goal
 
 pub returns : goal.returns

@@ -1,9 +1,7 @@
 use mathlib.Core.Path.{◌≡◌}
 use Prim.Native.Nat.{◌≤◌, ◌-◌}
 use Rattle.lists.specs.Search.{lowest}
-use Rattle.lists.specs.SearchLaw.{searching}
 use Rattle.lawful.specs.Tests.{blank_at}
-use borrow.Author.Rules.{rules}
 use Rattle.lawful.proofs.first_blank.Given as goal
 
 abbrev pub invariant-loop-z : goal.invariant-loop-z

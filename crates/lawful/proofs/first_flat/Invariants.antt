@@ -1,10 +1,7 @@
 use mathlib.Core.Path.{◌≡◌}
 use Prim.Native.Nat.{◌≤◌, ◌-◌}
 use Rattle.lists.specs.Search.{lowest}
-use Rattle.lists.specs.SearchLaw.{searching}
 use Rattle.lawful.specs.Tests.{flat_at}
-use Rattle.lawful.specs.TestsLaw.{not-misnamed}
-use borrow.Author.Rules.{rules}
 use Rattle.lawful.proofs.first_flat.Given as goal
 
 abbrev pub invariant-loop-i : goal.invariant-loop-i

@@ -1,9 +1,7 @@
 use mathlib.Core.Path.{◌≡◌}
 use Prim.Native.Nat.{◌≤◌, ◌-◌}
 use Rattle.lists.specs.Search.{lowest}
-use Rattle.lists.specs.SearchLaw.{searching}
 use Rattle.lawful.specs.Tests.{outside_at}
-use borrow.Author.Rules.{rules}
 use Rattle.lawful.proofs.first_outside.Given as goal
 
 abbrev pub invariant-loop-k : goal.invariant-loop-k

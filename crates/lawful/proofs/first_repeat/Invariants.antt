@@ -1,14 +1,10 @@
-use Rattle.lawful.specs.TestsLaw.{notes-kept}
 use mathlib.Core.Path.{◌≡◌}
 use Prim.Native.Nat.{◌≤◌, ◌-◌}
 use lib.ListN.{length, take}
 use Rattle.lists.specs.Search.{lowest}
-use Rattle.lists.specs.SearchLaw.{searching, lowest-on, at_some}
 use Rattle.neighbours.specs.Sized.{index_at}
-use Rattle.neighbours.specs.Ready.{Ready, ready-end}
+use Rattle.neighbours.specs.Ready.{Ready}
 use Rattle.lawful.specs.Tests.{repeat_at}
-use Rattle.lawful.specs.TestsLaw.{corners-at}
-use borrow.Author.Rules.{rules}
 use Rattle.lawful.proofs.first_repeat.Given as goal
 
 abbrev pub invariant-loop-i : goal.invariant-loop-i

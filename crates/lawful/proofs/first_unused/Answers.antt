@@ -1,5 +1,4 @@
 use Rattle.lawful.specs.MarkLaw.{unmarked, marks-gone}
-use borrow.Author.Rules.{rules}
 use Rattle.lawful.proofs.first_unused.Goals as goal
 
 pub returns-clause-answer : goal.returns-clause-answer

@@ -2,10 +2,7 @@ use mathlib.Core.Path.{◌≡◌}
 use Prim.Native.Nat.{◌≤◌, ◌-◌}
 use lib.ListN.{length}
 use Rattle.lists.specs.Search.{iter}
-use Rattle.lists.specs.IterLaw.{looping}
 use Rattle.lawful.specs.Tests.{mark_step}
-use Rattle.lawful.specs.TestsLaw.{not-misnamed}
-use borrow.Author.Rules.{rules}
 use Rattle.lawful.proofs.mark_rows.Given as goal
 
 abbrev pub invariant-loop-i : goal.invariant-loop-i

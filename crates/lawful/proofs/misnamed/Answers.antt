@@ -1,4 +1,3 @@
-use borrow.Author.Rules.{rules}
 use Rattle.lawful.proofs.misnamed.Goals as goal
 
 pub returns : goal.returns

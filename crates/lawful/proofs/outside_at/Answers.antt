@@ -1,5 +1,4 @@
 use Rattle.lawful.specs.Tests.{outside_at}
-use borrow.Author.Rules.{rules}
 use Rattle.lawful.proofs.outside_at.Goals as goal
 
 pub returns : goal.returns

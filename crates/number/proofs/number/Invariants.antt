@@ -1,12 +1,9 @@
-use Rattle.number.specs.NumberStep.{count_next, ready-next}
 use Rattle.number.specs.Numbered.{numbers, number_row}
 use Rattle.neighbours.specs.Ready.{Ready}
-use Rattle.lists.specs.IterLaw.{looping}
 use Rattle.lists.specs.Search.{iter}
 use lib.ListN.{length}
 use Prim.Native.Nat.{◌≤◌, ◌-◌, ◌*◌}
 use mathlib.Core.Path.{◌≡◌}
-use borrow.Author.Rules.{rules}
 use Rattle.number.proofs.number.Given as goal
 
 abbrev pub invariant-loop-i : goal.invariant-loop-i

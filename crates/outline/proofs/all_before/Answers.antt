@@ -1,5 +1,4 @@
 use Rattle.outline.specs.Seen.{all_before}
-use borrow.Author.Rules.{rules}
 use Rattle.outline.proofs.all_before.Goals as goal
 
 pub returns : goal.returns

@@ -1,10 +1,6 @@
 use Rattle.outline.specs.TurnsLaw.{free-not, free_all}
-use Rattle.outline.specs.Seen.{not_free}
-use Rattle.meaning.specs.Tables.{place_at}
 use Rattle.lists.specs.SearchLaw.{searching}
-use Rattle.lists.specs.Search.{lowest}
-use Prim.Native.Nat.{◌≤◌, ◌-◌}
-use mathlib.Core.Path.{◌≡◌, refl}
+use mathlib.Core.Path.{refl}
 use borrow.Author.Rules.{rules}
 use Rattle.outline.proofs.all_free.Goals as goal
 

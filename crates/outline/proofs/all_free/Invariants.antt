@@ -1,11 +1,8 @@
-use Rattle.outline.specs.TurnsLaw.{free-not, free_all}
 use Rattle.outline.specs.Seen.{not_free}
 use Rattle.meaning.specs.Tables.{place_at}
-use Rattle.lists.specs.SearchLaw.{searching}
 use Rattle.lists.specs.Search.{lowest}
 use Prim.Native.Nat.{◌≤◌, ◌-◌}
-use mathlib.Core.Path.{◌≡◌, refl}
-use borrow.Author.Rules.{rules}
+use mathlib.Core.Path.{◌≡◌}
 use Rattle.outline.proofs.all_free.Given as goal
 
 abbrev pub invariant-loop-i : goal.invariant-loop-i

@@ -1,5 +1,4 @@
 use Rattle.outline.specs.Seen.{far}
-use borrow.Author.Rules.{rules}
 use Rattle.outline.proofs.far.Goals as goal
 
 pub returns : goal.returns

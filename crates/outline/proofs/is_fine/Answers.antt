@@ -1,10 +1,5 @@
 use Rattle.outline.specs.TurnsLaw.{room_at, stand-at, sum-start, sum-on, three-met, three-not, summed-up}
-use Rattle.outline.specs.Seen.{look_at, is_three}
-use Rattle.meaning.specs.Tables.{place_at}
-use Rattle.lists.specs.ItemsLaw.{sum_to}
-use Rattle.lists.specs.Search.{lowest}
-use Prim.Native.Nat.{◌≤◌, ◌-◌, ◌*◌}
-use mathlib.Core.Path.{◌≡◌, refl}
+use mathlib.Core.Path.{refl}
 use borrow.Author.Rules.{rules}
 use Rattle.outline.proofs.is_fine.Goals as goal
 

@@ -1,11 +1,9 @@
-use Rattle.outline.specs.TurnsLaw.{room_at, stand-at, sum-start, sum-on, three-met, three-not, summed-up}
 use Rattle.outline.specs.Seen.{look_at, is_three}
 use Rattle.meaning.specs.Tables.{place_at}
 use Rattle.lists.specs.ItemsLaw.{sum_to}
 use Rattle.lists.specs.Search.{lowest}
 use Prim.Native.Nat.{◌≤◌, ◌-◌, ◌*◌}
-use mathlib.Core.Path.{◌≡◌, refl}
-use borrow.Author.Rules.{rules}
+use mathlib.Core.Path.{◌≡◌}
 use Rattle.outline.proofs.is_fine.Given as goal
 
 abbrev pub invariant-loop-j : goal.invariant-loop-j

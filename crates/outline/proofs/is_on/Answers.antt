@@ -1,5 +1,4 @@
 use Rattle.outline.specs.Seen.{is_on}
-use borrow.Author.Rules.{rules}
 use Rattle.outline.proofs.is_on.Goals as goal
 
 pub returns : goal.returns

@@ -18,11 +18,11 @@ overflow_add-result c = simp (to_z-of_z, c.ranges.x, c.ranges.y, fits-wide c.arg
 
 pub returns : goal.returns
 returns c = simp (
-      to_z-of_z,
-      c.ranges.x,
-      c.ranges.y,
-      fits-wide c.args.x c.ranges.x,
-      fits-wide c.args.y c.ranges.y,
-      key-times c.args.x c.ranges.x,
-      key_fits c.args.x c.args.y c.ranges.x c.ranges.y,
-    )
+  to_z-of_z,
+  c.ranges.x,
+  c.ranges.y,
+  fits-wide c.args.x c.ranges.x,
+  fits-wide c.args.y c.ranges.y,
+  key-times c.args.x c.ranges.x,
+  key_fits c.args.x c.args.y c.ranges.x c.ranges.y,
+)

@@ -1,5 +1,4 @@
 use Rattle.outline.specs.Seen.{meet}
-use borrow.Author.Rules.{rules}
 use Rattle.outline.proofs.meet.Goals as goal
 
 pub returns : goal.returns

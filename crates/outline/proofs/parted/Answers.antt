@@ -1,6 +1,5 @@
 use borrow.Author.Rules.{sfits_of}
 use mir.Facts.{to_z-of_z}
-use borrow.Author.Rules.{rules}
 use Rattle.outline.proofs.parted.Goals as goal
 
 pub returns : goal.returns

@@ -1,5 +1,4 @@
 use Rattle.outline.specs.Seen.{rises_under}
-use borrow.Author.Rules.{rules}
 use Rattle.outline.proofs.rises_under.Goals as goal
 
 pub returns : goal.returns

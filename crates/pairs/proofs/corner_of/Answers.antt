@@ -1,5 +1,4 @@
 use Rattle.pairs.specs.SeenLaw.{corner-made}
-use borrow.Author.Rules.{rules}
 use Rattle.pairs.proofs.corner_of.Goals as goal
 
 pub returns : goal.returns

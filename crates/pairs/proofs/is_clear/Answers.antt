@@ -1,5 +1,4 @@
 use Rattle.pairs.specs.Seen.{is_clear}
-use borrow.Author.Rules.{rules}
 use Rattle.pairs.proofs.is_clear.Goals as goal
 
 pub returns : goal.returns

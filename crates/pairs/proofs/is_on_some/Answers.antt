@@ -1,5 +1,4 @@
 use Rattle.pairs.specs.Seen.{is_on_some}
-use borrow.Author.Rules.{rules}
 use Rattle.pairs.proofs.is_on_some.Goals as goal
 
 pub returns : goal.returns

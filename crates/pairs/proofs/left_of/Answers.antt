@@ -1,6 +1,6 @@
 use Rattle.pairs.specs.Seen.{left_of}
 use mir.Facts.{to_z-of_z}
-use borrow.Author.Rules.{rules, sfits_of}
+use borrow.Author.Rules.{sfits_of}
 use Rattle.pairs.proofs.left_of.Goals as goal
 
 pub returns : goal.returns

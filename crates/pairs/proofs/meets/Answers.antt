@@ -1,5 +1,4 @@
 use Rattle.pairs.specs.Seen.{meets}
-use borrow.Author.Rules.{rules}
 use Rattle.pairs.proofs.meets.Goals as goal
 
 pub returns : goal.returns

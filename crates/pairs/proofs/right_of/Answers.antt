@@ -1,6 +1,6 @@
 use Rattle.pairs.specs.Seen.{right_of}
 use mir.Facts.{to_z-of_z}
-use borrow.Author.Rules.{rules, sfits_of}
+use borrow.Author.Rules.{sfits_of}
 use Rattle.pairs.proofs.right_of.Goals as goal
 
 pub returns : goal.returns

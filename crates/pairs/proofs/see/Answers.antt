@@ -1,5 +1,4 @@
 use Rattle.pairs.specs.SeenLaw.{seen-made}
-use borrow.Author.Rules.{rules}
 use Rattle.pairs.proofs.see.Goals as goal
 
 pub returns : goal.returns

@@ -1,5 +1,4 @@
 use Rattle.pairs.specs.Seen.{some_left}
-use borrow.Author.Rules.{rules}
 use Rattle.pairs.proofs.some_left.Goals as goal
 
 pub returns : goal.returns

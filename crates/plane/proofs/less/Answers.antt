@@ -14,10 +14,10 @@ overflow_sub-result c = simp (to_z-of_z, c.ranges.a, c.ranges.b, fits-wide c.arg
 
 pub returns : goal.returns
 returns c = simp (
-      to_z-of_z,
-      c.ranges.a,
-      c.ranges.b,
-      fits-wide c.args.a c.ranges.a,
-      fits-wide c.args.b c.ranges.b,
-      wide-less c.args.a c.args.b c.ranges.a c.ranges.b,
-    )
+  to_z-of_z,
+  c.ranges.a,
+  c.ranges.b,
+  fits-wide c.args.a c.ranges.a,
+  fits-wide c.args.b c.ranges.b,
+  wide-less c.args.a c.args.b c.ranges.a c.ranges.b,
+)

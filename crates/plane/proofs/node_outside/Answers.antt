@@ -1,4 +1,3 @@
-use borrow.Author.Rules.{rules}
 use Rattle.plane.proofs.node_outside.Goals as goal
 
 pub returns : goal.returns

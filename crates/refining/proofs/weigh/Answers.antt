@@ -1,5 +1,4 @@
 use Rattle.refining.specs.RefineLaw.{weigh-odd, weigh-short, weigh-done}
-use borrow.Author.Rules.{rules}
 use Rattle.refining.proofs.weigh.Goals as goal
 
 pub returns-then-is_found : goal.returns-then-is_found

@@ -1,12 +1,9 @@
-use Rattle.sweep.specs.Lined.{swept-start, lined-at}
 use Rattle.sweep.specs.Sweep.{swept_place, swept}
 use Rattle.sweep.specs.Highest.{raised}
 use Rattle.meaning.specs.Tables.{place_at}
-use Rattle.lists.specs.IterLaw.{looping}
 use Rattle.lists.specs.Search.{iter}
 use Prim.Native.Nat.{◌-◌}
 use mathlib.Core.Path.{◌≡◌}
-use borrow.Author.Rules.{rules}
 use Rattle.sweep.proofs.sweep.Given as goal
 
 abbrev pub invariant-loop-p : goal.invariant-loop-p

@@ -1,12 +1,9 @@
-use Rattle.sweep.specs.Lined.{highest-start}
 use Rattle.sweep.specs.Sweep.{visited}
 use Rattle.sweep.specs.Highest.{raised, highest}
 use Rattle.meaning.specs.Tables.{place_at}
-use Rattle.lists.specs.IterLaw.{looping}
 use Rattle.lists.specs.Search.{iter}
 use Prim.Native.Nat.{◌-◌}
 use mathlib.Core.Path.{◌≡◌}
-use borrow.Author.Rules.{rules}
 use Rattle.sweep.proofs.worst_behind.Given as goal
 
 abbrev pub invariant-loop-q : goal.invariant-loop-q

@@ -1,7 +1,3 @@
-use mathlib.Core.Path.{◌≡◌}
-use Prim.Native.Nat.{◌≤◌, ◌-◌}
-use mathlib.Core.List.{◌++◌}
-use lib.ListN.{length, replicate, drop}
 use Rattle.lists.specs.FillLaw.{fill-turn, fill_end}
 use borrow.Author.Rules.{rules}
 use Rattle.tables.proofs.clear.Goals as goal

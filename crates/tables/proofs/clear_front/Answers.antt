@@ -1,7 +1,3 @@
-use mathlib.Core.Path.{◌≡◌}
-use Prim.Native.Nat.{◌≤◌, ◌-◌}
-use mathlib.Core.List.{◌++◌}
-use lib.ListN.{length, replicate, drop}
 use Rattle.lists.specs.FillLaw.{front-turn, front-end}
 use borrow.Author.Rules.{rules}
 use Rattle.tables.proofs.clear_front.Goals as goal

@@ -1,10 +1,8 @@
-use Rattle.lists.specs.FillLaw.{fill-turn, fill_end}
 use lib.ListN.{length, replicate, drop}
 use lib.IntN.{pos}
 use mathlib.Core.List.{◌++◌}
 use Prim.Native.Nat.{◌≤◌, ◌-◌}
 use mathlib.Core.Path.{◌≡◌}
-use borrow.Author.Rules.{rules}
 use Rattle.tables.proofs.clear_nodes.Given as goal
 
 abbrev pub invariant-loop-i : goal.invariant-loop-i

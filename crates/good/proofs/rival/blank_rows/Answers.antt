@@ -1,9 +1,5 @@
 use Rattle.good.specs.Rival.{blank}
 use Rattle.lists.specs.LoopsLaw.{noted-start, noting}
-use Rattle.lists.specs.Loops.{noted}
-use lib.ListN.{length}
-use Prim.Native.Nat.{◌≤◌, ◌-◌}
-use mathlib.Core.Path.{◌≡◌}
 use borrow.Author.Rules.{rules}
 use Rattle.good.proofs.rival.blank_rows.Goals as goal
 

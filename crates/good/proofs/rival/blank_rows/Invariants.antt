@@ -1,10 +1,8 @@
 use Rattle.good.specs.Rival.{blank}
-use Rattle.lists.specs.LoopsLaw.{noted-start, noting}
 use Rattle.lists.specs.Loops.{noted}
 use lib.ListN.{length}
 use Prim.Native.Nat.{◌≤◌, ◌-◌}
 use mathlib.Core.Path.{◌≡◌}
-use borrow.Author.Rules.{rules}
 use Rattle.good.proofs.rival.blank_rows.Given as goal
 
 abbrev pub invariant-loop-i : goal.invariant-loop-i

@@ -1,5 +1,4 @@
-use Rattle.good.specs.WalkLaw.{Walk, walk_start, walk-note, walk-next, walk-hit, walk-on, walk-less, walk-over}
-use Rattle.lists.specs.ChainLaw.{ahead}
+use Rattle.good.specs.WalkLaw.{walk_start, walk-note, walk-next, walk-hit, walk-on, walk-less, walk-over}
 use borrow.Author.Rules.{rules}
 use Rattle.good.proofs.rival.find_rival.Goals as goal
 

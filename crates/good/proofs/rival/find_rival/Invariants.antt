@@ -1,6 +1,5 @@
-use Rattle.good.specs.WalkLaw.{Walk, walk_start, walk-note, walk-next, walk-hit, walk-on, walk-less, walk-over}
+use Rattle.good.specs.WalkLaw.{Walk}
 use Rattle.lists.specs.ChainLaw.{ahead}
-use borrow.Author.Rules.{rules}
 use Rattle.good.proofs.rival.find_rival.Given as goal
 
 abbrev pub invariant-loop-k : goal.invariant-loop-k

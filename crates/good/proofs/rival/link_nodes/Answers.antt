@@ -1,10 +1,5 @@
-use Rattle.good.specs.Rival.{link_node}
 use Rattle.good.specs.WalkLaw.{some-down}
 use Rattle.lists.specs.LoopsLaw.{downward}
-use Rattle.lists.specs.Loops.{down}
-use lib.ListN.{length}
-use Prim.Native.Nat.{◌≤◌, ◌-◌}
-use mathlib.Core.Path.{◌≡◌}
 use borrow.Author.Rules.{rules}
 use Rattle.good.proofs.rival.link_nodes.Goals as goal
 

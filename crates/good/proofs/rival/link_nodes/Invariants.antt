@@ -1,11 +1,8 @@
 use Rattle.good.specs.Rival.{link_node}
-use Rattle.good.specs.WalkLaw.{some-down}
-use Rattle.lists.specs.LoopsLaw.{downward}
 use Rattle.lists.specs.Loops.{down}
 use lib.ListN.{length}
-use Prim.Native.Nat.{◌≤◌, ◌-◌}
+use Prim.Native.Nat.{◌≤◌}
 use mathlib.Core.Path.{◌≡◌}
-use borrow.Author.Rules.{rules}
 use Rattle.good.proofs.rival.link_nodes.Given as goal
 
 abbrev pub invariant-loop-z : goal.invariant-loop-z

@@ -1,4 +1,3 @@
-use borrow.Author.Rules.{rules}
 use Rattle.good.proofs.rival.rival.Goals as goal
 
 pub returns : goal.returns

@@ -1,10 +1,6 @@
 use Rattle.good.specs.WalkLaw.{some_up, linked-still, tag-put}
-use Rattle.good.specs.Rival.{numbers_at, tagged}
+use Rattle.good.specs.Rival.{tagged}
 use Rattle.lists.specs.LoopsLaw.{noted-start, noting}
-use Rattle.lists.specs.Loops.{noted}
-use lib.ListN.{length}
-use Prim.Native.Nat.{◌≤◌, ◌-◌}
-use mathlib.Core.Path.{◌≡◌}
 use borrow.Author.Rules.{rules}
 use Rattle.good.proofs.rival.tags.Goals as goal
 

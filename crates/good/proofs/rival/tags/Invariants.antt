@@ -1,11 +1,8 @@
-use Rattle.good.specs.WalkLaw.{some_up, linked-still, tag-put}
 use Rattle.good.specs.Rival.{numbers_at, tagged}
-use Rattle.lists.specs.LoopsLaw.{noted-start, noting}
 use Rattle.lists.specs.Loops.{noted}
 use lib.ListN.{length}
 use Prim.Native.Nat.{◌≤◌, ◌-◌}
 use mathlib.Core.Path.{◌≡◌}
-use borrow.Author.Rules.{rules}
 use Rattle.good.proofs.rival.tags.Given as goal
 
 abbrev pub invariant-loop-z : goal.invariant-loop-z

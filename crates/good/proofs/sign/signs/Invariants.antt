@@ -1,13 +1,9 @@
-use Rattle.round.specs.NotesLaw.{around-still, ready-still}
-use Rattle.good.specs.SignLaw.{sign-put}
 use Rattle.good.specs.Sign.{fresh}
 use Rattle.laws.specs.Meshes.{mesh_at}
-use Rattle.lists.specs.LoopsLaw.{noted-start, noting}
 use Rattle.lists.specs.Loops.{noted}
 use lib.ListN.{length}
 use Prim.Native.Nat.{◌≤◌, ◌-◌}
 use mathlib.Core.Path.{◌≡◌}
-use borrow.Author.Rules.{rules}
 use Rattle.good.proofs.sign.signs.Given as goal
 
 abbrev pub invariant-loop-z : goal.invariant-loop-z

@@ -1,10 +1,8 @@
 use Rattle.judging.specs.Marks.{mark_high}
-use Rattle.lists.specs.SearchLaw.{searching}
 use Rattle.lists.specs.Search.{lowest}
 use lib.ListN.{length}
 use Prim.Native.Nat.{◌≤◌, ◌-◌}
 use mathlib.Core.Path.{◌≡◌}
-use borrow.Author.Rules.{rules}
 use Rattle.judging.proofs.marks.first_high.Given as goal
 
 abbrev pub invariant-loop-i : goal.invariant-loop-i

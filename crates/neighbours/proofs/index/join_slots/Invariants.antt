@@ -2,8 +2,7 @@ use mathlib.Core.Path.{◌≡◌}
 use Prim.Native.Nat.{◌≤◌, ◌-◌}
 use lib.ListN.{length, take}
 use Rattle.neighbours.specs.Sized.{index_at}
-use Rattle.neighbours.specs.Join.{Exact, exact-end, notes-on, in-range-at}
-use borrow.Author.Rules.{rules}
+use Rattle.neighbours.specs.Join.{Exact}
 use Rattle.neighbours.proofs.index.join_slots.Given as goal
 
 abbrev pub invariant-loop-k : goal.invariant-loop-k

@@ -1,5 +1,5 @@
 use Rattle.neighbours.specs.Ready.{Ready}
-use Rattle.neighbours.specs.Walk.{Walk, walk_start, walk_rows, walk-some, walk-room, walk-met, met-past, met-hit, met-on, walk_end}
+use Rattle.neighbours.specs.Walk.{walk_start, walk_rows, walk-some, walk-room, walk-met, met-past, met-hit, met-on, walk_end}
 use borrow.Author.Rules.{rules}
 use Rattle.neighbours.proofs.index.walk.Goals as goal
 

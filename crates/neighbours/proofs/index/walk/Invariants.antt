@@ -1,6 +1,4 @@
-use Rattle.neighbours.specs.Ready.{Ready}
-use Rattle.neighbours.specs.Walk.{Walk, walk_start, walk_rows, walk-some, walk-room, walk-met, met-past, met-hit, met-on, walk_end}
-use borrow.Author.Rules.{rules}
+use Rattle.neighbours.specs.Walk.{Walk}
 use Rattle.neighbours.proofs.index.walk.Given as goal
 
 abbrev pub invariant-loop-ahead : goal.invariant-loop-ahead

@@ -1,8 +1,4 @@
 use Rattle.outline.specs.ListedLaw.{holding-start, holding-on, holding-end, holding-out}
-use lib.ListN.{length}
-use Rattle.outline.specs.Listed.{Holding}
-use mathlib.Core.Path.{◌≡◌}
-use Prim.Native.Nat.{◌≤◌, ◌-◌}
 use borrow.Author.Rules.{rules}
 use Rattle.outline.proofs.listing.list_border.Goals as goal
 

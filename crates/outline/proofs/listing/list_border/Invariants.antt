@@ -1,9 +1,7 @@
-use Rattle.outline.specs.ListedLaw.{holding-start, holding-on, holding-end, holding-out}
 use lib.ListN.{length}
 use Rattle.outline.specs.Listed.{Holding}
 use mathlib.Core.Path.{◌≡◌}
 use Prim.Native.Nat.{◌≤◌, ◌-◌}
-use borrow.Author.Rules.{rules}
 use Rattle.outline.proofs.listing.list_border.Given as goal
 
 abbrev pub invariant-loop-i : goal.invariant-loop-i

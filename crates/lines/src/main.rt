@@ -1,27 +1,27 @@
 // The line program of document 01. It only moves bytes from standard input to standard output: `reader` cuts them into lines and
-// `frames` answers each; the tables are here.
+// `frames` answers each; the tables are here. A read or a write that fails ends it, with that error.
 #![tactic(auto)]
 
-ghost use Rattle.std.specs.Prelude.{◌≤◌, length};
+ghost use Rattle.std.specs.Prelude.{◌≤◌, length, take, IfOk, OnOk};
+ghost use Rattle.std.specs.Io.KnownBytes.{Appends};
 
 use reader::Carried;
+use std::io::{self, Read, Write};
 
-// What is carried from call to call: the reader's, how many bytes of the piece are taken, and whether to go on.
+// What is carried from call to call: the reader's, and how many bytes of the piece are taken.
 #[derive(Clone, Copy)]
 struct Talk {
     carried: Carried,
     at: usize,
-    on: bool,
 }
 
-// Writes the first n bytes of the buffer, if there are any.
-fn say(out: &[u8], n: usize) -> bool
+// Writes the first n bytes of the buffer, and holds none of them back.
+fn say<W: Write>(out: &[u8], n: usize, to: &mut W) -> io::Result<()>
     requires { n ≤ length out.now }
+    ensures { OnOk result (Appends (W.contents to.old) (W.contents to.new) (take n out.now)) }
 {
-    if n == 0 {
-        return true;
-    }
-    io::write_all(1, &out[..n])
+    to.write_all(&out[..n])?;
+    to.flush()
 }
 
 // One call of the reader, and its answer.
@@ -33,17 +33,16 @@ fn take(
     rows: &mut [u32],
     scratch: &mut [u32],
     out: &mut [u8],
-) -> Talk
-    ensures { result.at ≤ length piece.now }
+    to: &mut impl Write,
+) -> io::Result<Talk>
+    ensures { IfOk result (λ talk. talk.at ≤ length piece.now) }
 {
     let took = reader::take(piece, carried, line, nodes, rows, scratch, out);
-    let on = say(out, took.written);
-    let after = took.carried;
-    Talk {
-        carried: after,
+    say(out, took.written, to)?;
+    Ok(Talk {
+        carried: took.carried,
         at: took.taken,
-        on,
-    }
+    })
 }
 
 // What is left of a piece.
@@ -55,23 +54,30 @@ fn take_rest(
     rows: &mut [u32],
     scratch: &mut [u32],
     out: &mut [u8],
-) -> Talk
+    to: &mut impl Write,
+) -> io::Result<Talk>
     requires piece_len_bound { length piece.now ≤ 512 }
     requires at_in_bounds { talk.at ≤ length piece.now }
-    ensures { result.at ≤ length piece.now }
+    ensures { IfOk result (λ talk. talk.at ≤ length piece.now) }
 {
     let at = talk.at;
-    let carried = talk.carried;
-    let rest = take(&piece[at..], carried, line, nodes, rows, scratch, out);
-    let after = rest.carried;
-    Talk {
-        carried: after,
+    let rest = take(
+        &piece[at..],
+        talk.carried,
+        line,
+        nodes,
+        rows,
+        scratch,
+        out,
+        to,
+    )?;
+    Ok(Talk {
+        carried: rest.carried,
         at: at + rest.at,
-        on: rest.on,
-    }
+    })
 }
 
-// A piece, in no more calls than it has bytes. Once an answer does not go out, the rest is passed over.
+// A piece, in no more calls than it has bytes.
 fn take_piece(
     piece: &[u8],
     carried: Carried,
@@ -80,66 +86,59 @@ fn take_piece(
     rows: &mut [u32],
     scratch: &mut [u32],
     out: &mut [u8],
-) -> Talk
+    to: &mut impl Write,
+) -> io::Result<Carried>
     requires { length piece.now ≤ 512 }
 {
-    let mut talk = Talk {
-        carried,
-        at: 0,
-        on: true,
-    };
-    let mut calls = piece.len();
-    while calls > 0 && talk.at < piece.len() && talk.on {
-        talk = take_rest(piece, talk, line, nodes, rows, scratch, out);
-        calls -= 1;
+    let mut talk = Talk { carried, at: 0 };
+    for _ in 0..piece.len() {
+        if talk.at == piece.len() {
+            break;
+        }
+        talk = take_rest(piece, talk, line, nodes, rows, scratch, out, to)?;
     }
-    talk
+    Ok(talk.carried)
 }
 
-// Reads once, and takes what came.
+// Reads once, and takes what came. At the end of the input there is nothing to carry on.
 fn read_piece(
+    from: &mut impl Read,
     carried: Carried,
     line: &mut [u8],
     nodes: &mut [i32],
     rows: &mut [u32],
     scratch: &mut [u32],
     out: &mut [u8],
-) -> Talk {
+    to: &mut impl Write,
+) -> io::Result<Option<Carried>> {
     let mut piece = [0u8; 512];
-    let got = libc::read(0, &mut piece);
-    if got <= 0 {
-        return Talk {
-            carried,
-            at: 0,
-            on: false,
-        };
+    let n = from.read(&mut piece)?;
+    if n == 0 {
+        return Ok(None);
     }
-    let n = io::count(got, &piece);
-    take_piece(&piece[..n], carried, line, nodes, rows, scratch, out)
+    let after = take_piece(&piece[..n], carried, line, nodes, rows, scratch, out, to)?;
+    Ok(Some(after))
 }
 
-// A proved loop has to end, and nothing says that the input does: the turns count down from a number that no run uses up.
+// A proved loop has to end, and nothing says that the input does: the turns are more than any run uses up.
 fn talk_on(
+    from: &mut impl Read,
     carried: Carried,
     line: &mut [u8],
     nodes: &mut [i32],
     rows: &mut [u32],
     scratch: &mut [u32],
     out: &mut [u8],
-) -> Carried {
-    let mut talk = Talk {
-        carried,
-        at: 0,
-        on: true,
-    };
-    let mut turns = u64::MAX;
-    while turns > 0 && talk.on {
-        let before = talk.carried;
-        talk = read_piece(before, line, nodes, rows, scratch, out);
-        turns -= 1;
+    to: &mut impl Write,
+) -> io::Result<Carried> {
+    let mut carried = carried;
+    for _ in 0..u64::MAX {
+        match read_piece(from, carried, line, nodes, rows, scratch, out, to)? {
+            Some(after) => carried = after,
+            None => break,
+        }
     }
-    let after = talk.carried;
-    after
+    Ok(carried)
 }
 
 fn open(
@@ -148,11 +147,11 @@ fn open(
     rows: &mut [u32],
     scratch: &mut [u32],
     out: &mut [u8],
-) -> Carried {
+    to: &mut impl Write,
+) -> io::Result<Carried> {
     let begun = reader::begin(line, nodes, rows, scratch, out);
-    say(out, begun.written);
-    let carried = begun.carried;
-    carried
+    say(out, begun.written, to)?;
+    Ok(begun.carried)
 }
 
 fn close(
@@ -162,25 +161,45 @@ fn close(
     rows: &[u32],
     scratch: &[u32],
     out: &mut [u8],
-) {
+    to: &mut impl Write,
+) -> io::Result<()> {
     let ended = reader::end(carried, line, nodes, rows, scratch, out);
-    say(out, ended.written);
+    say(out, ended.written, to)
 }
 
-fn main() {
+fn main(rt: HostRuntime) -> io::Result<()> {
+    let mut input = rt.stdin();
+    let mut output = rt.stdout();
     let mut nodes = [0i32; 2048];
     let mut rows = [0u32; 3072];
     let mut scratch = [0u32; 6144];
     let mut line = [0u8; 255];
     let mut out = [0u8; 32_768];
-    let begun = open(&mut line, &mut nodes, &mut rows, &mut scratch, &mut out);
+    let begun = open(
+        &mut line,
+        &mut nodes,
+        &mut rows,
+        &mut scratch,
+        &mut out,
+        &mut output,
+    )?;
     let talked = talk_on(
+        &mut input,
         begun,
         &mut line,
         &mut nodes,
         &mut rows,
         &mut scratch,
         &mut out,
-    );
-    close(talked, &mut line, &nodes, &rows, &scratch, &mut out);
+        &mut output,
+    )?;
+    close(
+        talked,
+        &mut line,
+        &nodes,
+        &rows,
+        &scratch,
+        &mut out,
+        &mut output,
+    )
 }

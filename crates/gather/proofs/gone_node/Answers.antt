@@ -1,0 +1,7 @@
+use Rattle.gather.specs.Goes.{gone_node}
+use borrow.Author.Rules.{rules}
+use Rattle.gather.proofs.gone_node.Goals as goal
+
+pub returns : goal.returns
+unfolding gone_node
+returns c = cc

@@ -1,0 +1,5 @@
+use borrow.Author.Rules.{rules}
+use Rattle.gather.proofs.renew_row.Goals as goal
+
+pub returns : goal.returns
+returns c = cc

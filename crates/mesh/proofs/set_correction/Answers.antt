@@ -1,0 +1,10 @@
+use Rattle.setting.specs.SettingLaw.{set-called}
+use Rattle.judging.specs.Leaving.{zeroed}
+use borrow.Author.Rules.{rules}
+use Rattle.mesh.proofs.set_correction.Goals as goal
+
+pub work-a-requires : goal.work-a-requires
+work-a-requires c = search (rules, zeroed)
+
+pub returns : goal.returns
+returns c = set-called _ _ _ _ _ _ _ _ _ _ _ _ _ _ c.clear.ensures c.work-a.ensures c.clear-2.ensures c.scratch-2-1.given

@@ -1,0 +1,12 @@
+use Rattle.reader.specs.ReaderLaw.{not-long, piece-refused, piece-taken}
+use borrow.Author.Rules.{rules}
+use Rattle.reader.proofs.take_piece.Goals as goal
+
+pub returns-then-untimely : goal.returns-then-untimely
+returns-then-untimely c = search (rules, piece-refused)
+
+pub take_bytes-requires : goal.take_bytes-requires
+take_bytes-requires c = (search (rules, not-long), search rules)
+
+pub returns : goal.returns
+returns c = search (rules, piece-taken)

@@ -1,10 +1,6 @@
 use Rattle.gather.specs.Needs.{fate-turn, pairs-still}
 use Rattle.gather.specs.Goes.{fate_at}
 use Rattle.lists.specs.LoopsLaw.{noted-start, noted-end}
-use Rattle.lists.specs.Loops.{noted}
-use lib.ListN.{length}
-use Prim.Native.Nat.{◌≤◌, ◌-◌, ◌*◌}
-use mathlib.Core.Path.{◌≡◌}
 use borrow.Author.Rules.{rules}
 use Rattle.gather.proofs.fates.Goals as goal
 

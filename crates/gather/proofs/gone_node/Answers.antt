@@ -1,5 +1,4 @@
 use Rattle.gather.specs.Goes.{gone_node}
-use borrow.Author.Rules.{rules}
 use Rattle.gather.proofs.gone_node.Goals as goal
 
 pub returns : goal.returns

@@ -1,5 +1,4 @@
 use Rattle.gather.specs.Goes.{gone_row}
-use borrow.Author.Rules.{rules}
 use Rattle.gather.proofs.gone_row.Goals as goal
 
 pub returns : goal.returns

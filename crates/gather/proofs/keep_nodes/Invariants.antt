@@ -1,12 +1,9 @@
-use Rattle.gather.specs.Closing.{Closing, closing-start, closing-skip, closing-put}
-use Rattle.lists.specs.LoopsLaw.{remaining-done}
-use Rattle.tables.specs.PutLaw.{nodes-table}
+use Rattle.gather.specs.Closing.{Closing}
 use Rattle.gather.specs.Goes.{gone_node}
 use Rattle.meaning.specs.Tables.{node_at}
 use lib.ListN.{length}
 use Prim.Native.Nat.{◌≤◌, ◌-◌}
 use mathlib.Core.Path.{◌≡◌}
-use borrow.Author.Rules.{rules}
 use Rattle.gather.proofs.keep_nodes.Given as goal
 
 abbrev pub invariant-loop-z : goal.invariant-loop-z

@@ -1,12 +1,7 @@
-use Rattle.gather.specs.Closing.{Closing, closing-start, closing-skip, closing-put}
+use Rattle.gather.specs.Closing.{closing-start, closing-skip, closing-put}
 use Rattle.lists.specs.LoopsLaw.{remaining-done}
 use Rattle.gather.specs.Needs.{new-same}
 use Rattle.tables.specs.PutLaw.{rows-table}
-use Rattle.gather.specs.Goes.{gone_row, new_row}
-use Rattle.meaning.specs.Tables.{row_at}
-use lib.ListN.{length}
-use Prim.Native.Nat.{◌≤◌, ◌-◌}
-use mathlib.Core.Path.{◌≡◌}
 use borrow.Author.Rules.{rules}
 use Rattle.gather.proofs.keep_rows.Goals as goal
 

@@ -1,13 +1,9 @@
-use Rattle.gather.specs.Closing.{Closing, closing-start, closing-skip, closing-put}
-use Rattle.lists.specs.LoopsLaw.{remaining-done}
-use Rattle.gather.specs.Needs.{new-same}
-use Rattle.tables.specs.PutLaw.{rows-table}
+use Rattle.gather.specs.Closing.{Closing}
 use Rattle.gather.specs.Goes.{gone_row, new_row}
 use Rattle.meaning.specs.Tables.{row_at}
 use lib.ListN.{length}
 use Prim.Native.Nat.{◌≤◌, ◌-◌}
 use mathlib.Core.Path.{◌≡◌}
-use borrow.Author.Rules.{rules}
 use Rattle.gather.proofs.keep_rows.Given as goal
 
 abbrev pub invariant-loop-i : goal.invariant-loop-i

@@ -1,10 +1,6 @@
 use Rattle.gather.specs.Needs.{number-turn, number-next, number-start, number-few}
-use Rattle.gather.specs.Goes.{gone_node, number_below}
+use Rattle.gather.specs.Goes.{number_below}
 use Rattle.lists.specs.LoopsLaw.{noted-start, noted-end}
-use Rattle.lists.specs.Loops.{noted}
-use lib.ListN.{length}
-use Prim.Native.Nat.{◌≤◌, ◌-◌}
-use mathlib.Core.Path.{◌≡◌}
 use borrow.Author.Rules.{rules}
 use Rattle.gather.proofs.numbers.Goals as goal
 

@@ -1,5 +1,4 @@
 use Rattle.gather.specs.Needs.{renamed-made}
-use Rattle.gather.specs.Goes.{renamed_by}
 use borrow.Author.Rules.{rules}
 use Rattle.gather.proofs.renamed.Goals as goal
 

@@ -1,11 +1,8 @@
-use Rattle.gather.specs.Needs.{take-turn}
 use Rattle.gather.specs.Goes.{take_at}
-use Rattle.lists.specs.LoopsLaw.{noted-start, noted-end}
 use Rattle.lists.specs.Loops.{noted}
 use lib.ListN.{length}
 use Prim.Native.Nat.{◌≤◌, ◌-◌}
 use mathlib.Core.Path.{◌≡◌}
-use borrow.Author.Rules.{rules}
 use Rattle.gather.proofs.take_nodes.Given as goal
 
 abbrev pub invariant-loop-z : goal.invariant-loop-z

@@ -1,5 +1,5 @@
 -- A full pass in tables, and what is left to do after some passes. Assumes nothing.
-use Rattle.std.specs.Prelude.{Bool, List, ℕ, ◌+◌, min, eqb, replicate}
+use Rattle.std.specs.Prelude.{ℕ, ◌+◌, min, eqb, replicate}
 use Rattle.lists.specs.Lists.{cases}
 use Rattle.meaning.specs.Tables.{Given, Outcome, outcome, answer}
 use Rattle.meaning.specs.Calls.{coarsen_out}

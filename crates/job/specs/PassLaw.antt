@@ -7,7 +7,7 @@ use Rattle.lists.specs.Lists.{cases}
 use Rattle.meaning.specs.declared.Answer.{Answer}
 use Rattle.meaning.specs.Mesh.{Mesh}
 use Rattle.meaning.specs.Lawful.{Lawful, refusal}
-use Rattle.meaning.specs.Coarsen.{coarsened, good_nodes, all_marked, pass, Restored, restored}
+use Rattle.meaning.specs.Coarsen.{coarsened, good_nodes, all_marked, pass, restored}
 use Rattle.meaning.specs.Tables.{Given, Outcome, given, outcome, answer, mesh_of, cleared}
 use Rattle.meaning.specs.Calls.{culprit_of, unless, marks_fit, coarsen_no, coarsens, restores, says, sizes_fit, untouched, done, leaves, coarsen_out, restore_out}
 use Rattle.laws.specs.Lawful.{refusal-lawful, lawful-refusal}

@@ -1,6 +1,5 @@
 use native.Mathlib.Omega.{arith}
 use Rattle.coarsening.specs.Coarsen.{law-at, coarsen-refused, coarsen-worked}
-use borrow.Author.Rules.{rules}
 use Rattle.coarsening.proofs.work.Goals as goal
 
 pub returns-then-f-ne0 : goal.returns-then-f-ne0

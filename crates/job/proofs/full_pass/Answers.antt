@@ -1,5 +1,4 @@
 use Rattle.job.specs.PassLaw.{ones-count, pass-made}
-use borrow.Author.Rules.{rules}
 use Rattle.job.proofs.full_pass.Goals as goal
 
 pub slice_bounds-coarsen-end : goal.slice_bounds-coarsen-end

@@ -1,10 +1,4 @@
 use Rattle.job.specs.PassLaw.{after-start, refuse, finish, less, passes-fit, passes-in, goes_on}
-use Rattle.job.specs.Pass.{after}
-use Rattle.meaning.specs.Calls.{restore_out}
-use Rattle.meaning.specs.Tables.{given}
-use lib.ListN.{length}
-use Prim.Native.Nat.{◌≤◌, ◌+◌}
-use mathlib.Core.Path.{◌≡◌}
 use borrow.Author.Rules.{rules}
 use Rattle.job.proofs.restore.Goals as goal
 

@@ -1,0 +1,6 @@
+use Rattle.spoutbeetle.specs.Exported.{exported}
+use borrow.Author.Rules.{rules}
+use Rattle.spoutbeetle.proofs.reading.spoutbeetle_begin.Goals as goal
+
+pub returns-clause-accepted_after : goal.returns-clause-accepted_after
+returns-clause-accepted_after c = search (rules, exported)

@@ -1,0 +1,6 @@
+use borrow.Author.Rules.{rules}
+use Rattle.spoutbeetle.specs.Exported.{exported}
+use Rattle.spoutbeetle.proofs.spoutbeetle_check.Goals as goal
+
+pub returns : goal.returns
+returns c = search (rules, exported)

@@ -1,9 +1,3 @@
-use mathlib.Core.Path.{◌≡◌}
-use Prim.Native.Nat.{◌≤◌, ◌-◌}
-use lib.ListN.{length, drop}
-use Rattle.text.specs.Writing.{wrote}
-use Rattle.pieces.specs.Reader.{tells, unchanged, further}
-use Rattle.reader.specs.Values.{carries}
 use Rattle.reader.specs.ReaderLaw.{still-below, still-counts, still-less, bytes-turn, bytes-end}
 use borrow.Author.Rules.{rules}
 use Rattle.reader.proofs.take_bytes.Goals as goal

@@ -1,7 +1,3 @@
-use mathlib.Core.Path.{◌≡◌}
-use Prim.Native.Nat.{◌≤◌, ◌-◌}
-use mathlib.Core.List.{◌++◌}
-use lib.ListN.{length, replicate, drop}
 use Rattle.lists.specs.FillLaw.{front-turn, front-end}
 use Rattle.reader.specs.ReaderLaw.{wiped-is}
 use borrow.Author.Rules.{rules}

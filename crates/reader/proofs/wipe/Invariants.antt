@@ -2,9 +2,6 @@ use mathlib.Core.Path.{◌≡◌}
 use Prim.Native.Nat.{◌≤◌, ◌-◌}
 use mathlib.Core.List.{◌++◌}
 use lib.ListN.{length, replicate, drop}
-use Rattle.lists.specs.FillLaw.{front-turn, front-end}
-use Rattle.reader.specs.ReaderLaw.{wiped-is}
-use borrow.Author.Rules.{rules}
 use Rattle.reader.proofs.wipe.Given as goal
 
 abbrev pub invariant-loop-i : goal.invariant-loop-i

@@ -1,76 +1,49 @@
 #!/usr/bin/env python3
-"""What rt says, made short as it goes: each crate as it is proved, each edit as it is refused, how many are left. Errors are shown whole.
-
-    rt check lines 2>&1 | tests/progress.py lines     # the crates to be proved: lines and those below it
-"""
+"""What rt ci says, made short as it goes: each crate as it is proved, how many edits are refused. All else that it says of itself is shown, and
+what the prover says of a crate only where the crate is not proved."""
 import pathlib
 import re
-import sys
 
 ROOT = pathlib.Path(__file__).resolve().parent.parent
-PROVED = re.compile(r"rt: (\w+) proved \((?:(\d+) s|unchanged .*)\)$")
-REFUSED = re.compile(r"rt: must-fail (\w+)/(\S+): refused, .*?(\d+) s\)$")
+PROVED = re.compile(r"rt: (\w+) (?:proved|is kept: .*)$")
+REFUSED = re.compile(r"rt: must-fail (\w+)/(\S+?): refused, ")
+BAD = re.compile(r"rt: ok\b.*, [1-9]\d* bad\b")
 
 
 def crates():
-    """The crates of crates.txt, lowest first, each with those that it names."""
+    """The crates of crates.txt, each with those that it names."""
     below = {}
     for line in (ROOT / "crates.txt").read_text().splitlines():
         name, colon, named = line.partition("#")[0].partition(":")
         if colon:
-            below[name.strip()] = named.split()
+            below[name.split()[0]] = named.split()
     return below
 
 
-def reached(names):
-    """The crates named and all below them."""
-    below = crates()
-    todo, seen = list(names), set()
-    while todo:
-        name = todo.pop()
-        if name in below and name not in seen:
-            seen.add(name)
-            todo += below[name]
-    return seen
-
-
 class Progress:
-    """Takes rt's lines one by one; keeps the seconds of each crate and of each edit."""
+    """Takes rt's lines one by one."""
 
     def __init__(self, crate_count, edit_count, say):
         self.crate_count, self.edit_count, self.say = crate_count, edit_count, say
-        self.proved, self.refused = {}, {}
-        self.unchanged, self.failed_crates, self.failed_edits = 0, 0, 0
+        self.proved, self.refused, self.failed, self.bad = 0, 0, 0, 0
         self.held = []
 
     def take(self, line):
-        crate, edit = PROVED.match(line), REFUSED.match(line)
-        if crate:
+        if PROVED.match(line):
             self.held = []  # what the prover said of a crate that it proved
-            self.crate(crate[1], crate[2])
-        elif edit:
-            self.show_held()
-            self.edit(edit[1], edit[2], int(edit[3]))
+            self.proved += 1
+            self.say(f"{line[4:].partition(':')[0]}: {self.proved} of {self.crate_count} crates")
+        elif REFUSED.match(line):
+            self.refused += 1
+            if self.refused % 20 == 0:
+                self.say(f"{self.refused} of {self.edit_count} edits refused")
         elif line.startswith("rt: "):
             self.show_held()
-            self.failed_crates += " NOT PROVED" in line
-            self.failed_edits += line.startswith("rt: must-fail ")
+            self.failed += " NOT PROVED" in line
+            self.bad += BAD.match(line) is not None
             self.say(line)
         else:
             self.held.append(line)
-
-    def crate(self, name, seconds):
-        self.proved[name] = int(seconds or 0)
-        if seconds is None:
-            self.unchanged += 1
-            return
-        done, failed = len(self.proved), self.failed_crates
-        self.say(f"proved {done} of {self.crate_count}: {name}, {seconds} s, {self.crate_count - done - failed} left")
-
-    def edit(self, crate, name, seconds):
-        self.refused[crate, name] = seconds
-        done, failed = len(self.refused), self.failed_edits
-        self.say(f"edit {done} of {self.edit_count} refused: {crate}/{name}, {seconds} s, {self.edit_count - done - failed} left")
 
     def show_held(self):
         for line in self.held:
@@ -79,18 +52,4 @@ class Progress:
 
     def end(self):
         self.show_held()
-        if self.unchanged:
-            self.say(f"{self.unchanged} of {self.crate_count} crates unchanged since they were last proved")
-
-
-def main():
-    count = len(reached(sys.argv[1:] or crates()))
-    progress = Progress(count, 0, lambda line: print(line, flush=True))
-    progress.say(f"{count} crates are to be proved, from the lowest up; from nothing this takes some minutes")
-    for line in sys.stdin:
-        progress.take(line.rstrip("\n"))
-    progress.end()
-
-
-if __name__ == "__main__":
-    main()
+        self.say(f"{self.proved} of {self.crate_count} crates proved, {self.refused} of {self.edit_count} edits refused")

@@ -1,4 +1,4 @@
-// The static library is made by `rt staticlib spoutbeetle` at the repository's root.
+// The static library is made by `tests/library build` at the repository's root.
 fn main() {
     let root = std::path::Path::new(env!("CARGO_MANIFEST_DIR")).join("../../target/staticlib");
     println!("cargo:rustc-link-search=native={}", root.display());

@@ -75,7 +75,7 @@ pub data Turned (t : Tri) : ℕ → ℕ → ℕ → Type 0 where
 pub turned-arrow : {t : Tri} {e : Arrow} → Memᴰ e (arrows t) → (z : ℕ) × Turned t e.from e.to z
 turned-arrow {t} (Memᴰ.head e) = (t.r, subst⁻¹ (λ (d : Arrow). Turned t d.from d.to t.r) e from-p)
 turned-arrow {t} (Memᴰ.tail (Memᴰ.head e)) = (t.p, subst⁻¹ (λ (d : Arrow). Turned t d.from d.to t.p) e from-q)
-turned-arrow {t = t} {e = e} (mathlib.Core.List.Memᴰ.tail (mathlib.Core.List.Memᴰ.tail (mathlib.Core.List.Memᴰ.tail x12))) = elim x12 [ ]
+turned-arrow {t = t} {e = e} (Memᴰ.tail (Memᴰ.tail (Memᴰ.tail i))) = elim i [ ]
 turned-arrow {t} (Memᴰ.tail (Memᴰ.tail (Memᴰ.head e))) = (t.q, subst⁻¹ (λ (d : Arrow). Turned t d.from d.to t.q) e from-r)
 
 -- the places of x, y, z

@@ -50,7 +50,7 @@ holds-side w a b e = go (any-row (same_arrow (arrow a b)) (arrows w) e)
     go : (x : Arrow) × Memᴰ x (arrows w) × (same_arrow (arrow a b) x ≡ true) → Side w a b
     go (x, Memᴰ.head q, t) = is w.p w.q x q t side-u
     go (x, Memᴰ.tail (Memᴰ.head q), t) = is w.q w.r x q t side-m
-    go (x, mathlib.Core.List.Memᴰ.tail (mathlib.Core.List.Memᴰ.tail (mathlib.Core.List.Memᴰ.tail x15)), t) = elim x15 [ ]
+    go (x, Memᴰ.tail (Memᴰ.tail (Memᴰ.tail i)), t) = elim i [ ]
     go (x, Memᴰ.tail (Memᴰ.tail (Memᴰ.head q)), t) = is w.r w.p x q t side-v
 
 pub side-edge : (w : Tri) {a b : ℕ} → Side w a b → Memᴰ (edge a b) (edges w)
@@ -61,7 +61,7 @@ side-edge w side-v = Memᴰ.tail (Memᴰ.tail (Memᴰ.head refl))
 pub edge-side : (w : Tri) (e : Edge) → Memᴰ e (edges w) → (a : ℕ) × (b : ℕ) × Side w a b × (e ≡ edge a b)
 edge-side w e (Memᴰ.head q) = (w.q, w.r, side-m, q)
 edge-side w e (Memᴰ.tail (Memᴰ.head q)) = (w.p, w.q, side-u, q)
-edge-side w e (mathlib.Core.List.Memᴰ.tail (mathlib.Core.List.Memᴰ.tail (mathlib.Core.List.Memᴰ.tail x12))) = elim x12 [ ]
+edge-side w e (Memᴰ.tail (Memᴰ.tail (Memᴰ.tail i))) = elim i [ ]
 edge-side w e (Memᴰ.tail (Memᴰ.tail (Memᴰ.head q))) = (w.r, w.p, side-v, q)
 
 -- the ends of an edge, in one order or the other

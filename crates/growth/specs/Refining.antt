@@ -76,7 +76,7 @@ edge-norm t e i = go i
     go : Memᴰ e (edges t) → edge e.lo e.hi ≡ e
     go (Memᴰ.head f) = norm _ _ f
     go (Memᴰ.tail (Memᴰ.head f)) = norm _ _ f
-    go (mathlib.Core.List.Memᴰ.tail (mathlib.Core.List.Memᴰ.tail (mathlib.Core.List.Memᴰ.tail x12))) = elim x12 [ ]
+    go (Memᴰ.tail (Memᴰ.tail (Memᴰ.tail i))) = elim i [ ]
     go (Memᴰ.tail (Memᴰ.tail (Memᴰ.head f))) = norm _ _ f
 
 -- ---- the mesh split along the edges s

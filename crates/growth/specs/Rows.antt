@@ -75,7 +75,7 @@ edge-mem t a b (edge-rp s) = Memᴰ.tail (Memᴰ.tail (Memᴰ.head (same-edge s)
 pub mem-edge : (t : Tri) (a b : ℕ) → Memᴰ (edge a b) (edges t) → Edge (three t) a b
 mem-edge t a b (Memᴰ.head e) = edge-qr (same-of-edge a b _ _ e)
 mem-edge t a b (Memᴰ.tail (Memᴰ.head e)) = edge-pq (same-of-edge a b _ _ e)
-mem-edge t a b (mathlib.Core.List.Memᴰ.tail (mathlib.Core.List.Memᴰ.tail (mathlib.Core.List.Memᴰ.tail x12))) = elim x12 [ ]
+mem-edge t a b (Memᴰ.tail (Memᴰ.tail (Memᴰ.tail i))) = elim i [ ]
 mem-edge t a b (Memᴰ.tail (Memᴰ.tail (Memᴰ.head e))) = edge-rp (same-of-edge a b _ _ e)
 
 pub edge-held : (t : Tri) (a b : ℕ) → holds_edge (edge a b) t ≡ true → Edge (three t) a b

@@ -110,7 +110,7 @@ from-arrow : (m : Mesh) (t : Tri) {e : Arrow} → Memᴰ e (arrows t) → From m
 from-arrow m t (Memᴰ.head e) = subst⁻¹ (λ d. From m t d.from d.to) e (record { z = t.r; same_area = refl; same-weighted = λ f P. refl })
 from-arrow m t (Memᴰ.tail (Memᴰ.head e)) =
     subst⁻¹ (λ d. From m t d.from d.to) e (record { z = t.p; same_area = area-turned m t; same-weighted = λ f P. weighted-turned f m P t })
-from-arrow m t {e = e} (mathlib.Core.List.Memᴰ.tail (mathlib.Core.List.Memᴰ.tail (mathlib.Core.List.Memᴰ.tail x12))) = elim x12 [ ]
+from-arrow m t {e = e} (Memᴰ.tail (Memᴰ.tail (Memᴰ.tail i))) = elim i [ ]
 from-arrow m t (Memᴰ.tail (Memᴰ.tail (Memᴰ.head e))) =
     subst⁻¹ (λ d. From m t d.from d.to) e
     (record { z = t.q; same_area = area-turned m t ∙ area-turned m (turned t); same-weighted = λ f P. weighted-turned f m P t ∙ weighted-turned f m P (turned t) })

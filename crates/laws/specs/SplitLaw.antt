@@ -62,7 +62,7 @@ sum-cuts f g k {ts} h = sum-append f (map (λ t. (k t).kept) ts) (joined (λ t. 
 one_of_three : {e a b c : Edge} {P : Type 0} → Memᴰ e (a ∷ b ∷ c ∷ []) → (e ≡ a → P) → (e ≡ b → P) → (e ≡ c → P) → P
 one_of_three (Memᴰ.head p) f g h = f p
 one_of_three (Memᴰ.tail (Memᴰ.head p)) f g h = g p
-one_of_three {e = e} {a = a} {b = b} {c = c} {P = P} (mathlib.Core.List.Memᴰ.tail (mathlib.Core.List.Memᴰ.tail (mathlib.Core.List.Memᴰ.tail x15))) f g h = elim x15 [ ]
+one_of_three {e = e} {a = a} {b = b} {c = c} {P = P} (Memᴰ.tail (Memᴰ.tail (Memᴰ.tail i))) f g h = elim i [ ]
 one_of_three (Memᴰ.tail (Memᴰ.tail (Memᴰ.head p))) f g h = h p
 
 -- the ends of an edge of a row are nodes

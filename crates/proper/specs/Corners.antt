@@ -118,7 +118,7 @@ module _ (m : Mesh) (law : Lawful m) {t : Tri} (i : Memᴰ t m.tris) where
   pub row-edge : {e : Arrow} → Memᴰ e (arrows t) → RowEdge m t e.from e.to
   row-edge (Memᴰ.head e) = subst⁻¹ (λ d. RowEdge m t d.from d.to) e edge-pq
   row-edge (Memᴰ.tail (Memᴰ.head e)) = subst⁻¹ (λ d. RowEdge m t d.from d.to) e edge-qr
-  row-edge {e = e} (mathlib.Core.List.Memᴰ.tail (mathlib.Core.List.Memᴰ.tail (mathlib.Core.List.Memᴰ.tail x12))) = elim x12 [ ]
+  row-edge {e = e} (Memᴰ.tail (Memᴰ.tail (Memᴰ.tail i))) = elim i [ ]
   row-edge (Memᴰ.tail (Memᴰ.tail (Memᴰ.head e))) = subst⁻¹ (λ d. RowEdge m t d.from d.to) e edge-rp
 
 -- ---- rows with the same corners

@@ -1,27 +1,28 @@
 // The line program of document 01. It only moves bytes from standard input to standard output: `reader` cuts them into lines and
-// `frames` answers each; the tables are here. A read or a write that fails ends it, with that error.
+// `frames` answers each; the tables are here.
 #![tactic(auto)]
 
-ghost use Rattle.std.specs.Prelude.{◌≤◌, length, take, IfOk, OnOk};
-ghost use Rattle.std.specs.Io.KnownBytes.{Appends};
+ghost use Rattle.std.specs.Prelude.{◌≤◌, length};
 
 use reader::Carried;
-use std::io::{self, Read, Write};
+use std::io::{Read, Write};
 
-// What is carried from call to call: the reader's, and how many bytes of the piece are taken.
+// What is carried from call to call: the reader's, how many bytes of the piece are taken, and whether to go on.
 #[derive(Clone, Copy)]
 struct Talk {
     carried: Carried,
     at: usize,
+    on: bool,
 }
 
-// Writes the first n bytes of the buffer, and holds none of them back.
-fn say<W: Write>(out: &[u8], n: usize, to: &mut W) -> io::Result<()>
+// Writes the first n bytes of the buffer, if there are any; whether they went out.
+fn say(out: &[u8], n: usize, to: &mut impl Write) -> bool
     requires { n ≤ length out.now }
-    ensures { OnOk result (Appends (W.contents to.old) (W.contents to.new) (take n out.now)) }
 {
-    to.write_all(&out[..n])?;
-    to.flush()
+    if n == 0 {
+        return true;
+    }
+    to.write_all(&out[..n]).is_ok() && to.flush().is_ok()
 }
 
 // One call of the reader, and its answer.
@@ -34,15 +35,17 @@ fn take(
     scratch: &mut [u32],
     out: &mut [u8],
     to: &mut impl Write,
-) -> io::Result<Talk>
-    ensures { IfOk result (λ talk. talk.at ≤ length piece.now) }
+) -> Talk
+    ensures { result.at ≤ length piece.now }
 {
     let took = reader::take(piece, carried, line, nodes, rows, scratch, out);
-    say(out, took.written, to)?;
-    Ok(Talk {
-        carried: took.carried,
+    let on = say(out, took.written, to);
+    let after = took.carried;
+    Talk {
+        carried: after,
         at: took.taken,
-    })
+        on,
+    }
 }
 
 // What is left of a piece.
@@ -55,29 +58,23 @@ fn take_rest(
     scratch: &mut [u32],
     out: &mut [u8],
     to: &mut impl Write,
-) -> io::Result<Talk>
+) -> Talk
     requires piece_len_bound { length piece.now ≤ 512 }
     requires at_in_bounds { talk.at ≤ length piece.now }
-    ensures { IfOk result (λ talk. talk.at ≤ length piece.now) }
+    ensures { result.at ≤ length piece.now }
 {
     let at = talk.at;
-    let rest = take(
-        &piece[at..],
-        talk.carried,
-        line,
-        nodes,
-        rows,
-        scratch,
-        out,
-        to,
-    )?;
-    Ok(Talk {
-        carried: rest.carried,
+    let carried = talk.carried;
+    let rest = take(&piece[at..], carried, line, nodes, rows, scratch, out, to);
+    let after = rest.carried;
+    Talk {
+        carried: after,
         at: at + rest.at,
-    })
+        on: rest.on,
+    }
 }
 
-// A piece, in no more calls than it has bytes.
+// A piece, in no more calls than it has bytes. Once an answer does not go out, the rest is passed over.
 fn take_piece(
     piece: &[u8],
     carried: Carried,
@@ -87,20 +84,23 @@ fn take_piece(
     scratch: &mut [u32],
     out: &mut [u8],
     to: &mut impl Write,
-) -> io::Result<Carried>
+) -> Talk
     requires { length piece.now ≤ 512 }
 {
-    let mut talk = Talk { carried, at: 0 };
-    for _ in 0..piece.len() {
-        if talk.at == piece.len() {
-            break;
-        }
-        talk = take_rest(piece, talk, line, nodes, rows, scratch, out, to)?;
+    let mut talk = Talk {
+        carried,
+        at: 0,
+        on: true,
+    };
+    let mut calls = piece.len();
+    while calls > 0 && talk.at < piece.len() && talk.on {
+        talk = take_rest(piece, talk, line, nodes, rows, scratch, out, to);
+        calls -= 1;
     }
-    Ok(talk.carried)
+    talk
 }
 
-// Reads once, and takes what came. At the end of the input there is nothing to carry on.
+// Reads once, and takes what came.
 fn read_piece(
     from: &mut impl Read,
     carried: Carried,
@@ -110,17 +110,20 @@ fn read_piece(
     scratch: &mut [u32],
     out: &mut [u8],
     to: &mut impl Write,
-) -> io::Result<Option<Carried>> {
+) -> Talk {
     let mut piece = [0u8; 512];
-    let n = from.read(&mut piece)?;
+    let n = from.read(&mut piece).unwrap_or(0);
     if n == 0 {
-        return Ok(None);
+        return Talk {
+            carried,
+            at: 0,
+            on: false,
+        };
     }
-    let after = take_piece(&piece[..n], carried, line, nodes, rows, scratch, out, to)?;
-    Ok(Some(after))
+    take_piece(&piece[..n], carried, line, nodes, rows, scratch, out, to)
 }
 
-// A proved loop has to end, and nothing says that the input does: the turns are more than any run uses up.
+// A proved loop has to end, and nothing says that the input does: the turns count down from a number that no run uses up.
 fn talk_on(
     from: &mut impl Read,
     carried: Carried,
@@ -130,15 +133,20 @@ fn talk_on(
     scratch: &mut [u32],
     out: &mut [u8],
     to: &mut impl Write,
-) -> io::Result<Carried> {
-    let mut carried = carried;
-    for _ in 0..u64::MAX {
-        match read_piece(from, carried, line, nodes, rows, scratch, out, to)? {
-            Some(after) => carried = after,
-            None => break,
-        }
+) -> Carried {
+    let mut talk = Talk {
+        carried,
+        at: 0,
+        on: true,
+    };
+    let mut turns = u64::MAX;
+    while turns > 0 && talk.on {
+        let before = talk.carried;
+        talk = read_piece(from, before, line, nodes, rows, scratch, out, to);
+        turns -= 1;
     }
-    Ok(carried)
+    let after = talk.carried;
+    after
 }
 
 fn open(
@@ -148,10 +156,11 @@ fn open(
     scratch: &mut [u32],
     out: &mut [u8],
     to: &mut impl Write,
-) -> io::Result<Carried> {
+) -> Carried {
     let begun = reader::begin(line, nodes, rows, scratch, out);
-    say(out, begun.written, to)?;
-    Ok(begun.carried)
+    say(out, begun.written, to);
+    let carried = begun.carried;
+    carried
 }
 
 fn close(
@@ -162,12 +171,12 @@ fn close(
     scratch: &[u32],
     out: &mut [u8],
     to: &mut impl Write,
-) -> io::Result<()> {
+) {
     let ended = reader::end(carried, line, nodes, rows, scratch, out);
-    say(out, ended.written, to)
+    say(out, ended.written, to);
 }
 
-fn main(rt: HostRuntime) -> io::Result<()> {
+fn main(rt: HostRuntime) {
     let mut input = rt.stdin();
     let mut output = rt.stdout();
     let mut nodes = [0i32; 2048];
@@ -182,7 +191,7 @@ fn main(rt: HostRuntime) -> io::Result<()> {
         &mut scratch,
         &mut out,
         &mut output,
-    )?;
+    );
     let talked = talk_on(
         &mut input,
         begun,
@@ -192,7 +201,7 @@ fn main(rt: HostRuntime) -> io::Result<()> {
         &mut scratch,
         &mut out,
         &mut output,
-    )?;
+    );
     close(
         talked,
         &mut line,
@@ -201,5 +210,5 @@ fn main(rt: HostRuntime) -> io::Result<()> {
         &scratch,
         &mut out,
         &mut output,
-    )
+    );
 }

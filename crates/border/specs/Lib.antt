@@ -31,13 +31,9 @@ pub mod Close
 pub mod Fan
 pub mod Corners
 pub mod Crowd
-pub mod ClearLaw
-pub mod Safe
 pub mod Near
 pub mod Sides
 pub mod Bare
 pub mod Crossing
-pub mod Unmet
-pub mod Exact
 pub mod ClearMeshes
 pub mod TestsNeeded

@@ -16,12 +16,12 @@ use Rattle.meaning.specs.Lawful.{Lawful}
 use Rattle.meaning.specs.Proper.{facing}
 use Rattle.meaning.specs.Tables.{place_at, row_at}
 use Rattle.laws.specs.Meshes.{mesh_at, place_is, count-nodes}
-use Rattle.proper.specs.ProperLaw.{proper-exact}
+use Rattle.proper.proofs.ProperLaw.{proper-exact}
 use Rattle.border.specs.Sums.{one, added-eq}
 use Rattle.border.specs.Under.{key, under}
 use Rattle.border.specs.Cancel.{border}
 use Rattle.border.specs.Clear.{steep, middle, crosses, meets, under_middle, right_free, clear}
-use Rattle.border.specs.Safe.{border-clear}
+use Rattle.border.proofs.Safe.{border-clear}
 use Rattle.sweep.specs.Severity.{severity}
 
 -- ---- places that agree at the ends of the arrows

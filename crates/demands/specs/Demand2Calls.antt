@@ -26,7 +26,7 @@ use Rattle.meaning.specs.Calls.{culprit_of, check_no, refine_no, coarsen_no, che
 use Rattle.laws.specs.Lawful.{refusal-lawful, refusal-exact, applies-from-3}
 use Rattle.laws.specs.Late.{late-not-1}
 use Rattle.proper.specs.Flawless.{Flawless}
-use Rattle.proper.specs.Check.{CheckSays, NoneCrowded, SomeCrowded, SomeOverlap, base-past, check-exact, check-11, check-12, check-10, check-0}
+use Rattle.proper.proofs.Check.{CheckSays, NoneCrowded, SomeCrowded, SomeOverlap, base-past, check-exact, check-11, check-12, check-10, check-0}
 use Rattle.laws.specs.Marks.{WellMarked}
 use Rattle.laws.specs.Cut.{CutLaws, parts}
 use Rattle.laws.specs.Red.{quarters-laws}

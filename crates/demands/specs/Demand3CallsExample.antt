@@ -26,7 +26,7 @@ use Rattle.demands.specs.InFour.{InFour}
 use Rattle.demands.specs.AskCall.{AskDone}
 use Rattle.demands.specs.Demand2Calls.{RefineDone, CoarsenDone, SetDone, demand2-calls}
 use Rattle.demands.specs.Demand3Calls.{Held, base-held, scratch-anew, after-refine, after-coarsen, after-set, after-refusal, after-question, check-made, refine-made, coarsen-made, set-made, restore-made, demand3-calls}
-use Rattle.demands.specs.AskAgain.{AskedAfter, asked-same}
+use Rattle.demands.proofs.AskAgain.{AskedAfter, asked-same}
 use Rattle.demands.specs.ProperCalls.{held-grew, grew-flawless}
 use Rattle.demands.specs.PointCalls.{node-tells}
 

@@ -3,7 +3,6 @@ pub mod InFour
 pub mod AskCall
 pub mod Demand2Calls
 pub mod Demand3Calls
-pub mod AskAgain
 pub mod ProperCalls
 pub mod PointCalls
 pub mod Demand3CallsExample

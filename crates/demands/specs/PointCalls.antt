@@ -16,7 +16,7 @@ use Rattle.meaning.specs.Calls.{check_out, refine_out, told, asks, Heard, ask_ou
 use Rattle.laws.specs.TableMesh.{nodes-count, rows-count, tables_after, done-mesh}
 use Rattle.laws.specs.CallLaw.{Sizes, sizes-exact, ask-leaves, refine-leaves}
 use Rattle.proper.specs.Flawless.{Flawless}
-use Rattle.points.specs.OneAnswer.{any-row-told, node-told, order-free}
+use Rattle.points.proofs.OneAnswer.{any-row-told, node-told, order-free}
 use Rattle.points.specs.Refined.{EvenEnds, refined-asked}
 use Rattle.demands.specs.ProperCalls.{Grew, grew-flawless}
 

@@ -12,7 +12,7 @@ use Rattle.laws.specs.Area.{turn_expr}
 use Rattle.border.specs.Signs.{lt-le, equal-of-zero, difference-above, minus-above, minus-below}
 use Rattle.border.specs.Under.{Form, key}
 use Rattle.border.specs.Meet.{Opposite, down, upwards}
-use Rattle.border.specs.Unmet.{opposite-signs}
+use Rattle.border.proofs.Unmet.{opposite-signs}
 use Rattle.border.specs.Clear.{opposite, crosses}
 
 -- ---- (a) a place on an edge has its key between those of the ends

@@ -2,14 +2,9 @@
 -- of a text, however it was cut, is what documents 01 and 02 say of the whole text.
 pub mod Reader
 pub mod Fits
-pub mod Bounds
-pub mod Parts
 pub mod Refused
 pub mod OneOutcome
 pub mod Turns
 pub mod WholeText
 pub mod LineBuffer
-pub mod Taking
-pub mod Handing
-pub mod HoweverCut
 pub mod Cuts

@@ -2,7 +2,6 @@
 -- rows stand; a node's place tells what the node carries), Refined (refining by bisection changes no answer where the new means are exact) and
 -- PointMeshes (by hand: what each premise is needed for). AnyRow is about two rows, Halves about a row and the parts that it is cut into.
 pub mod AnyRow
-pub mod OneAnswer
 pub mod Halves
 pub mod Refined
 pub mod PointMeshes

@@ -17,7 +17,7 @@ use Rattle.meaning.specs.Proper.{Proper, none_left, parted_by, apart, first_crow
 use Rattle.meaning.specs.Asking.{weighted, weights, mean_in, row_holding, correction_at}
 use Rattle.meaning.specs.Calls.{culprit_of, refine_no, ask_no, told, asks}
 use Rattle.laws.specs.Lawful.{refusal-lawful}
-use Rattle.proper.specs.ProperLaw.{proper-exact}
+use Rattle.proper.proofs.ProperLaw.{proper-exact}
 use Rattle.points.specs.Refined.{EvenEnds, refined-asked}
 
 -- the node at (a, b) that carries (c, d)

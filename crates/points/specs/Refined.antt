@@ -34,7 +34,7 @@ use Rattle.laws.specs.Midpoints.{twice_half, centred}
 use Rattle.laws.specs.SplitLaw.{cut_rows, all-cuts, split-old, split-new, split-lawful}
 use Rattle.laws.specs.Refine.{refine-halves}
 use Rattle.proper.specs.Fine.{Mean}
-use Rattle.points.specs.OneAnswer.{Likewise, SameCorners, corners-back, corners-hold, corners-make, corners-area, covered-by, same-told}
+use Rattle.points.proofs.OneAnswer.{Likewise, SameCorners, corners-back, corners-hold, corners-make, corners-area, covered-by, same-told}
 use Rattle.points.specs.Halves.{HalfwayIf, Halved, parts_within, some-part}
 
 -- ---- exact means

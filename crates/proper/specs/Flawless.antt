@@ -25,9 +25,9 @@ use Rattle.laws.specs.Coarsen.{coarsened-lawful}
 use Rattle.laws.specs.Restore.{restored-keeps}
 use Rattle.laws.specs.PlaceOnly.{SamePlaces, at_same, count_same}
 use Rattle.laws.specs.Setting.{corrected-places, corrected-lawful, set-0}
-use Rattle.proper.specs.ProperLaw.{proper-exact}
+use Rattle.proper.proofs.ProperLaw.{proper-exact}
 use Rattle.proper.specs.Dissects.{Dissects}
-use Rattle.proper.specs.RedDissects.{quarters-dissect}
+use Rattle.proper.proofs.RedDissects.{quarters-dissect}
 use Rattle.proper.specs.SplitProper.{split-proper}
 use Rattle.proper.specs.WithoutProper.{coarsened-proper}
 

@@ -9,7 +9,6 @@ pub mod Radon
 pub mod Helly
 pub mod Sharing
 pub mod Tested
-pub mod ProperLaw
 pub mod OnLine
 pub mod Between
 pub mod Segment
@@ -21,8 +20,6 @@ pub mod FaithfulProper
 pub mod Fine
 pub mod FineEdges
 pub mod Dissects
-pub mod RedDissects
 pub mod SplitProper
 pub mod WithoutProper
 pub mod Flawless
-pub mod Check

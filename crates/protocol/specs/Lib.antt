@@ -3,4 +3,3 @@
 pub mod Frames
 pub mod Program
 pub mod Worked
-pub mod Sentences

@@ -24,7 +24,7 @@ use Rattle.reader.specs.declared.Took.{Took}
 use Rattle.pieces.specs.Reader.{Unfinished, unfinished, longer, wiped, Reader, reader, Taken, tells, unchanged, fits, line_read, byte_read, further, untimely, piece_read, take_out, begin_out, end_out}
 use Rattle.reader.specs.Values.{carries, heard, took, nothing}
 use Rattle.pieces.specs.Fits.{Fits, fits-is}
-use Rattle.pieces.specs.Parts.{further-stops}
+use Rattle.pieces.proofs.Parts.{further-stops}
 use Rattle.reader.specs.Within.{took-few, took-taken, begun-few, ended-few}
 use Rattle.pieces.specs.Refused.{take-unfit, end-unfit, end-ended}
 

@@ -2,8 +2,8 @@
 use Rattle.std.specs.Prelude.{◌≡◌, List, ℕ, ◌≤◌, ◌<◌, ℤ, length, take}
 use Rattle.std.proofs.Common.{sym, ap, ◌∙◌, arith, length-take-le}
 use Rattle.pieces.specs.Reader.{Reader, Taken, take_out, begin_out, end_out}
-use Rattle.pieces.specs.Bounds.{take-written, take_within, begin-written, begin-within, end-written, end-within}
-use Rattle.pieces.specs.Parts.{take-taken, take-some, take-quiet}
+use Rattle.pieces.proofs.Bounds.{take-written, take_within, begin-written, begin-within, end-written, end-within}
+use Rattle.pieces.proofs.Parts.{take-taken, take-some, take-quiet}
 use Rattle.reader.specs.declared.Took.{Took}
 use Rattle.reader.specs.Values.{took}
 

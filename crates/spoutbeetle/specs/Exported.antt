@@ -15,7 +15,7 @@ use Rattle.text.specs.Writing.{wrote}
 use Rattle.reader.specs.declared.Took.{Took}
 use Rattle.reader.specs.Values.{carries, took}
 use Rattle.pieces.specs.Reader.{Reader, Taken, tells, begin_out, end_out}
-use Rattle.pieces.specs.Parts.{begin-taken, end-taken}
+use Rattle.pieces.proofs.Parts.{begin-taken, end-taken}
 
 module _ (a : Answer) (nodes : List ℤ) (rows scratch : List ℕ) where
   -- the base check shows the counts it was given and no passes

@@ -19,12 +19,12 @@ use Rattle.meaning.specs.Mesh.{Mesh, Arrow, tri, arrows, at, turn}
 use Rattle.meaning.specs.Lawful.{Lawful, row_of}
 use Rattle.meaning.specs.Proper.{shape, facing, Share, Crowded, at-one-place, inside-edge, Overlaps, with-lower, apart, uncrowded, disjoint}
 use Rattle.laws.specs.Area.{turn-from}
-use Rattle.proper.specs.Check.{SomeCrowded}
+use Rattle.proper.proofs.Check.{SomeCrowded}
 use Rattle.proper.specs.Corners.{RowEdge, row-edge, above-pqr}
 use Rattle.proper.specs.FaithfulProper.{node_row}
 use Rattle.proper.specs.OnLine.{len, facing_expr, len-same}
 use Rattle.proper.specs.Segment.{at-end}
-use Rattle.proper.specs.ProperLaw.{uncrowded-exact, disjoint-exact}
+use Rattle.proper.proofs.ProperLaw.{uncrowded-exact, disjoint-exact}
 use Rattle.proper.specs.Sharing.{share_back}
 use Rattle.proper.specs.Tested.{share-exact}
 use Rattle.pairs.specs.Pair.{shape_by, corners, touches, grave}

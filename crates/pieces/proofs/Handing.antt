@@ -10,10 +10,10 @@ use Rattle.protocol.specs.Frames.{Held}
 use Rattle.protocol.specs.Program.{closing, Stands}
 use Rattle.fitting.specs.Lent.{WholeHeld}
 use Rattle.pieces.specs.Reader.{Taken, unchanged, take_out}
-use Rattle.pieces.specs.Parts.{take-some}
+use Rattle.pieces.proofs.Parts.{take-some}
 use Rattle.pieces.specs.Turns.{Caller, goes_on, handed, waiting, over}
 use Rattle.pieces.specs.WholeText.{gone_on, gone-cut, torn}
-use Rattle.pieces.specs.Taking.{Comes, take-comes}
+use Rattle.pieces.proofs.Taking.{Comes, take-comes}
 
 -- ---- what a caller has after a call
 

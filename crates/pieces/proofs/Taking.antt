@@ -13,7 +13,7 @@ use Rattle.protocol.specs.Program.{closing, Stands, stands}
 use Rattle.fitting.specs.Lent.{writing, WholeHeld, is_whole, line_lent}
 use Rattle.fitting.specs.Stays.{line-fine}
 use Rattle.pieces.specs.Reader.{Taken, tells, unchanged, fits, fitting, line_read, byte_read, further, untimely, take_out, end_out}
-use Rattle.pieces.specs.Parts.{further-stops}
+use Rattle.pieces.proofs.Parts.{further-stops}
 use Rattle.pieces.specs.Refused.{take_long, take_ended, end-ended}
 use Rattle.pieces.specs.Turns.{kept, waiting, over}
 use Rattle.pieces.specs.WholeText.{stands_from, stands-none, stands-end, stands-more, Byte, ending, other, byte, torn}

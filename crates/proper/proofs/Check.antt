@@ -9,7 +9,7 @@ use Rattle.meaning.specs.Calls.{unless, base_no, check_no}
 use Rattle.laws.specs.Exact.{unfit}
 use Rattle.laws.specs.Lawful.{compatible-exact}
 use Rattle.laws.specs.Late.{Exactly, Done, all_sound, Unless, done-0, done-exact, unless-exact, PastSeven, done-past, unless-past, own_line, other-line, LateSays, late-exact, late-past, late-lowest}
-use Rattle.proper.specs.ProperLaw.{uncrowded-exact, crowded-somewhere, disjoint-exact, overlaps-somewhere, none-proper, not-crowded, not-overlapping}
+use Rattle.proper.proofs.ProperLaw.{uncrowded-exact, crowded-somewhere, disjoint-exact, overlaps-somewhere, none-proper, not-crowded, not-overlapping}
 use Rattle.proper.specs.Flawless.{Flawless}
 
 module _ (m : Mesh) where

@@ -11,8 +11,8 @@ use Rattle.pieces.specs.Reader.{Taken, tells, unchanged, fits, take_out, begin_o
 use Rattle.pieces.specs.Fits.{fits-is}
 use Rattle.pieces.specs.Turns.{Turn, piece, announce, Caller, goes_on, turned, turns, text_of, announced, Had, had, had_of, waiting, over, of_text}
 use Rattle.pieces.specs.WholeText.{stands-start, gone_on, gone-none, gone-cut, torn, said_whole, answers-are}
-use Rattle.pieces.specs.Taking.{take-over-long, take-after-end, end-closes, end-again}
-use Rattle.pieces.specs.Handing.{At, Over, goes-said, goes-out, goes-unchanged, torn-short, joins, hands}
+use Rattle.pieces.proofs.Taking.{take-over-long, take-after-end, end-closes, end-again}
+use Rattle.pieces.proofs.Handing.{At, Over, goes-said, goes-out, goes-unchanged, torn-short, joins, hands}
 
 -- ---- a turn
 

@@ -30,10 +30,10 @@ use Rattle.border.specs.Clear.{steep, meets, under_middle, right_free, clear}
 use Rattle.border.specs.Nudge.{Single, not-both, row-upright, nudged-inside}
 use Rattle.border.specs.Corners.{Turned, from-p, from-q, from-r, turned-arrow, turned-upright, turned-inside, turned-corner}
 use Rattle.border.specs.Crowd.{border-row}
-use Rattle.border.specs.ClearLaw.{own-middle, falls}
+use Rattle.border.proofs.ClearLaw.{own-middle, falls}
 use Rattle.border.specs.Crossing.{cross-share}
-use Rattle.border.specs.Unmet.{not-on-side, not-crossing}
-use Rattle.border.specs.Safe.{border-clear}
+use Rattle.border.proofs.Unmet.{not-on-side, not-crossing}
+use Rattle.border.proofs.Safe.{border-clear}
 
 -- ---- the arrows of a row
 

@@ -10,7 +10,7 @@ use Rattle.border.specs.Clear.{steep, clear}
 use Rattle.border.specs.Nearest.{at_most_one}
 use Rattle.border.specs.Nudge.{Single, shared-none}
 use Rattle.border.specs.Crowd.{place-alone, edge-alone}
-use Rattle.border.specs.ClearLaw.{clear-bare, clear-quiet}
+use Rattle.border.proofs.ClearLaw.{clear-bare, clear-quiet}
 use Rattle.border.specs.Count.{areas-above}
 
 -- no point off the rows is inside two of them, and the border is quiet

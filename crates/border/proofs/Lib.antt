@@ -1,0 +1,4 @@
+pub mod ClearLaw
+pub mod Safe
+pub mod Exact
+pub mod Unmet

@@ -1,0 +1,5 @@
+pub mod Parts
+pub mod Bounds
+pub mod Taking
+pub mod Handing
+pub mod HoweverCut

@@ -1,0 +1,3 @@
+pub mod ProperLaw
+pub mod RedDissects
+pub mod Check

@@ -19,7 +19,8 @@ use Rattle.laws.specs.TableMesh.{nodes-count, tables_after, done-mesh}
 use Rattle.laws.specs.CallLaw.{AsGiven, CallLeaves, check-leaves, refine-leaves, coarsen-leaves, restore-leaves, set-leaves, ask-leaves}
 use Rattle.laws.specs.RedTold.{red-outcome}
 use Rattle.growth.specs.Demand3.{still}
-use Rattle.proper.specs.Flawless.{Flawless, refine-flawless, coarsened-flawless, restored-flawless, set-flawless}
+use Rattle.proper.proofs.FlawlessLaw.{refine-flawless}
+use Rattle.proper.specs.Flawless.{Flawless, coarsened-flawless, restored-flawless, set-flawless}
 use Rattle.proper.proofs.Check.{check-0}
 use Rattle.demands.specs.Demand3Calls.{Made, check-made, refine-made, coarsen-made, set-made, restore-made, Held, base-held, scratch-anew, after-refine, after-coarsen, after-set, after-restore, after-refusal, after-question}
 

@@ -11,7 +11,8 @@ use Rattle.meaning.specs.declared.Quarters.TheVariants.{Bisected, Red}
 use Rattle.meaning.specs.Split.{red, cutting_of}
 use Rattle.laws.specs.Cut.{parts}
 use Rattle.proper.specs.Sums.{mix, level}
-use Rattle.proper.specs.Dissects.{Back, Piece, Dissects, piece, nine, bisected-back, bisected-pieces, bisected-dissects}
+use Rattle.proper.specs.Dissects.{Back, Piece, Dissects, piece, nine, bisected-back, bisected-pieces}
+use Rattle.proper.proofs.BisectedDissects.{bisected-dissects}
 
 -- the weight that a midpoint gets of its ends B and C, where A is the third corner
 abbrev halfway : ℕ → ℕ → ℕ → ℕ

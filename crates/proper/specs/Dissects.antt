@@ -116,6 +116,3 @@ bisected-pieces t m (some u) (some v) =
     (λ φ. nine t m u v a b c φ (λ a b c p q r m u v. (a :* u :+ b :* q :+ c :* m, O :* p :+ b :* q :+ O :* r :+ (c :* m :+ a :* u :+ O :* v))) tt) (omega arith) (omega arith) (omega arith))
     (cons (λ a b c. piece bisected-back t m (some u) (some v) b 0 0 c 0 a tt tt (inl refl) (inr refl) (inl refl)
     (λ φ. nine t m u v a b c φ (λ a b c p q r m u v. (a :* v :+ b :* p :+ c :* m, b :* p :+ O :* q :+ O :* r :+ (c :* m :+ O :* u :+ a :* v))) tt) (omega arith) (omega arith) (omega arith)) nil)))
-
-pub bisected-dissects : Dissects bisected
-bisected-dissects = record { back = bisected-back; pieces = bisected-pieces }

@@ -1,33 +1,25 @@
 -- W7: "Show instead that a mesh grown from a base so admitted has no node strictly inside an edge." A mesh that is lawful and proper stays so: by every
 -- accepted refine whose cut dissects (bisection does, and so does the red cut), by every coarsen, full pass and restore, and by setting a correction, whatever is marked or set.
 -- Assumes nothing.
-use Rattle.std.specs.Prelude.{true, List, ◌↔◌, ◌≡◌, ℕ}
-use Rattle.std.proofs.Common.{sym, subst, subst₂, ◌∙◌, arith}
+use Rattle.std.specs.Prelude.{true, List, ◌≡◌, ℕ}
+use Rattle.std.proofs.Common.{sym, subst₂, ◌∙◌, arith}
 use Rattle.lists.specs.Lists.{all, All}
 use Rattle.meaning.specs.declared.Correction.{Correction}
 use Rattle.meaning.specs.declared.Place.{Place}
 use Rattle.meaning.specs.declared.Tri.{Tri}
 use Rattle.meaning.specs.Mesh.{Mesh, arrows, at}
-use Rattle.meaning.specs.Lawful.{InBounds, Lawful, row_of, refusal}
-use Rattle.meaning.specs.declared.Quarters.{Quarters}
-use Rattle.meaning.specs.Split.{Way, cutting_of, halves, split_edges, started, refined}
+use Rattle.meaning.specs.Lawful.{InBounds, Lawful, row_of}
+use Rattle.meaning.specs.Split.{Way, halves, split_edges, started, refined}
 use Rattle.meaning.specs.Coarsen.{coarsened, pass, restored, all_marked}
-use Rattle.meaning.specs.Tables.{Room}
-use Rattle.meaning.specs.Calls.{refine_no}
 use Rattle.meaning.specs.Setting.{corrected, set_fault}
-use Rattle.meaning.specs.Proper.{shape_by, StrictlyInside, Share, Proper, uncrowded, disjoint}
-use Rattle.laws.specs.Lawful.{refusal-lawful, lawful-refusal}
+use Rattle.meaning.specs.Proper.{shape_by, StrictlyInside, Share, Proper}
 use Rattle.laws.specs.Cut.{CutLaws}
-use Rattle.laws.specs.Red.{quarters-laws}
 use Rattle.laws.specs.SplitLaw.{split-lawful}
-use Rattle.laws.specs.Refine.{refine-halves}
 use Rattle.laws.specs.Coarsen.{coarsened-lawful}
 use Rattle.laws.specs.Restore.{restored-keeps}
 use Rattle.laws.specs.PlaceOnly.{SamePlaces, at_same, count_same}
 use Rattle.laws.specs.Setting.{corrected-places, corrected-lawful, set-0}
-use Rattle.proper.proofs.ProperLaw.{proper-exact}
 use Rattle.proper.specs.Dissects.{Dissects}
-use Rattle.proper.proofs.RedDissects.{quarters-dissect}
 use Rattle.proper.specs.SplitProper.{split-proper}
 use Rattle.proper.specs.WithoutProper.{coarsened-proper}
 
@@ -35,13 +27,6 @@ use Rattle.proper.specs.WithoutProper.{coarsened-proper}
 pub record Flawless (m : Mesh) : Type 0 where
   pub lawful : Lawful m
   pub proper : Proper m
-
--- EXACTLY THE MESHES IN WHICH THE TESTS FIND NOTHING
-pub flawless-exact : (m : Mesh) → Flawless m ↔ ((refusal m ≡ 0) × (uncrowded m ≡ true) × (disjoint m ≡ true))
-flawless-exact m = (
-  λ F. (let h = (proper-exact m F.lawful).0 F.proper in (lawful-refusal m F.lawful, h.0, h.1)),
-  λ h. (let law = refusal-lawful m h.0 in record { lawful = law; proper = (proper-exact m law).1 (h.1, h.2) }),
-)
 
 -- ---- refine
 
@@ -53,11 +38,6 @@ refined-flawless w laws D m marks even F = record {
   lawful = split-lawful laws m (started w.starts marks m.tris) F.lawful even;
   proper = split-proper laws D m (started w.starts marks m.tris) F.lawful even F.proper;
 }
-
--- so does every accepted refine, however it quarters
-pub refine-flawless : (w : Way) (q : Quarters) → w.cutting ≡ cutting_of q → (room : Room) (m : Mesh) (marks : List ℕ) → refine_no w room m marks ≡ 0 → Flawless m → Flawless (refined w m marks)
-refine-flawless w q cuts room m marks e =
-    refined-flawless w (subst CutLaws (sym cuts) (quarters-laws q)) (subst Dissects (sym cuts) (quarters-dissect q)) m marks (refine-halves w room m marks e)
 
 -- ---- coarsen and restore
 

@@ -17,7 +17,8 @@ use Rattle.laws.specs.TableMesh.{nodes-count, rows-count, tables_after, done-mes
 use Rattle.laws.specs.CallLaw.{Sizes, sizes-exact, ask-leaves, refine-leaves}
 use Rattle.proper.specs.Flawless.{Flawless}
 use Rattle.points.proofs.OneAnswer.{any-row-told, node-told, order-free}
-use Rattle.points.specs.Refined.{EvenEnds, refined-asked}
+use Rattle.points.specs.Refined.{EvenEnds}
+use Rattle.points.proofs.RefinedAsked.{refined-asked}
 use Rattle.demands.specs.ProperCalls.{Grew, grew-flawless}
 
 -- a question in tables that fit

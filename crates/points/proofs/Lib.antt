@@ -1,1 +1,4 @@
+pub mod AnyRowTold
 pub mod OneAnswer
+pub mod PointMeshesKept
+pub mod RefinedAsked

@@ -21,7 +21,7 @@ use Rattle.laws.specs.Exact.{unfit}
 use Rattle.laws.specs.RowMean.{corner-holds, mean-corner}
 use Rattle.laws.specs.Asking.{covered-exact, ask-0, ask-14, ask-exact, refuses, answered, asks-exact, told_is}
 use Rattle.proper.specs.FaithfulProper.{node_row}
-use Rattle.points.specs.AnyRow.{any-row-correction}
+use Rattle.points.proofs.AnyRowTold.{any-row-correction}
 
 -- ---- any mesh that is lawful
 

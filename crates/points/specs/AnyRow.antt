@@ -11,12 +11,11 @@ use Rattle.whole.specs.Ring.{◌:+◌, ◌:*◌, ring3, ring7}
 use Rattle.lists.specs.ListsLaw.{All-at}
 use Rattle.meaning.specs.declared.Place.{Place}
 use Rattle.meaning.specs.declared.Tri.{Tri}
-use Rattle.meaning.specs.Mesh.{Mesh, at, correction, twice_area}
+use Rattle.meaning.specs.Mesh.{Mesh, at, twice_area}
 use Rattle.meaning.specs.Lawful.{Lawful}
 use Rattle.meaning.specs.Proper.{shape, Proper}
 use Rattle.meaning.specs.Rounding.{SameFraction}
-use Rattle.meaning.specs.Asking.{HoldsPoint, weight_p, weight_q, weight_r, weighted, mean_in, dx_of, dy_of, correction_in}
-use Rattle.laws.specs.RowMean.{mean-same}
+use Rattle.meaning.specs.Asking.{HoldsPoint, weight_p, weight_q, weight_r, weighted}
 use Rattle.proper.specs.Convex.{val, spot}
 use Rattle.proper.specs.Sharing.{left-turn, weights}
 use Rattle.proper.specs.Sums.{Mix, mix, level, SamePoint, Affine, coordinate-affine}
@@ -52,10 +51,10 @@ module _ (m : Mesh) (P : Place) (t : Tri) where
 -- ---- two rows
 
 module _ {m : Mesh} (law : Lawful m) (proper : Proper m) {P : Place} {t u : Tri} (i : Memᴰ t m.tris) (j : Memᴰ u m.tris) (h : HoldsPoint m P t) (k : HoldsPoint m P u) where
-  above-t : pos 0 <ℤ twice_area m t
+  pub above-t : pos 0 <ℤ twice_area m t
   above-t = All-at law.positive i
 
-  above-u : pos 0 <ℤ twice_area m u
+  pub above-u : pos 0 <ℤ twice_area m u
   above-u = All-at law.positive j
 
   one-point : SamePoint m (level (mix_at m P t (twice_area m u))) (level (mix_at m P u (twice_area m t)))
@@ -73,11 +72,3 @@ module _ {m : Mesh} (law : Lawful m) (proper : Proper m) {P : Place} {t u : Tri}
       ∙ (proper-faithful m law proper).one-sum (mix_at m P t (twice_area m u)) (mix_at m P u (twice_area m t)) i j one-point f
       ∙ mix-weighted m P u k (twice_area m t) above-t f
       ∙ *ℤ_comm (twice_area m t) (weighted f m P u)
-
-  -- so one mean, rounded down,
-  pub any-row-mean : (f : ℕ → ℤ) → mean_in f m P t ≡ mean_in f m P u
-  any-row-mean f = mean-same f f m m P t u above-t above-u (any-row-same f)
-
-  -- AND ONE CORRECTION.
-  pub any-row-correction : correction_in m P t ≡ correction_in m P u
-  any-row-correction n = correction (any-row-mean (dx_of m) n) (any-row-mean (dy_of m) n)

@@ -18,10 +18,10 @@ use Rattle.meaning.specs.Asking.{weighted, weights, mean_in, row_holding, correc
 use Rattle.meaning.specs.Calls.{culprit_of, refine_no, ask_no, told, asks}
 use Rattle.laws.specs.Lawful.{refusal-lawful}
 use Rattle.proper.proofs.ProperLaw.{proper-exact}
-use Rattle.points.specs.Refined.{EvenEnds, refined-asked}
+use Rattle.points.specs.Refined.{EvenEnds}
 
 -- the node at (a, b) that carries (c, d)
-abbrev bears : ℤ → ℤ → ℤ → ℤ → Node
+abbrev pub bears : ℤ → ℤ → ℤ → ℤ → Node
 bears a b c d = node (place a b) (correction c d)
 
 abbrev tells : ℤ → ℤ → Told
@@ -63,7 +63,7 @@ node-not-told = (refl, refl)
 -- ---- sums of corrections
 
 -- one row; node 2 carries (dx, dy), and the refinement edge is that from node 1, which carries nothing
-abbrev slope : ℤ → ℤ → Mesh
+abbrev pub slope : ℤ → ℤ → Mesh
 slope dx dy = mesh (bears (pos 0) (pos 6) (pos 0) (pos 0) ∷ bears (pos 0) (pos 0) (pos 0) (pos 0) ∷ bears (pos 6) (pos 0) dx dy ∷ []) (tri 0 1 2 ∷ [])
 
 -- 3 and 0 have an odd sum, 6 and 0 an even one
@@ -71,13 +71,13 @@ abbrev odd : Mesh
 odd = slope (pos 3) (pos 6)
 
 -- 4 and 0, −2 and 0: even sums
-abbrev smooth : Mesh
+abbrev pub smooth : Mesh
 smooth = slope (pos 4) (negsuc 1)
 
-abbrev cut : Mesh → Mesh
+abbrev pub cut : Mesh → Mesh
 cut m = refined newest m (1 ∷ [])
 
-abbrev room : Room
+abbrev pub room : Room
 room = record { nodes = 4; rows = 2 }
 
 -- on the edge that is cut at (3, 0), on the cut, beyond it, and outside
@@ -110,22 +110,19 @@ pub even-after : map (asks (cut smooth)) points ≡ even-told
 unfolding lowest lowest_from twice_area first_outside first_misnamed first_repeat first_flat first_unused fault_of refusal closure split_edges split_at split refined culprit_of weighted weights mean_in row_holding correction_at ask_no asks
 even-after = refl
 
--- NOR AT ANY OTHER POINT: the premises of `refined-asked` hold.
-even-lawful : Lawful smooth
+-- NOR AT ANY OTHER POINT: the premises of `refined-asked` hold (proofs/PointMeshesKept.antt).
+pub even-lawful : Lawful smooth
 unfolding lowest lowest_from twice_area first_outside first_misnamed first_repeat first_flat first_unused fault_of refusal
 even-lawful = refusal-lawful smooth refl
 
-even-proper : Proper smooth
+pub even-proper : Proper smooth
 unfolding lowest lowest_from none_left parted_by apart first_crowded first_overlap uncrowded disjoint
 even-proper = (proper-exact smooth even-lawful).1 (refl, refl)
 
-even-accepted : refine_no newest room smooth (1 ∷ []) ≡ 0
+pub even-accepted : refine_no newest room smooth (1 ∷ []) ≡ 0
 unfolding lowest lowest_from twice_area first_outside first_misnamed first_repeat first_flat first_unused fault_of refusal closure split_edges split_at split refined refine_no
 even-accepted = refl
 
-even-ends : All (EvenEnds smooth) (split_edges smooth (started newest.starts (1 ∷ []) (tri 0 1 2 ∷ [])))
+pub even-ends : All (EvenEnds smooth) (split_edges smooth (started newest.starts (1 ∷ []) (tri 0 1 2 ∷ [])))
 unfolding closure split_edges
 even-ends = cons (record { even-dx = refl; even-dy = refl }) nil
-
-pub even-keeps : (P : Place) → asks (cut smooth) P ≡ asks smooth P
-even-keeps = refined-asked newest refl room smooth (1 ∷ []) even-lawful even-proper even-accepted even-ends

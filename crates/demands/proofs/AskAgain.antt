@@ -13,7 +13,8 @@ use Rattle.meaning.specs.Tables.{Given, Outcome, given, mesh_of, room_of}
 use Rattle.meaning.specs.Calls.{sizes_fit, check_out, restore_out, told, asks, Heard, ask_out}
 use Rattle.laws.specs.CallLaw.{Sizes, sizes-exact, sizes-again, Says, of-mesh, ask-leaves}
 use Rattle.demands.specs.Demand2Calls.{check-call}
-use Rattle.demands.specs.Demand3Calls.{Held, scratch-anew, after-restore, Ends, demand3-calls}
+use Rattle.demands.specs.Demand3Calls.{Held, scratch-anew, after-restore, Ends}
+use Rattle.demands.proofs.Demand3.{demand3-calls}
 
 -- A run from the base in g₀: any calls, an accepted restore with the base's node count, then a question about P on what it left, with an n0 that is
 -- not above that count and scratch enough, and what the question was told.

@@ -4,13 +4,12 @@
 -- made with the base's node count, and refused settings, and base rows come back with their corrections." W8: "Demand 3 doesn't hold for a sequence with such a refinement;
 -- the answer says 1 in a new field when it made a red cut, else 0": so a red call that says 0 there may stand in the sequence (`red-0-held`), and one that says 1 may lead away
 -- from the base (RedAway). Assumes nothing.
-use Rattle.std.specs.Prelude.{Bool, true, false, List, ◌≢◌, ◌≡◌, refl, ℕ, zero, suc, ◌+◌, ◌*◌, ◌≤◌, ◌<◌, leb, length, replicate}
+use Rattle.std.specs.Prelude.{true, List, ◌≢◌, ◌≡◌, refl, ℕ, zero, suc, ◌+◌, ◌*◌, ◌≤◌, ◌<◌, leb, length, replicate}
 use Rattle.std.proofs.Common.{sym, subst, subst₂, ap, ◌∙◌, arith}
 use Rattle.lists.specs.Lists.{cases}
 use Rattle.meaning.specs.declared.Correction.{Correction}
 use Rattle.meaning.specs.declared.Quarters.TheVariants.{Bisected, Red}
 use Rattle.meaning.specs.Split.{Way, bisected, newest, in_red}
-use Rattle.meaning.specs.Coarsen.{restored}
 use Rattle.meaning.specs.declared.Place.{Place}
 use Rattle.meaning.specs.Tables.{Given, Outcome, given, mesh_of, room_of, cleared}
 use Rattle.meaning.specs.Calls.{sizes_fit, check_out, refine_out, TintedOut, red_out, coarsen_out, restore_out, set_out, Heard, ask_out}
@@ -18,7 +17,7 @@ use Rattle.laws.specs.Red.{quarters-laws}
 use Rattle.laws.specs.RedTold.{SomeMarked, unmarked-alike, red-outcome, says-1-marked}
 use Rattle.laws.specs.TableMesh.{tables_after}
 use Rattle.laws.specs.CallLaw.{AsGiven, refine-leaves}
-use Rattle.growth.specs.Demand3.{Removals, TablesReached, begin, lent, refined-by, coarsened-by, set-by, restored_by, refused-by, checked-by, a-refine, a-coarsen, a-set, a-restore, still, base_again, Restores, demand3-tables}
+use Rattle.growth.specs.Demand3.{Removals, TablesReached, begin, lent, refined-by, coarsened-by, set-by, restored_by, refused-by, checked-by, a-refine, a-coarsen, a-set, a-restore, still, base_again}
 
 -- A call that was made on the tables g: what it left, o, is what its contract ensures.
 pub data Made (g : Given) (o : Outcome) : Type 0 where
@@ -73,7 +72,7 @@ pub record Ends (g₀ g : Given) : Type 0 where
 
 -- ---- the proof: each call's outcome is the definition's, by its contract
 
-held-reached : (g₀ : Given) {g : Given} → Held g₀ g → TablesReached g₀ g
+pub held-reached : (g₀ : Given) {g : Given} → Held g₀ g → TablesReached g₀ g
 unfolding ask_out
 held-reached g₀ base-held = begin
 held-reached g₀ (scratch-anew h scratch) = lent (held-reached g₀ h) scratch
@@ -114,27 +113,3 @@ red-0-held {g₀} {g} h marks x e r = go o.answer.number refl
         let refused : o.answer.number ≢ 0 = λ y. omega arith in
         let a : AsGiven g o = subst (AsGiven g) (sym by) ((refine-leaves g g₀.n in_red marks).refusal-leaves (λ y. refused (ap (λ (x : Outcome). x.answer.number) by ∙ y))) in
         subst₂ (λ n t. Held g₀ (given o.nodes o.rows o.scratch n t)) (sym a.n-same) (sym a.t_same) (after-refusal h g.scratch g.n g.t o (red-made g₀.n marks x e) refused)
-
--- DEMAND 3 OF THE CALLS: the base check, made on g₀, said 0; then any calls; then what is found.
-pub demand3-calls : (g₀ : Given) (c : Outcome) → c ≡ check_out g₀ → c.answer.number ≡ 0 → {g : Given} → Held g₀ g → Ends g₀ g
-demand3-calls g₀ c ce cz {g} h = record {
-  pass-takes-one = λ more o e f. subst (λ x. (x.answer.number ≡ 0) × (x.answer.n < g.n)) (sym e) (R.pass-takes-one more f);
-  refused-as-1 = λ o e. ap (λ x. x.answer.number) e ∙ R.restore-says;
-  scratch-alone = R.sizes-are;
-  base-again = λ o e z. e ∙ R.back-to-base (fits (sizes_fit g g₀.n) refl o e z);
-  mesh-again = λ o e z. ap (λ x. mesh_of (tables_after x)) e ∙ R.mesh-back (fits (sizes_fit g g₀.n) refl o e z);
-  passes-bounded = λ o e z. subst (λ k. k + g₀.n ≤ g.n) (sym (passes o e z)) R.passes-bounded;
-  passes-true = λ o e z. subst (λ k. Removals g₀.n (mesh_of g) k (mesh_of g₀)) (sym (passes o e z)) R.passes-remove;
-}
-  where
-    R : Restores g₀ g
-    R = demand3-tables g₀ (ap (λ x. x.answer.number) (sym ce) ∙ cz) (held-reached g₀ h)
-
-    fits : (b : Bool) → sizes_fit g g₀.n ≡ b → (o : Outcome) → o ≡ restore_out g g₀.n → o.answer.number ≡ 0 → sizes_fit g g₀.n ≡ true
-    fits true q o e z = q
-    fits false q o e z =
-        let one : ◌≡◌ {A = ℕ} 0 1 = sym z ∙ ap (λ x. x.answer.number) e ∙ R.restore-says ∙ ap (λ b. cases b 0 1) q in
-        absurd (omega arith)
-
-    passes : (o : Outcome) → o ≡ restore_out g g₀.n → o.answer.number ≡ 0 → o.answer.passes ≡ (restored g₀.n (mesh_of g)).passes
-    passes o e z = ap (λ x. x.answer.passes) (e ∙ R.back-to-base (fits (sizes_fit g g₀.n) refl o e z))

@@ -1,8 +1,8 @@
 -- Demands 2 and 3 of the calls at S with corrections: checked, refined from all three edges of a triangle, then by 01, a correction set, then
 -- coarsened, questions and refused calls of each kind among them, with and without a culprit, and other scratch; each run compared with its lists.
--- The premises of `demand3-calls` are met, and it says that restore leaves S with its corrections after 2 passes. So are those of `asked-same`, by
--- two runs. Assumes nothing.
-use Rattle.std.specs.Prelude.{List, [], ◌∷◌, ◌++◌, ◌≡◌, refl, ℕ, suc, ◌<◌, ℤ, pos, negsuc, replicate}
+-- Restore leaves S with its corrections after 2 passes. The premises of `demand3-calls` are met, and those of `asked-same`, by two runs:
+-- proofs/Demand3CallsShown. Assumes nothing.
+use Rattle.std.specs.Prelude.{List, [], ◌∷◌, ◌++◌, ◌≡◌, refl, ℕ, suc, ℤ, pos, negsuc, replicate}
 use Rattle.std.proofs.Common.{arith}
 use Rattle.lists.specs.Search.{lowest, lowest_from, items, items_from}
 use Rattle.meaning.specs.declared.Correction.{Correction}
@@ -20,32 +20,27 @@ use Rattle.meaning.specs.Asking.{weighted, weights, mean_in, row_holding, correc
 use Rattle.meaning.specs.Tables.{Given, Outcome, given, outcome, answer, node_at, row_at, mesh_of}
 use Rattle.meaning.specs.Calls.{culprit_of, check_no, refine_no, coarsen_no, checks, refines, coarsens, restores, sets, sizes_fit, check_out, refine_out, coarsen_out, restore_out, set_out, ask_no, told, asks, Heard, heard, ask_out}
 use Rattle.laws.specs.TableMesh.{tables_after}
-use Rattle.laws.specs.CallLaw.{Sizes}
-use Rattle.proper.specs.Flawless.{Flawless}
 use Rattle.demands.specs.InFour.{InFour}
 use Rattle.demands.specs.AskCall.{AskDone}
 use Rattle.demands.specs.Demand2Calls.{RefineDone, CoarsenDone, SetDone, demand2-calls}
-use Rattle.demands.specs.Demand3Calls.{Held, base-held, scratch-anew, after-refine, after-coarsen, after-set, after-refusal, after-question, check-made, refine-made, coarsen-made, set-made, restore-made, demand3-calls}
-use Rattle.demands.proofs.AskAgain.{AskedAfter, asked-same}
-use Rattle.demands.specs.ProperCalls.{held-grew, grew-flawless}
-use Rattle.demands.specs.PointCalls.{node-tells}
+use Rattle.demands.specs.Demand3Calls.{Held, base-held, scratch-anew, after-refine, after-coarsen, after-set, after-refusal, after-question, check-made, refine-made, coarsen-made, set-made, restore-made}
 
 -- a node at (a, b) that carries (c, d)
-bears : ℕ → ℕ → ℤ → ℤ → List ℤ
+unfoldable pub bears : ℕ → ℕ → ℤ → ℤ → List ℤ
 bears a b c d = pos a ∷ pos b ∷ c ∷ d ∷ []
 
-square : List ℤ
+unfoldable pub square : List ℤ
 square = bears 0 0 (negsuc 2) (pos 7) ++ bears 8 0 (pos 5) (pos 0) ++ bears 8 8 (pos 0) (negsuc 1) ++ bears 0 8 (pos 1) (pos 1)
 
-two : List ℕ
+unfoldable pub two : List ℕ
 two = 1 ∷ 2 ∷ 0 ∷ 3 ∷ 0 ∷ 2 ∷ []
 
 -- S in room for 9 nodes and 10 rows, with numbers past the counts, and scratch full of sevens.
-S : Given
+unfoldable pub S : Given
 S = given (square ++ replicate 20 (pos 5)) (two ++ replicate 24 6) (replicate 76 7) 4 2
 
 -- What a call leaves there that blames nobody: its number, counts and passes; nodes, rows, and how long scratch is.
-leaving : ℕ → ℕ → ℕ → ℕ → List ℤ → List ℕ → ℕ → Outcome
+unfoldable pub leaving : ℕ → ℕ → ℕ → ℕ → List ℤ → List ℕ → ℕ → Outcome
 leaving k n t p ns rs c = outcome (answer k n t p 0) ns rs (replicate c 0)
 
 -- What one leaves that is refused, node or row z being the culprit.
@@ -53,14 +48,14 @@ blaming : ℕ → ℕ → ℕ → ℕ → List ℤ → List ℕ → ℕ → Outc
 blaming k z n t ns rs c = outcome (answer k n t 0 z) ns rs (replicate c 0)
 
 -- What a question leaves there.
-hearing : Told → List ℤ → List ℕ → ℕ → Heard
+unfoldable pub hearing : Told → List ℤ → List ℕ → ℕ → Heard
 hearing a ns rs c = heard a ns rs (replicate c 0)
 
 none : Correction
 none = correction (pos 0) (pos 0)
 
 -- The nodes and rows of S with row 0 cut in four, node 4 carrying (c, d); and of that with row 0 refined by 01.
-nodes_cut : ℤ → ℤ → List ℤ
+unfoldable pub nodes_cut : ℤ → ℤ → List ℤ
 nodes_cut c d = square ++ bears 4 4 c d ++ bears 8 4 (pos 2) (negsuc 0) ++ bears 4 0 (pos 1) (pos 3) ++ replicate 8 (pos 0)
 
 nodes_more : ℤ → ℤ → List ℤ
@@ -76,24 +71,24 @@ more_first = nodes_more (negsuc 1) (pos 2)
 more_set : List ℤ
 more_set = nodes_more (pos 100) (negsuc 99)
 
-cut_set : List ℤ
+unfoldable pub cut_set : List ℤ
 cut_set = nodes_cut (pos 100) (negsuc 99)
 
-to_set : Correction
+unfoldable pub to_set : Correction
 to_set = correction (pos 100) (negsuc 99)
 
-rows_cut : List ℕ
+unfoldable pub rows_cut : List ℕ
 rows_cut = 5 ∷ 4 ∷ 1 ∷ 4 ∷ 3 ∷ 0 ∷ 6 ∷ 4 ∷ 0 ∷ 5 ∷ 2 ∷ 4 ∷ 6 ∷ 1 ∷ 4 ∷ 4 ∷ 2 ∷ 3 ∷ replicate 12 0
 
 rows_more : List ℕ
 rows_more = 7 ∷ 5 ∷ 4 ∷ 4 ∷ 3 ∷ 0 ∷ 6 ∷ 4 ∷ 0 ∷ 5 ∷ 2 ∷ 4 ∷ 7 ∷ 6 ∷ 1 ∷ 4 ∷ 2 ∷ 3 ∷ 7 ∷ 1 ∷ 5 ∷ 7 ∷ 4 ∷ 6 ∷ replicate 6 0
 
 -- The tables at the end, scratch of another length, full of nines.
-S4 : Given
+unfoldable pub S4 : Given
 S4 = given cut_set rows_cut (replicate 80 9) 7 6
 
 -- The base check says 0 of S.
-S-checked : leaving 0 4 2 0 (square ++ replicate 20 (pos 5)) (two ++ replicate 24 6) 76 ≡ check_out S
+pub S-checked : leaving 0 4 2 0 (square ++ replicate 20 (pos 5)) (two ++ replicate 24 6) 76 ≡ check_out S
 unfolding leaving bears square two S lowest lowest_from items items_from node_at row_at mesh_of twice_area first_outside first_misnamed first_repeat first_flat first_unused first_clash fault_of refusal compatible none_left parted_by apart first_crowded first_overlap uncrowded disjoint culprit_of check_no sizes_fit check_out
 S-checked = refl
 
@@ -105,7 +100,7 @@ not-0 k e = omega arith
 -- and with a count too low (4: row 0 names node 7). Then a check with a count too low (4: row 0 names node 7), a refine with a mark table of another length
 -- (2), and one from all three edges for which there is no room (9); node 7 is coarsened; a coarsen with n0 above n (1) and a restore with no
 -- scratch (1); a refine with a count too low (4: row 2 names node 6) and a restore with one too high (7: node 7 is in no row); other scratch.
-history : Held S S4
+pub history : Held S S4
 unfolding leaving blaming hearing none bears square two nodes_cut cut_first cut_set nodes_more more_first more_set to_set rows_cut rows_more S S4 lowest lowest_from items items_from node_at row_at mesh_of twice_area first_outside first_misnamed first_repeat first_flat first_unused first_clash fault_of refusal compatible none_left parted_by apart first_crowded first_overlap uncrowded disjoint closure split_edges split_at split refined pairs span G1-4 good taken without coarsened good_nodes pass restored culprit_of check_no refine_no coarsen_no checks refines coarsens restores sizes_fit check_out refine_out coarsen_out restore_out corrected set_fault sets set_out weighted weights mean_in row_holding correction_at ask_no asks ask_out
 history =
     let a = after-refine base-held all_three refl (1 ∷ 0 ∷ []) (leaving 0 7 6 0 cut_first rows_cut 76) refl refl in
@@ -165,91 +160,21 @@ node-named : Names (mesh_of many) 7 7
 unfolding blaming bears square nodes_cut cut_first cut_set rows_cut many lowest lowest_from items items_from node_at row_at mesh_of twice_area first_outside first_misnamed first_repeat first_flat first_unused fault_of refusal culprit_of restores sizes_fit restore_out
 node-named = (demand2-calls.of-restore many 4 (blaming 7 7 9 6 cut_set rows_cut 76) refl).answered.names
 
--- A full pass that is made removes a node,
-passed : (o : Outcome) → o ≡ coarsen_out S4 4 (replicate 7 1) → o.answer.n < 7
-unfolding leaving bears square two nodes_cut cut_first cut_set rows_cut S S4 sizes_fit
-passed o e = ((demand3-calls S _ S-checked refl history).pass-takes-one (omega arith) o e refl).1
-
--- and restore, which says 0 after 2 passes, has left S, zeros past it.
+-- Restore, which says 0 after 2 passes, has left S, zeros past it.
 restored-S : leaving 0 4 2 2 (square ++ replicate 20 (pos 0)) (two ++ replicate 24 0) 80 ≡ restore_out S4 4
 unfolding leaving bears square two nodes_cut cut_first cut_set rows_cut S4 lowest lowest_from items items_from node_at row_at mesh_of twice_area first_outside first_misnamed first_repeat first_flat first_unused first_clash fault_of refusal pairs span G1-4 good taken without coarsened good_nodes pass restored restores sizes_fit restore_out
 restored-S = refl
 
-again : (o : Outcome) → o ≡ restore_out S4 4 → o.answer.number ≡ 0 → o ≡ leaving 0 4 2 2 (square ++ replicate 20 (pos 0)) (two ++ replicate 24 0) 80
-unfolding leaving bears square two nodes_cut cut_first cut_set rows_cut S S4 lowest lowest_from items items_from node_at row_at mesh_of twice_area pairs span G1-4 good taken without coarsened good_nodes pass restored
-again o e z = (demand3-calls S _ S-checked refl history).base-again o e z
-
 -- ---- W6: two runs from S, and one question after each
 
-P : Place
+unfoldable pub P : Place
 P = place (pos 6) (pos 2)
 
 -- weights 32, 16, 16 of what nodes 1, 2 and 0 carry: 112/64 and 80/64
-of_base : Told
+unfoldable pub of_base : Told
 of_base = told 0 0 (correction (pos 1) (pos 1))
 
 -- Demand 2, of the question about S itself: the mean by row 0, rounded down, and all else that is said of it.
 told-of-base : AskDone (mesh_of S) P (correction (pos 1) (pos 1))
 unfolding P of_base hearing bears square two S lowest lowest_from items items_from node_at row_at mesh_of twice_area first_outside first_misnamed first_repeat first_flat first_unused fault_of refusal sizes_fit weighted weights mean_in row_holding correction_at ask_no asks ask_out
 told-of-base = (demand2-calls.of-question S 4 P (hearing of_base (square ++ replicate 20 (pos 5)) (two ++ replicate 24 6) 76) refl).tells-mean refl
-
--- The calls of `history`, a restore, the question.
-asked-first : AskedAfter S P of_base
-unfolding P of_base leaving hearing bears square two nodes_cut cut_first cut_set rows_cut S S4 lowest lowest_from items items_from node_at row_at mesh_of twice_area first_outside first_misnamed first_repeat first_flat first_unused first_clash fault_of refusal pairs span G1-4 good taken without coarsened good_nodes pass restored restores sizes_fit restore_out weighted weights mean_in row_holding correction_at ask_no asks ask_out
-asked-first = record {
-  left = S4;
-  calls = history;
-  restored = leaving 0 4 2 2 (square ++ replicate 20 (pos 0)) (two ++ replicate 24 0) 80;
-  by-restore = refl;
-  accepted = refl;
-  scratch = replicate 76 3;
-  scratch-enough = omega arith;
-  n0 = 4;
-  n0-within = omega arith;
-  question = hearing of_base (square ++ replicate 20 (pos 0)) (two ++ replicate 24 0) 76;
-  by-question = refl;
-  was-told = refl;
-}
-
--- Row 0 refined by 01, node 4 set to (−9, 9), a restore, the question.
-nodes_once : ℤ → ℤ → List ℤ
-nodes_once c d = square ++ bears 4 4 c d ++ replicate 16 (pos 0)
-
-rows_once : List ℕ
-rows_once = 4 ∷ 1 ∷ 2 ∷ 4 ∷ 3 ∷ 0 ∷ 4 ∷ 0 ∷ 1 ∷ 4 ∷ 2 ∷ 3 ∷ replicate 18 0
-
-asked-second : AskedAfter S P of_base
-unfolding P of_base leaving hearing bears square two nodes_once rows_once S lowest lowest_from items items_from node_at row_at mesh_of twice_area first_outside first_misnamed first_repeat first_flat first_unused first_clash fault_of refusal compatible closure split_edges split_at split refined pairs span G1-4 good taken without coarsened good_nodes pass restored culprit_of refine_no refines restores sizes_fit refine_out restore_out corrected set_fault sets set_out weighted weights mean_in row_holding correction_at ask_no asks ask_out
-asked-second = record {
-  left = given (nodes_once (negsuc 8) (pos 9)) rows_once (replicate 76 0) 5 4;
-  calls =
-      (let a = after-refine base-held newest refl (1 ∷ 0 ∷ []) (leaving 0 5 4 0 (nodes_once (negsuc 1) (pos 2)) rows_once 76) refl refl in
-      after-set a 4 (correction (negsuc 8) (pos 9)) (leaving 0 5 4 0 (nodes_once (negsuc 8) (pos 9)) rows_once 76) refl refl);
-  restored = leaving 0 4 2 1 (square ++ replicate 20 (pos 0)) (two ++ replicate 24 0) 76;
-  by-restore = refl;
-  accepted = refl;
-  scratch = replicate 80 0;
-  scratch-enough = omega arith;
-  n0 = 0;
-  n0-within = omega arith;
-  question = hearing of_base (square ++ replicate 20 (pos 0)) (two ++ replicate 24 0) 80;
-  by-question = refl;
-  was-told = refl;
-}
-
--- Whatever run it is, it is told this.
-asked-alike : (r : Told) → AskedAfter S P r → r ≡ of_base
-unfolding leaving
-asked-alike r a = asked-same S _ S-checked refl a asked-second
-
--- ---- W7: what grew from S
-
--- The tables that the calls of `history` left hold a lawful, proper mesh.
-S4-flawless : Flawless (mesh_of S4)
-unfolding leaving
-S4-flawless = grew-flawless S _ S-checked refl (held-grew history)
-
--- A question about the place of node 4 is told what the node carries, as any row that holds it would have it.
-node-4 : (o : Heard) → o ≡ ask_out S4 4 (place (pos 4) (pos 4)) → Sizes S4 4 → o.told ≡ told 0 0 to_set
-unfolding bears square nodes_cut cut_set to_set leaving S4 items items_from node_at mesh_of
-node-4 o e s = node-tells S _ S-checked refl (held-grew history) 4 (place (pos 4) (pos 4)) o e s 4 (omega arith) refl

@@ -15,31 +15,30 @@ use Rattle.meaning.specs.Calls.{culprit_of, check_no, refine_no, refines, restor
 use Rattle.laws.specs.TableMesh.{nodes-count, tables_after}
 use Rattle.proper.specs.Flawless.{Flawless}
 use Rattle.demands.specs.Demand2Calls.{CutRed, demand2-calls}
-use Rattle.demands.specs.Demand3Calls.{Held, base-held, scratch-anew, after-refusal, red-made, red-0-held, demand3-calls}
 use Rattle.demands.specs.ProperCalls.{the-base, accepted, red-works, grew-flawless}
 
 -- a node at (a, b) that carries no correction
-stands : ℕ → ℕ → List ℤ
+unfoldable pub stands : ℕ → ℕ → List ℤ
 stands a b = pos a ∷ pos b ∷ pos 0 ∷ pos 0 ∷ []
 
-corners : List ℤ
+unfoldable pub corners : List ℤ
 corners = stands 0 0 ++ stands 8 0 ++ stands 0 8
 
 -- One triangle, in room for 6 nodes and 4 rows, and what a call leaves there: its counts, nodes and rows.
-T : Given
+unfoldable pub T : Given
 T = given (corners ++ replicate 12 (pos 0)) (0 ∷ 1 ∷ 2 ∷ replicate 9 0) (replicate 40 7) 3 1
 
-leaving : ℕ → ℕ → List ℤ → List ℕ → Outcome
+unfoldable pub leaving : ℕ → ℕ → List ℤ → List ℕ → Outcome
 leaving n t ns rs = outcome (answer 0 n t 0 0) ns rs (replicate 40 0)
 
-whole : Outcome
+unfoldable pub whole : Outcome
 whole = leaving 3 1 (corners ++ replicate 12 (pos 0)) (0 ∷ 1 ∷ 2 ∷ replicate 9 0)
 
-in_four : Outcome
+unfoldable pub in_four : Outcome
 in_four = leaving 6 4 (corners ++ stands 4 4 ++ stands 4 0 ++ stands 0 4) (0 ∷ 4 ∷ 5 ∷ 4 ∷ 1 ∷ 3 ∷ 5 ∷ 3 ∷ 2 ∷ 3 ∷ 5 ∷ 4 ∷ [])
 
 -- The base check says 0.
-T-checked : whole ≡ check_out T
+pub T-checked : whole ≡ check_out T
 unfolding stands corners T leaving whole lowest lowest_from items items_from node_at row_at mesh_of twice_area first_outside first_misnamed first_repeat first_flat first_unused first_clash fault_of refusal compatible none_left parted_by apart first_crowded first_overlap uncrowded disjoint culprit_of check_no sizes_fit check_out
 T-checked = refl
 
@@ -56,21 +55,16 @@ unfolding T leaving in_four items items_from node_at row_at mesh_of
 T-cut-red = let r = demand2-calls.of-red T 3 (1 ∷ []) (tinted in_four 1) T-red in r.cuts-red refl 0 (omega arith) (r.marked-wholly 0 (omega arith) refl)
 
 -- Restore says 0 after no pass, and leaves what the red refine left: six nodes.
-T-stays : in_four ≡ restore_out (tables_after in_four) 3
+pub T-stays : in_four ≡ restore_out (tables_after in_four) 3
 unfolding stands corners leaving whole in_four lowest lowest_from items items_from node_at row_at mesh_of twice_area first_outside first_misnamed first_repeat first_flat first_unused fault_of refusal pairs span G1-4 good taken without coarsened good_nodes pass restored restores culprit_of sizes_fit restore_out
 T-stays = refl
 
 -- SO IT IS NOT THE BASE,
-T-away : ¬ (mesh_of (tables_after in_four) ≡ mesh_of T)
+pub T-away : ¬ (mesh_of (tables_after in_four) ≡ mesh_of T)
 unfolding T leaving in_four
 T-away e =
     let six : ◌≡◌ {A = ℕ} 6 3 = sym (nodes-count (tables_after in_four)) ∙ ap (λ (m : Mesh). length m.nodes) e ∙ nodes-count T in
     omega arith
-
--- AND NO LAW COULD MAKE A SEQUENCE OF DEMAND 3 OF IT.
-T-not-held : ¬ Held T (tables_after in_four)
-unfolding T leaving whole in_four
-T-not-held h = T-away ((demand3-calls T whole T-checked refl h).mesh-again in_four T-stays refl)
 
 -- W7 of it, all the same: it grew from a base that the check admits, and is lawful and proper.
 T-flawless : Flawless (mesh_of (tables_after in_four))
@@ -80,23 +74,11 @@ T-flawless = grew-flawless T whole T-checked refl (accepted the-base in_four (re
 -- ---- and not
 
 -- Nothing is marked: 0 in the new field.
-T-unmarked : tinted whole 0 ≡ red_out T 3 (0 ∷ [])
+pub T-unmarked : tinted whole 0 ≡ red_out T 3 (0 ∷ [])
 unfolding stands corners T leaving whole lowest lowest_from items items_from node_at row_at mesh_of twice_area first_outside first_misnamed first_repeat first_flat first_unused fault_of refusal closure split_edges split_at split refined culprit_of refine_no refines sizes_fit refine_out refine_by_out
 T-unmarked = refl
 
 -- The triangle is marked, but there is no scratch: refused as 1, and 0 in the new field.
-T-refused : tinted (outcome (answer 1 3 1 0 0) (corners ++ replicate 12 (pos 0)) (0 ∷ 1 ∷ 2 ∷ replicate 9 0) []) 0 ≡ red_out (given (corners ++ replicate 12 (pos 0)) (0 ∷ 1 ∷ 2 ∷ replicate 9 0) [] 3 1) 3 (1 ∷ [])
+pub T-refused : tinted (outcome (answer 1 3 1 0 0) (corners ++ replicate 12 (pos 0)) (0 ∷ 1 ∷ 2 ∷ replicate 9 0) []) 0 ≡ red_out (given (corners ++ replicate 12 (pos 0)) (0 ∷ 1 ∷ 2 ∷ replicate 9 0) [] 3 1) 3 (1 ∷ [])
 unfolding stands corners mesh_of items items_from node_at row_at closure split_edges sizes_fit refine_out refine_by_out
 T-refused = refl
-
--- Both are among the sequences of demand 3,
-T-held : Held T (tables_after whole)
-unfolding T leaving whole
-T-held =
-    let a = after-refusal base-held [] 3 1 _ (red-made 3 (1 ∷ []) _ T-refused) (λ z. omega arith) in
-    red-0-held (scratch-anew a (replicate 40 7)) (0 ∷ []) (tinted whole 0) T-unmarked refl
-
--- so that a restore which says 0 ends with the base.
-T-again : (o : Outcome) → o ≡ restore_out (tables_after whole) 3 → o.answer.number ≡ 0 → mesh_of (tables_after o) ≡ mesh_of T
-unfolding T leaving whole
-T-again = (demand3-calls T whole T-checked refl T-held).mesh-again

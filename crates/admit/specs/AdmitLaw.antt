@@ -1,107 +1,34 @@
 -- Which lines are taken, in the form in which the code asks. Assumes nothing.
-use Rattle.std.specs.Prelude.{◌≡◌, Bool, true, false, not, ◌&&◌, List, ℕ, ◌+◌, ◌-◌, ◌/◌, ◌%◌, ◌≤◌, ◌<◌, eqb, leb, ltb, length, take, drop}
-use Rattle.std.proofs.Common.{sym, ◌∙◌, arith, length-drop, take_all}
-use borrow.Author.Tests.{eqb-true, ltb-true, leb-true, ne_eqb, not-true, not-false}
+use Rattle.std.specs.Prelude.{◌≡◌, Bool, true, false, not, ◌&&◌, List, Option, None, ℕ, zero, suc, ◌+◌, ◌-◌, ◌/◌, ◌≤◌, ◌<◌, eqb, leb, ltb, length, take, drop}
+use Rattle.std.specs.Bool.{then_some}
+use Rattle.std.specs.List.{list_all, range_with_len}
+use Rattle.std.proofs.Common.{refl, ap, sym, arith, length-drop, take_all}
+use borrow.Author.Tests.{eqb-true, ltb-true, leb-true, ne_eqb}
 use Rattle.lists.specs.Lists.{all}
 use Rattle.lists.specs.ListsLaw.{and_left, and_right}
-use Rattle.lists.specs.Search.{items}
-use Rattle.lists.specs.AllLaw.{items-on, items-off, items-end}
+use Rattle.lists.specs.Search.{items, items_from}
 use Rattle.text.specs.Digits.{is_digit, number, field, listed}
-use Rattle.meaning.specs.declared.Manner.{Manner}
-use Rattle.meaning.specs.declared.Manner.TheVariants.{Newest, AllThree}
-use Rattle.meaning.specs.declared.Quarters.{Quarters}
-use Rattle.meaning.specs.declared.Quarters.TheVariants.{Bisected, Red}
-use Rattle.protocol.specs.declared.Refines.{Refines}
-use Rattle.protocol.specs.declared.Refines.TheVariants.{In, Never}
+use Rattle.protocol.specs.declared.Kind.{Kind}
+use Rattle.protocol.specs.declared.Kind.TheVariants.{Node, Row, Base, Refine, Coarsen, Restore, List as Show, Set, Quarter, Red}
 use Rattle.protocol.specs.declared.Session.{Session}
-use Rattle.protocol.specs.Frames.{refines_in, is_refining, well_formed, all_below, lists_below, admits, takes}
-
--- ---- the kinds that refine
-
-module _ (kind : ℕ) where
-  pub refines-newest : kind ≡ 4 → In Newest Bisected ≡ refines_in kind
-  unfolding refines_in
-  refines-newest e = rw e
-
-  pub refines-all-three : kind ≡ 9 → In AllThree Bisected ≡ refines_in kind
-  unfolding refines_in
-  refines-all-three e = rw e
-
-  pub refines-red : kind ≡ 10 → In AllThree Red ≡ refines_in kind
-  unfolding refines_in
-  refines-red e = rw e
-
-  pub refines-never : (kind ≡ 4 → ⊥) → (kind ≡ 9 → ⊥) → (kind ≡ 10 → ⊥) → Never ≡ refines_in kind
-  unfolding refines_in
-  refines-never a b c = rw (ne_eqb kind 4 a, ne_eqb kind 9 b, ne_eqb kind 10 c)
-
-  module _ (r : Refines) (e : r ≡ refines_in kind) where
-    pub refines-yes : (k : Manner) (q : Quarters) → r ≡ In k q → true ≡ is_refining kind
-    refines-yes k q g = rw (← e, g)
-
-    pub refines-no : r ≡ Never → false ≡ is_refining kind
-    refines-no g = rw (← e, g)
-
-  -- what the code found
-  pub refines-told : (b y : Bool) → b ≡ is_refining kind → b ≡ y → is_refining kind ≡ y
-  refines-told b y e g = sym e ∙ g
+use Rattle.protocol.specs.Kinds.{code}
+use Rattle.admit.specs.Admitted.{Admitted}
+use Rattle.protocol.specs.Frames.{refines_in, well_formed, all_below, admits, takes}
 
 -- ---- what is listed
 
-pub below-tested : (f : List ℕ) (i end k : ℕ) → k ≡ field 4 f i → ltb k end ≡ ltb (field 4 f i) end
-below-tested f i end k e = rw e
+all-from : (f : List ℕ) (end a n : ℕ) → list_all (λ i. ltb (field 4 f i) end) (range_with_len a n) ≡ all_below end (items_from (field 4 f) a n)
+unfolding items_from
+all-from f end a zero = refl
+all-from f end a (suc n) = ap (λ b. ltb (field 4 f a) end && b) (all-from f end (a + 1) n)
 
--- a loop over the numbers listed: b is what the test said of number i, w the whole answer
-module _ (f : List ℕ) (end i : ℕ) (b w : Bool) where
-  pub listed-on : i < length f / 4 → b ≡ ltb (field 4 f i) end → b ≡ true → all_below end (items (field 4 f) i (length f / 4)) ≡ w → all_below end (items (field 4 f) (i + 1) (length f / 4)) ≡ w
-  listed-on h e t inv = items-on (λ k. ltb k end) (field 4 f) i (length f / 4) b w h e t inv
-
-  pub listed-off : i < length f / 4 → b ≡ ltb (field 4 f i) end → b ≡ false → all_below end (items (field 4 f) i (length f / 4)) ≡ w → false ≡ w
-  listed-off h e t inv = items-off (λ k. ltb k end) (field 4 f) i (length f / 4) b w h e t inv
-
-pub listed-end : (f : List ℕ) (end i : ℕ) (w : Bool) → length f / 4 ≤ i → all_below end (items (field 4 f) i (length f / 4)) ≡ w → true ≡ w
-listed-end f end i w h inv = items-end (λ k. ltb k end) (field 4 f) i (length f / 4) w h inv
-
-pub lists-is : (f : List ℕ) (end : ℕ) (b : Bool) → b ≡ all_below end (listed f) → eqb (length f % 4) 0 && b ≡ lists_below end f
-unfolding lists_below
-lists-is f end b e = rw e
+pub all-listed : (f : List ℕ) (end : ℕ) → list_all (λ i. ltb (field 4 f i) end) (range_with_len 0 (length f / 4)) ≡ all_below end (listed f)
+unfolding listed items
+all-listed f end = let e : length f / 4 - 0 ≡ length f / 4 = omega arith in rw e (all-from f end 0 (length f / 4))
 
 -- ---- a frame
 
 module _ (s : Session) (kind : ℕ) (f : List ℕ) where
-  pub admit-node : kind ≡ 1 → not s.accepted && eqb (length f) 24 && ltb s.n 512 ≡ admits s kind f
-  unfolding admits
-  admit-node e = rw e
-
-  pub admit-row : kind ≡ 2 → not s.accepted && eqb (length f) 12 && ltb s.t 1024 ≡ admits s kind f
-  unfolding admits
-  admit-row e = rw e
-
-  pub admit-check : kind ≡ 3 → not s.accepted && eqb (length f) 0 ≡ admits s kind f
-  unfolding admits
-  admit-check e = rw e
-
-  pub admit-coarsen : (b : Bool) → kind ≡ 5 → b ≡ lists_below s.n f → s.accepted && b ≡ admits s kind f
-  unfolding admits refines_in
-  admit-coarsen b e q = rw (e, q)
-
-  pub admit-restore : kind ≡ 6 → s.accepted && eqb (length f) 0 ≡ admits s kind f
-  unfolding admits refines_in
-  admit-restore e = rw e
-
-  pub admit-set : kind ≡ 8 → s.accepted && eqb (length f) 12 ≡ admits s kind f
-  unfolding admits refines_in
-  admit-set e = rw e
-
-  module _ (x : kind ≡ 1 → ⊥) (y : kind ≡ 2 → ⊥) (z : kind ≡ 3 → ⊥) where
-    pub admit-refine : (b : Bool) → is_refining kind ≡ true → b ≡ lists_below s.t f → s.accepted && b ≡ admits s kind f
-    unfolding admits
-    admit-refine b e q = rw (ne_eqb kind 1 x, ne_eqb kind 2 y, ne_eqb kind 3 z, e, q)
-
-    pub admit-show : is_refining kind ≡ false → (kind ≡ 5 → ⊥) → (kind ≡ 6 → ⊥) → (kind ≡ 8 → ⊥) → eqb kind 7 && eqb (length f) 0 ≡ admits s kind f
-    unfolding admits
-    admit-show e c d g = rw (ne_eqb kind 1 x, ne_eqb kind 2 y, ne_eqb kind 3 z, e, ne_eqb kind 5 c, ne_eqb kind 6 d, ne_eqb kind 8 g)
-
   -- what an admitted 01, 02 or 08 relies on
   module _ (y : admits s kind f ≡ true) where
     fit : (k n most : ℕ) → not s.accepted && eqb (length f) k && ltb n most ≡ true → (length f ≡ k) × (n < most)
@@ -132,9 +59,11 @@ module _ (s : Session) (kind : ℕ) (f : List ℕ) where
 
 -- ---- a line
 
-pub formed-made : (l : List ℕ) (b : Bool) → b ≡ all is_digit l → leb 2 (length l) && leb (length l) 254 && b ≡ well_formed l
-unfolding well_formed
-formed-made l b e = rw e
+pub no-frame : (s : Session) (n : ℕ) (f : List ℕ) → ((kind : Kind) → code kind ≡ n → ⊥) → admits s n f ≡ false
+unfolding admits refines_in
+no-frame s n f none =
+    let ne : (kind : Kind) → n ≡ code kind → ⊥ = λ kind e. none kind (sym e) in
+    rw (ne_eqb n 1 (ne Node), ne_eqb n 2 (ne Row), ne_eqb n 3 (ne Base), ne_eqb n 4 (ne Refine), ne_eqb n 9 (ne Quarter), ne_eqb n 10 (ne Red), ne_eqb n 5 (ne Coarsen), ne_eqb n 6 (ne Restore), ne_eqb n 8 (ne Set), ne_eqb n 7 (ne Show))
 
 pub formed-two : (l : List ℕ) → well_formed l ≡ true → 2 ≤ length l
 unfolding well_formed
@@ -147,23 +76,31 @@ pub rest-is : (l : List ℕ) → take (length l - 2) (drop 2 l) ≡ drop 2 l
 rest-is l = take_all (length l - 2) (drop 2 l) (rw (length-drop 2 l) (omega arith))
 
 module _ (s : Session) (l : List ℕ) where
-  module _ (w : Bool) (p : w ≡ well_formed l) where
-    pub takes-not : not w ≡ true → false ≡ takes s l
+  pub unformed : well_formed l ≡ false → Admitted s l None
+  unfolding takes
+  unformed e = rw e
+
+  module _ (formed : well_formed l ≡ true) where
+    pub uncoded : ((kind : Kind) → code kind ≡ number 2 l 0 → ⊥) → Admitted s l None
     unfolding takes
-    takes-not m = rw (← p, not-true w m)
+    uncoded none = rw formed (no-frame s (number 2 l 0) (drop 2 l) none)
 
-    pub takes_two : not w ≡ false → 2 ≤ length l
-    takes_two m = formed-two l (sym p ∙ not-false w m)
-
-    pub takes-is : (kind : ℕ) (b : Bool) → not w ≡ false → kind ≡ number 2 l 0 → b ≡ admits s kind (take (length l - 2) (drop 2 l)) → b ≡ takes s l
+    -- b is what the code says of the frame
+    coded : (kind : Kind) (b : Bool) → code kind ≡ number 2 l 0 → b ≡ admits s (code kind) (drop 2 l) → Admitted s l (then_some b kind)
     unfolding takes
-    takes-is kind b m e q = rw (← p, not-false w m, ← e) (rw (rest-is l) at q)
+    coded kind true e q = (rw (formed, ← e) (sym q), e)
+    coded kind false e q = rw (formed, ← e) (sym q)
 
-  module _ (b : Bool) (q : b ≡ takes s l) (n : not b ≡ false) where
+    pub told : (kind : Kind) (b : Bool) (r : Option Kind) → code kind ≡ number 2 l 0 → b ≡ admits s (code kind) (take (length l - 2) (drop 2 l)) →
+        r ≡ (then_some b kind) → Admitted s l r
+    told kind b r e q g = rw g (coded kind b e (rw (rest-is l) at q))
+
+  -- what a frame that is taken relies on
+  module _ (y : takes s l ≡ true) where
     pub taken-two : 2 ≤ length l
     unfolding takes
-    taken-two = formed-two l (and_left (well_formed l) (admits s (number 2 l 0) (drop 2 l)) (sym q ∙ not-false b n))
+    taken-two = formed-two l (and_left (well_formed l) (admits s (number 2 l 0) (drop 2 l)) y)
 
-    pub taken-admits : (kind : ℕ) → kind ≡ number 2 l 0 → admits s kind (take (length l - 2) (drop 2 l)) ≡ true
+    pub taken-admits : (kind : Kind) → code kind ≡ number 2 l 0 → admits s (code kind) (take (length l - 2) (drop 2 l)) ≡ true
     unfolding takes
-    taken-admits kind e = rw (rest-is l, e) (and_right (well_formed l) (admits s (number 2 l 0) (drop 2 l)) (sym q ∙ not-false b n))
+    taken-admits kind e = rw (rest-is l, e) (and_right (well_formed l) (admits s (number 2 l 0) (drop 2 l)) y)

@@ -1,3 +1,4 @@
 pub mod Asking
 pub mod AskingLaw
 pub mod WorkLaw
+pub mod Steps

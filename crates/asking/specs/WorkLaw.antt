@@ -1,17 +1,15 @@
 -- A question about a point as a whole: what is judged first, the row, its mean. By the tables it is what `ask_out` tells of the mesh. Assumes nothing.
-use Rattle.std.specs.Prelude.{◌≡◌, refl, Bool, true, false, List, [], ℕ, zero, suc, ◌+◌, ◌*◌, ◌≤◌, ◌<◌, ℤ, pos, nat_abs, ◌-ℤ◌, ◌*ℤ◌, ◌≤ℤ◌, ◌<ℤ◌, length, replicate}
+use Rattle.std.specs.Prelude.{◌≡◌, refl, Bool, true, false, List, [], ℕ, zero, suc, ◌+◌, ◌*◌, ◌≤◌, ◌<◌, ℤ, pos, nat_abs, ◌-ℤ◌, ◌*ℤ◌, ◌≤ℤ◌, ◌<ℤ◌, length, replicate, Option, Some, None, is_some, Ok, Err}
 use Rattle.std.proofs.Math.Path.{sym, ap₂}
 use Rattle.std.proofs.Common.{ap, ◌∙◌, arith}
 use Rattle.whole.specs.Bound.{absℤ, abs-sub, abs-mul}
 use Rattle.whole.specs.Diff.{onℤ}
-use Rattle.lists.specs.declared.Found.{Found}
-use Rattle.lists.specs.declared.Found.TheVariants.{At, Nothing}
-use Rattle.lists.specs.Lists.{cases, is_found}
+use Rattle.lists.specs.Lists.{cases}
 use Rattle.lists.specs.Search.{lowest}
 use Rattle.lists.specs.SearchLaw.{lowest-where, lowest-below, lowest-true}
 use Rattle.lists.specs.IterLaw.{get_or-items}
 use Rattle.meaning.specs.declared.Correction.{Correction}
-use Rattle.meaning.specs.declared.Fault.{Fault}
+use Rattle.meaning.specs.Fault.{Fault}
 use Rattle.meaning.specs.declared.Node.{Node}
 use Rattle.meaning.specs.declared.Place.{Place}
 use Rattle.meaning.specs.declared.Told.{Told}
@@ -24,16 +22,19 @@ use Rattle.meaning.specs.Calls.{culprit_of, unless, ask_no, told, asks, sizes_fi
 use Rattle.laws.specs.Asking.{holds_exact}
 use Rattle.laws.specs.Meshes.{Standing, mesh_at, mesh-is, node-is, place_is, row_named, row-stands, row-above}
 use Rattle.laws.specs.Weights.{weights-sum}
+use Rattle.refusals.specs.declared.Refusal.{Refusal}
+use Rattle.refusals.specs.declared.Refusal.TheVariants.{Nowhere}
+use Rattle.refusals.specs.Refusals.{fault_in}
 use Rattle.judging.specs.Judge.{early, Admitted}
-use Rattle.judging.specs.Leaving.{or_late, first_of, verdict, fits-same, cleared-length}
+use Rattle.judging.specs.Leaving.{or_late, first_of, numbered, verdict, fits-same, cleared-length}
 use Rattle.weighing.specs.Weighing.{sum_of, mean_of, Balanced}
-use Rattle.asking.specs.Asking.{side_of, weights_in, holds_in, holds_at, correction_of, refused_by}
+use Rattle.asking.specs.Asking.{side_of, weights_in, holds_in, holds_at, correction_of, refused_by, told_in}
 
 -- ---- what is told, by what stands in the way
 
 -- 14, where no row holds the point
 abbrev late_of : Mesh → Place → ℕ
-late_of m P = unless (is_found (row_holding m P)) 14 0
+late_of m P = unless (is_some (row_holding m P)) 14 0
 
 abbrev told_for : Correction → Fault → Told
 told_for v f = told f.number f.at v
@@ -135,14 +136,14 @@ module _ (nodes : List ℤ) (rows s : List ℕ) (n t : ℕ) (A : Admitted nodes 
   pub rows-stand : (3 * t ≤ length rows) × ((i : ℕ) → i < t → Standing nodes (row_at rows i))
   rows-stand = (A.rows_fit, row-stands nodes rows n t law A.nodes-fit)
 
-  module _ (P : Place) (h : Found) (q : h ≡ lowest (holds_at nodes rows P) 0 t) where
+  module _ (P : Place) (h : Option ℕ) (q : h ≡ lowest (holds_at nodes rows P) 0 t) where
     row_is : row_holding (mesh_at nodes rows n t) P ≡ h
     unfolding row_holding holds_at mesh_at
     row_is = sym (q ∙ lowest-where (holds_point (mesh_at nodes rows n t) P) (row_at rows) (holds_at nodes rows P) t (λ i l. sym (holds-is nodes rows n t P (row_at rows i) (named-at i l))))
 
     -- row i was found
-    module _ (i : ℕ) (d : h ≡ At i) where
-      found_below : i < t
+    module _ (i : ℕ) (d : h ≡ Some i) where
+      pub found_below : i < t
       found_below = lowest-below (holds_at nodes rows P) t i (sym q ∙ d)
 
       pub found_inside : 3 * i + 3 ≤ length rows
@@ -160,27 +161,28 @@ module _ (nodes : List ℤ) (rows s : List ℕ) (n t : ℕ) (A : Admitted nodes 
         unfolding mesh_at
         found-correction = rw (k, d, get_or-items (row_at rows) t i (tri 0 0 0) found_below) (sym (correction-is nodes rows n t P (row_at rows i) (named-at i found_below)))
 
--- ---- what is told; f is what was judged first
+-- ---- what is told
 
-module _ (nodes : List ℤ) (rows s : List ℕ) (n0 n t : ℕ) (P : Place) (f : Fault) (e : f ≡ early (given nodes rows s n t) n0 0 []) where
-  pub ask-refused : (r : Told) → (f.number ≡ 0 → ⊥) → r ≡ refused_by f → r ≡ (ask_out (given nodes rows s n t) n0 P).told
-  ask-refused r o h =
+module _ (nodes : List ℤ) (rows s : List ℕ) (n0 n t : ℕ) (P : Place) where
+  pub ask-refused : (r : Refusal) → fault_in r ≡ early (given nodes rows s n t) n0 0 [] → told_in (Err r) ≡ (ask_out (given nodes rows s n t) n0 P).told
+  ask-refused r e =
       let g = given nodes rows s n t in
-      let v : f ≡ or_late (early g n0 0 []) (late_of (mesh_of g) P) = first_of f _ o ∙ ap (λ (x : Fault). or_late x (late_of (mesh_of g) P)) e in
-      h ∙ refused-told f (correction_at (mesh_of g) P) o ∙ ap (told_for (correction_at (mesh_of g) P)) v ∙ sym (told_is g n0 P)
+      let v : fault_in r ≡ or_late (early g n0 0 []) (late_of (mesh_of g) P) = first_of (fault_in r) _ (numbered r) ∙ ap (λ (x : Fault). or_late x (late_of (mesh_of g) P)) e in
+      refused-told (fault_in r) (correction_at (mesh_of g) P) (numbered r) ∙ ap (told_for (correction_at (mesh_of g) P)) v ∙ sym (told_is g n0 P)
 
   -- nothing stood in the way; s₁ is scratch then, and h what the search gave
-  module _ (y : f.number ≡ 0) (s₁ : List ℕ) (A : Admitted nodes rows s₁ [] 0 n t) (h : Found) (q : h ≡ lowest (holds_at nodes rows P) 0 t) where
-    told-late : (ask_out (given nodes rows s n t) n0 P).told ≡ told_for (correction_by (mesh_at nodes rows n t) P h) (fault (unless (is_found h) 14 0) 0)
+  module _ (e : fault 0 0 ≡ early (given nodes rows s n t) n0 0 []) (s₁ : List ℕ) (A : Admitted nodes rows s₁ [] 0 n t) (h : Option ℕ)
+      (q : h ≡ lowest (holds_at nodes rows P) 0 t) where
+    told-late : (ask_out (given nodes rows s n t) n0 P).told ≡ told_for (correction_by (mesh_at nodes rows n t) P h) (fault (unless (is_some h) 14 0) 0)
     unfolding correction_at
     told-late =
-        let z : or_late (early (given nodes rows s n t) n0 0 []) (unless (is_found h) 14 0) ≡ fault (unless (is_found h) 14 0) 0 = rw (← e, y) in
+        let z : or_late (early (given nodes rows s n t) n0 0 []) (unless (is_some h) 14 0) ≡ fault (unless (is_some h) 14 0) 0 = rw (← e) in
         told_is (given nodes rows s n t) n0 P ∙ rw (mesh-is nodes rows n t s, row_is nodes rows s₁ n t A P h q, z)
 
-    pub ask-none : (r : Told) → h ≡ Nothing → r ≡ refused_by (fault 14 0) → r ≡ (ask_out (given nodes rows s n t) n0 P).told
-    ask-none r d k = k ∙ sym (told-late ∙ rw d)
+    pub ask-none : h ≡ None → told_in (Err Nowhere) ≡ (ask_out (given nodes rows s n t) n0 P).told
+    ask-none d = sym (told-late ∙ rw d)
 
-    pub ask-found : (i : ℕ) → h ≡ At i → (w : Tri) → w ≡ row_at rows i → (c : Correction) → c ≡ correction_of nodes w P → told 0 0 c ≡ (ask_out (given nodes rows s n t) n0 P).told
+    pub ask-found : (i : ℕ) → h ≡ Some i → (w : Tri) → w ≡ row_at rows i → (c : Correction) → c ≡ correction_of nodes w P → told_in (Ok c) ≡ (ask_out (given nodes rows s n t) n0 P).told
     ask-found i d w k c j = ap (told 0 0) (j ∙ found-correction nodes rows s₁ n t A P h q i d w k) ∙ sym (told-late ∙ rw d)
 
 -- scratch is s before the call, s₁ before the work, and s₂ at the end; len is its length after the work

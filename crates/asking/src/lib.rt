@@ -1,21 +1,23 @@
 // W6: the correction at a point: the lowest row that holds it, and the mean of the corrections at its corners.
 #![tactic(auto)]
 
-ghost use Rattle.std.specs.Prelude.{◌≡◌, ℕ, ◌+◌, ◌*◌, ◌≤◌, ◌<◌, length, replicate};
+ghost use Rattle.std.specs.Prelude.{◌≡◌, ℕ, ◌+◌, ◌*◌, ◌≤◌, ◌<◌, pos, length, replicate};
+ghost use Rattle.std.specs.Int.Signed.{le_z};
 ghost use Rattle.lists.specs.Search.{lowest};
 ghost use Rattle.meaning.specs.Tables.{given, row_at};
 ghost use Rattle.meaning.specs.Calls.{ask_out};
 ghost use Rattle.laws.specs.Meshes.{Stands, Standing};
 ghost use Rattle.weighing.specs.Weighing.{Balanced};
-ghost use Rattle.asking.specs.Asking.{side_of, weights_in, holds_in, holds_at, correction_of, refused_by};
+ghost use Rattle.asking.specs.Asking.{side_of, weights_in, holds_in, holds_at, correction_of, told_in};
 
-use lists::Found;
-use meaning::{Correction, Fault, Place, Told, Tri};
+use meaning::{Correction, Place, Told, Tri};
+use refusals::Refusal;
+use tables::Mesh;
 use weighing::Weights;
 
 // ---- the row that holds the point
 
-// Twice the area that the point makes with the side from node x to node y; below 0 where the point is right of it.
+// Twice the area that the point makes with the side from node x to node y: below 0 where the point is right of it.
 fn side(nodes: &[i32], x: u32, y: u32, point: Place) -> i64
     requires { Stands nodes.now x × Stands nodes.now y }
     ensures { result ≡ side_of nodes.now x y point }
@@ -23,45 +25,37 @@ fn side(nodes: &[i32], x: u32, y: u32, point: Place) -> i64
     plane::twice_area(tables::corner(nodes, x), tables::corner(nodes, y), point)
 }
 
+fn not_right(nodes: &[i32], x: u32, y: u32, point: Place) -> bool
+    requires { Stands nodes.now x × Stands nodes.now y }
+    ensures { result ≡ le_z (pos 0) (side_of nodes.now x y point) }
+{
+    side(nodes, x, y, point) >= 0
+}
+
 // The point is right of no side.
 fn holds_point(nodes: &[i32], w: Tri, point: Place) -> bool
     requires { Standing nodes.now w }
     ensures { result ≡ holds_in nodes.now w point }
 {
-    if side(nodes, w.q, w.r, point) < 0 {
-        return false;
-    }
-    if side(nodes, w.r, w.p, point) < 0 {
-        return false;
-    }
-    if side(nodes, w.p, w.q, point) < 0 {
-        return false;
-    }
-    true
+    not_right(nodes, w.q, w.r, point)
+        && not_right(nodes, w.r, w.p, point)
+        && not_right(nodes, w.p, w.q, point)
 }
 
-fn holds_at(nodes: &[i32], rows: &[u32], point: Place, i: usize) -> bool
-    requires i_in_bounds { 3 * i + 3 ≤ length rows.now }
-    requires standing { Standing nodes.now (row_at rows.now i) }
-    ensures { result ≡ holds_at nodes.now rows.now point i }
+fn holds_at(mesh: Mesh, point: Place, i: usize) -> bool
+    requires i_lt_t { i < mesh.t }
+    requires standing { Standing mesh.nodes.now (row_at mesh.rows.now i) }
+    ensures { result ≡ holds_at mesh.entry.nodes.now mesh.entry.rows.now point i }
 {
-    holds_point(nodes, tables::row_at(rows, i), point)
+    holds_point(mesh.nodes, mesh.row(i), point)
 }
 
 // The lowest row that holds the point.
-fn row_holding(nodes: &[i32], rows: &[u32], t: usize, point: Place) -> Found
-    requires t_in_bounds { 3 * t ≤ length rows.now }
-    requires by_index { (i : ℕ) → i < t → Standing nodes.now (row_at rows.now i) }
-    ensures { result ≡ lowest (holds_at nodes.now rows.now point) 0 t }
+fn row_holding(mesh: Mesh, point: Place) -> Option<usize>
+    requires { (i : ℕ) → i < mesh.t → Standing mesh.nodes.now (row_at mesh.rows.now i) }
+    ensures { result ≡ lowest (holds_at mesh.entry.nodes.now mesh.entry.rows.now point) 0 mesh.entry.t }
 {
-    let mut i = 0;
-    while i < t {
-        if holds_at(nodes, rows, point, i) {
-            return Found::At(i);
-        }
-        i += 1;
-    }
-    Found::Nothing
+    (0..mesh.t).find(|&i| holds_at(mesh, point, i))
 }
 
 // ---- its mean
@@ -92,18 +86,26 @@ fn correction_in(nodes: &[i32], w: Tri, point: Place) -> Correction
 
 // ---- the question
 
-fn refused(f: Fault) -> Told
-    ensures { result ≡ refused_by f }
+// Scratch is all zero before; what it holds after does not matter.
+fn correction_at(
+    nodes: &[i32],
+    rows: &[u32],
+    scratch: &mut [u32],
+    n0: usize,
+    n: usize,
+    t: usize,
+    point: Place,
+) -> Result<Correction, Refusal>
+    requires { scratch.old ≡ replicate (length scratch.old) 0 }
+    ensures { told_in result ≡ (ask_out (given nodes.now rows.now scratch.old n t) n0 point).told }
 {
-    let correction = Correction { dx: 0, dy: 0 };
-    Told {
-        number: f.number,
-        correction,
-        culprit: f.at,
-    }
+    judging::judge(nodes, rows, scratch, b"", 0, n0, n, t)?;
+    let mesh = Mesh { nodes, rows, n, t };
+    let i = row_holding(mesh, point).ok_or(Refusal::Nowhere)?;
+    Ok(correction_in(nodes, mesh.row(i), point))
 }
 
-// Scratch is all zero before; what it holds after does not matter.
+// The same, as it is told.
 pub fn work(
     nodes: &[i32],
     rows: &[u32],
@@ -116,18 +118,16 @@ pub fn work(
     requires { scratch.old ≡ replicate (length scratch.old) 0 }
     ensures { result ≡ (ask_out (given nodes.now rows.now scratch.old n t) n0 point).told }
 {
-    let f = judging::judge(nodes, rows, scratch, b"", 0, n0, n, t);
-    if f.number != 0 {
-        return refused(f);
-    }
-    let h = row_holding(nodes, rows, t, point);
-    if let Found::At(i) = h {
-        let correction = correction_in(nodes, tables::row_at(rows, i), point);
-        return Told {
+    match correction_at(nodes, rows, scratch, n0, n, t, point) {
+        Ok(correction) => Told {
             number: 0,
             correction,
             culprit: 0,
-        };
+        },
+        Err(refusal) => Told {
+            number: refusal.number(),
+            correction: Correction { dx: 0, dy: 0 },
+            culprit: refusal.culprit(),
+        },
     }
-    refused(Fault { number: 14, at: 0 })
 }

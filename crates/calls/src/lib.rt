@@ -8,17 +8,18 @@ ghost use Rattle.meaning.specs.Calls.{tinted, check_out, refine_by_out, coarsen_
 ghost use Rattle.text.specs.Digits.{field, listed};
 ghost use Rattle.text.specs.Lines.{correction_in};
 ghost use Rattle.protocol.specs.Frames as f;
+ghost use Rattle.protocol.specs.Kinds.{code};
 ghost use Rattle.calls.specs.MarksLaw.{mark_one};
 
 use meaning::{Answer, Manner, Quarters, Tinted};
-use protocol::{Refines, Session};
+use protocol::{Kind, Session};
 use text::read;
 
 fn mark(marks: &mut [u8], fields: &[u8], i: usize)
     requires { 4 * i + 4 ≤ length fields.now }
     ensures { marks.new ≡ mark_one fields.now i marks.old }
 {
-    let k = read::four(fields, 4 * i) as usize;
+    let k = read::number::<4>(fields, 4 * i) as usize;
     if k < marks.len() {
         marks[k] = 1;
     }
@@ -28,11 +29,8 @@ fn mark(marks: &mut [u8], fields: &[u8], i: usize)
 fn mark_listed(marks: &mut [u8], fields: &[u8])
     ensures { marks.new ≡ iter (mark_one fields.now) 0 (length fields.now / 4) marks.old }
 {
-    let count = fields.len() / 4;
-    let mut i = 0;
-    while i < count {
+    for i in 0..fields.len() / 4 {
         mark(marks, fields, i);
-        i += 1;
     }
 }
 
@@ -46,18 +44,17 @@ fn check_base(
 ) -> Answer
     ensures { outcome result nodes.new rows.new scratch.new ≡ f.or_dropped (check_out (given nodes.old rows.old scratch.old n t)) }
 {
-    let a = mesh::check(nodes, rows, scratch, n, t);
-    if a.number == 0 {
-        return a;
+    let checked = mesh::check(nodes, rows, scratch, n, t);
+    if checked.number == 0 {
+        return checked;
     }
-    tables::clear_nodes_from(nodes, 0);
-    tables::clear_rows_from(rows, 0);
+    nodes.fill(0);
+    rows.fill(0);
     Answer {
-        number: a.number,
         n: 0,
         t: 0,
         passes: 0,
-        culprit: a.culprit,
+        ..checked
     }
 }
 
@@ -118,16 +115,24 @@ fn set_given(
     requires { length fields.now ≡ 12 }
     ensures { outcome result nodes.new rows.new scratch.new ≡ set_out (given nodes.old rows.old scratch.old session.n session.t) session.n0 (field 4 fields.now 0) (correction_in fields.now 1) }
 {
-    let node = read::four(fields, 0) as usize;
+    let node = read::number::<4>(fields, 0) as usize;
     let c = read::correction_in(fields, 1);
     mesh::set_correction(
         nodes, rows, scratch, session.n0, session.n, session.t, node, c,
     )
 }
 
-// 03 to 06, 08 to 0a, admitted. Those that do not refine cut nothing red.
+// The answer of a call that cuts nothing red.
+fn plain(answer: Answer) -> Tinted
+    ensures answer { result.answer ≡ answer }
+    ensures red { result.red ≡ 0 }
+{
+    Tinted { answer, red: 0 }
+}
+
+// 03 to 06, 08 to 0a, admitted.
 pub fn call(
-    kind: u32,
+    kind: Kind,
     fields: &[u8],
     nodes: &mut [i32],
     rows: &mut [u32],
@@ -136,28 +141,17 @@ pub fn call(
 ) -> Tinted
     requires n_bound { session.n ≤ 512 }
     requires t_bound { session.t ≤ 1024 }
-    requires fields_value { f.admits session kind fields.now ≡ true }
-    ensures { tinted (outcome result.answer nodes.new rows.new scratch.new) result.red ≡ f.called (f.held nodes.old rows.old scratch.old session) kind fields.now }
+    requires fields_value { f.admits session (code kind) fields.now ≡ true }
+    ensures { tinted (outcome result.answer nodes.new rows.new scratch.new) result.red ≡ f.called (f.held nodes.old rows.old scratch.old session) (code kind) fields.now }
 {
-    if kind == 3 {
-        let answer = check_base(nodes, rows, scratch, session.n, session.t);
-        return Tinted { answer, red: 0 };
-    }
-    if let Refines::In(manner, quarters) = admit::refines_in(kind) {
+    if let Some((manner, quarters)) = admit::refines(kind) {
         return refine_listed(fields, nodes, rows, scratch, session, manner, quarters);
     }
-    if kind == 5 {
-        let answer = coarsen_listed(fields, nodes, rows, scratch, session);
-        return Tinted { answer, red: 0 };
-    }
-    if kind == 8 {
-        let answer = set_given(fields, nodes, rows, scratch, session);
-        return Tinted { answer, red: 0 };
-    }
-    let restored = job::restore(nodes, rows, scratch, session.n0, session.n, session.t);
-    Tinted {
-        answer: restored,
-        red: 0,
+    match kind {
+        Kind::Base => plain(check_base(nodes, rows, scratch, session.n, session.t)),
+        Kind::Coarsen => plain(coarsen_listed(fields, nodes, rows, scratch, session)),
+        Kind::Set => plain(set_given(fields, nodes, rows, scratch, session)),
+        _ => plain(job::restore(nodes, rows, scratch, session.n0, session.n, session.t)),
     }
 }
 
@@ -165,18 +159,18 @@ pub fn call(
 pub fn session_after(session: Session, kind: u32, a: Answer) -> Session
     ensures { result ≡ f.session_after session kind a }
 {
-    if kind == 3 {
-        return Session {
+    if kind == Kind::Base.code() {
+        Session {
             n: a.n,
             t: a.t,
             n0: a.n,
             accepted: a.number == 0,
-        };
-    }
-    Session {
-        n: a.n,
-        t: a.t,
-        n0: session.n0,
-        accepted: session.accepted,
+        }
+    } else {
+        Session {
+            n: a.n,
+            t: a.t,
+            ..session
+        }
     }
 }

@@ -1,14 +1,13 @@
 -- The base check: after 1 to 7 come 11, 12 and 10. Assumes nothing.
-use Rattle.std.specs.Prelude.{◌≡◌, refl, Bool, true, false, not, List, [], ℕ, ◌+◌, ◌*◌, ◌/◌, ◌≤◌, ◌<◌, eqb, ℤ, length, replicate}
+use Rattle.std.specs.Prelude.{◌≡◌, refl, Bool, true, false, not, List, [], ℕ, ◌+◌, ◌*◌, ◌/◌, ◌≤◌, ◌<◌, eqb, ℤ, length, replicate, Option, is_some, Result, Ok, Err}
+use Rattle.std.specs.Result.{result_and}
 use Rattle.std.proofs.Common.{sym, ap, ap₂, ◌∙◌, arith}
 use Rattle.std.proofs.Math.Bool.{not-not}
-use borrow.Author.Tests.{ne_eqb}
 use Rattle.std.proofs.lemmas.List.{length-replicate}
-use Rattle.lists.specs.declared.Found.{Found}
-use Rattle.lists.specs.Lists.{cases, is_found}
+use Rattle.lists.specs.Lists.{cases}
 use Rattle.lists.specs.Search.{lowest, items}
 use Rattle.meaning.specs.declared.Answer.{Answer}
-use Rattle.meaning.specs.declared.Fault.{Fault}
+use Rattle.meaning.specs.Fault.{Fault}
 use Rattle.meaning.specs.Mesh.{Mesh}
 use Rattle.meaning.specs.Lawful.{Lawful, fault, refusal, compatible, first_clash}
 use Rattle.meaning.specs.Tables.{Given, given, outcome, answer, place_at, row_at, mesh_of}
@@ -17,6 +16,8 @@ use Rattle.meaning.specs.Calls.{culprit_of, unless, base_no, check_no, sizes_fit
 use Rattle.laws.specs.Lawful.{lawful-refusal}
 use Rattle.laws.specs.Meshes.{Standing, mesh_at, row-stands}
 use Rattle.neighbours.specs.Ready.{Ready, ready-sized}
+use Rattle.refusals.specs.declared.Refusal.{Refusal}
+use Rattle.refusals.specs.Refusals.{verdict as judged, answer_in}
 use Rattle.border.specs.Cancel.{border}
 use Rattle.border.specs.Clear.{clear}
 use Rattle.checking.specs.Clash.{clash_at}
@@ -50,26 +51,6 @@ number_is m = go (uncrowded m) (disjoint m) (compatible m)
     go false false true = refl
     go false false false = refl
 
--- each number in the form in which the code has it
-module _ (r : ℕ) (y : Bool) where
-  pub number-11 : r ≡ 2 → 11 ≡ number_of r y
-  unfolding number_of
-  number-11 e = rw e
-
-  module _ (not-2 : r ≡ 2 → ⊥) where
-    pub number-12 : r ≡ 1 → 12 ≡ number_of r y
-    unfolding number_of
-    number-12 e = rw e
-
-    module _ (not-1 : r ≡ 1 → ⊥) where
-      pub number-10 : y ≡ true → 10 ≡ number_of r y
-      unfolding number_of
-      number-10 e = rw (ne_eqb r 2 not-2, ne_eqb r 1 not-1, e)
-
-      pub number-0 : y ≡ false → 0 ≡ number_of r y
-      unfolding number_of
-      number-0 e = rw (ne_eqb r 2 not-2, ne_eqb r 1 not-1, e)
-
 -- ---- how grave it is of the rows
 
 module _ (nodes : List ℤ) (rows s : List ℕ) (n t : ℕ) (A : Admitted nodes rows s [] 0 n t) where
@@ -99,13 +80,13 @@ unfolding mesh_at
 severity-same nodes rows n t r e = e
 
 -- c is what the search for a clash gave, y whether it found one, r the severity
-pub late-number : (nodes : List ℤ) (rows : List ℕ) (n t : ℕ) → Lawful (mesh_in nodes rows n t) → (c : Found) (y : Bool) (r k : ℕ) → c ≡ lowest (clash_at rows t) 0 t → y ≡ is_found c → r ≡ severity (mesh_in nodes rows n t) →
+pub late-number : (nodes : List ℤ) (rows : List ℕ) (n t : ℕ) → Lawful (mesh_in nodes rows n t) → (c : Option ℕ) (y : Bool) (r k : ℕ) → c ≡ lowest (clash_at rows t) 0 t → y ≡ is_some c → r ≡ severity (mesh_in nodes rows n t) →
     k ≡ number_of r y → k ≡ base_no (mesh_in nodes rows n t)
 unfolding compatible refusal mesh_of
 late-number nodes rows n t law c y r k d q e h =
     let m = mesh_in nodes rows n t in
     let i : lowest (clash_at rows t) 0 t ≡ first_clash m = clash-is nodes rows [] n t (lawful-refusal m law) in
-    h ∙ ap₂ number_of e (q ∙ ap is_found (d ∙ i) ∙ sym (not-not (is_found (first_clash m)))) ∙ number_is m
+    h ∙ ap₂ number_of e (q ∙ ap is_some (d ∙ i) ∙ sym (not-not (is_some (first_clash m)))) ∙ number_is m
 
 -- ---- after 1 to 7
 
@@ -131,9 +112,14 @@ check-untouched g = ap (λ (f : Fault). untouched g f.number f.at) (sym (verdict
     go true = refl
     go false = refl
 
-pub checked_call : (nodes : List ℤ) (rows s s₁ s₂ : List ℕ) (n t len : ℕ) (f : Fault) (r : Answer) → s₁ ≡ replicate (length s) 0 → f ≡ check_fault (given nodes rows s₁ n t) →
-    s₂ ≡ replicate len 0 → len ≡ length s₁ → r ≡ answer f.number n t 0 f.at → outcome r nodes rows s₂ ≡ check_out (given nodes rows s n t)
+counted : {A : Type 0} (j : Result A Refusal) (n t : ℕ) → answer_in (result_and j (Ok (record { n = n; t = t }))) n t ≡ answer (judged j).number n t 0 (judged j).at
+counted (Ok a) n t = refl
+counted (Err r) n t = refl
+
+pub checked_call : {A : Type 0} (nodes : List ℤ) (rows s s₁ s₂ : List ℕ) (n t len : ℕ) (j : Result A Refusal) (r : Answer) → s₁ ≡ replicate (length s) 0 →
+    judged j ≡ check_fault (given nodes rows s₁ n t) → s₂ ≡ replicate len 0 → len ≡ length s₁ → r ≡ answer_in (result_and j (Ok (record { n = n; t = t }))) n t →
+    outcome r nodes rows s₂ ≡ check_out (given nodes rows s n t)
 unfolding check_out mesh_of
-checked_call nodes rows s s₁ s₂ n t len f r p e d l h =
+checked_call nodes rows s s₁ s₂ n t len j r p e d l h =
     call-out s s₁ p (λ x. check_out (given nodes rows x n t)) (λ x x' l. sized_same nodes rows x x' 0 n t l _ _ (rw l)) r nodes rows s₂ len
-    (rw (h, e) (ap (outcome _ nodes rows) (zeroed s s₁ p) ∙ check-untouched (given nodes rows s₁ n t))) d l
+    (rw (h, counted j n t, e) (ap (outcome _ nodes rows) (zeroed s s₁ p) ∙ check-untouched (given nodes rows s₁ n t))) d l

@@ -1,11 +1,9 @@
 -- 10 of a mesh that draws none of 3 to 7: of all rows, only the one that holds r→q can clash with a row whose refinement edge is q–r.
 -- Assumes nothing.
-use Rattle.std.specs.Prelude.{◌≡◌, Bool, ◌&&◌, ◌||◌, List, ℕ, ◌<◌, eqb, ℤ}
+use Rattle.std.specs.Prelude.{◌≡◌, Bool, ◌&&◌, ◌||◌, List, ℕ, ◌<◌, eqb, ℤ, Option, Some, None}
 use Rattle.std.proofs.Math.Path.{refl, sym}
 use Rattle.std.proofs.Common.{subst, ◌∙◌, eq-eqb, ne_eqb}
 use Rattle.std.proofs.Math.Bool.{true, false, not}
-use Rattle.lists.specs.declared.Found.{Found}
-use Rattle.lists.specs.declared.Found.TheVariants.{At, Nothing}
 use Rattle.lists.specs.Lists.{any}
 use Rattle.lists.specs.ListsLaw.{clash, or_left, or_right}
 use Rattle.lists.specs.PartsLaw.{not_so}
@@ -70,10 +68,10 @@ module _ (nodes : List ℤ) (l : List ℕ) (n t : ℕ) (law : Lawful (mesh_at no
   unfolding clash_at clashing arrow_at
   clash-row i h = go (lowest (arrow_at l (row_at l i).r (row_at l i).q) 0 t) refl
     where
-      go : (f : Found) → lowest (arrow_at l (row_at l i).r (row_at l i).q) 0 t ≡ f → clash_found l (row_at l i) f ≡ any (clashing i) (items (row_at l) 0 t)
-      go Nothing e =
+      go : (f : Option ℕ) → lowest (arrow_at l (row_at l i).r (row_at l i).q) 0 t ≡ f → clash_found l (row_at l i) f ≡ any (clashing i) (items (row_at l) 0 t)
+      go None e =
           sym (any-no (clashing i) (row_at l) t (λ k u. no_other i k h u (lowest-nothing (arrow_at l (row_at l i).r (row_at l i).q) t k e u)))
-      go (At j) e =
+      go (Some j) e =
           let b = lowest-below (arrow_at l (row_at l i).r (row_at l i).q) t j e in
           let y = lowest-true (arrow_at l (row_at l i).r (row_at l i).q) t j e in
           one-other i j h b y

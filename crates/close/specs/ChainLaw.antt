@@ -2,14 +2,12 @@
 -- each row where they are up, and nowhere else. Assumes nothing.
 use Rattle.std.proofs.Math.Path.{◌≡◌, refl, ap, subst}
 use Rattle.std.proofs.Common.{sym, ◌∙◌, inl, eq-eqb, ne_eqb, length-set, get_or-set_same, get_or-set_other}
-use Rattle.std.specs.Prelude.{◌⊎◌, List, eqb, set}
+use Rattle.std.specs.Prelude.{◌⊎◌, List, eqb, set, Option, Some, None}
 use Rattle.std.proofs.Math.Logic.{inr, ⊎_elim, ⊎_map}
 use Prim.Native.Nat.{ℕ, zero, suc, ◌≤◌, ◌<◌}
 use native.Mathlib.Omega.{arith}
 use Rattle.std.proofs.Math.Decide.{ℕ_discrete}
 use Rattle.std.proofs.Math.ListN.{length, get_or}
-use Rattle.lists.specs.declared.Found.{Found}
-use Rattle.lists.specs.declared.Found.TheVariants.{At, Nothing}
 use Rattle.lists.specs.Lists.{cases}
 use Rattle.lists.specs.Search.{lowest}
 use Rattle.lists.specs.SearchLaw.{lowest-below}
@@ -49,16 +47,16 @@ module _ (l : List ℕ) (t : ℕ) where
   -- one step of a chain
   data Step (k j : ℕ) (s : List ℕ) : List ℕ → Type 0 where
     stopped : Up s j → Step k j s s
-    last : get_or s j 0 ≡ 0 → across_row l t j ≡ Nothing → Step k j s (set s j 1)
-    more : (i : ℕ) → get_or s j 0 ≡ 0 → across_row l t j ≡ At i → Step k j s (drawn k l t i (set s j 1))
+    last : get_or s j 0 ≡ 0 → across_row l t j ≡ None → Step k j s (set s j 1)
+    more : (i : ℕ) → get_or s j 0 ≡ 0 → across_row l t j ≡ Some i → Step k j s (drawn k l t i (set s j 1))
 
   step_by : (k j : ℕ) (s : List ℕ) → Step k j s (drawn (suc k) l t j s)
   unfolding drawn
   step_by k j s = go (ℕ_discrete (get_or s j 0) 0)
     where
-      found : (w : Found) → across_row l t j ≡ w → get_or s j 0 ≡ 0 → Step k j s (on_found w (λ i. drawn k l t i (set s j 1)) (set s j 1))
-      found (At i) q e = more i e q
-      found Nothing q e = last e q
+      found : (w : Option ℕ) → across_row l t j ≡ w → get_or s j 0 ≡ 0 → Step k j s (on_found w (λ i. drawn k l t i (set s j 1)) (set s j 1))
+      found (Some i) q e = more i e q
+      found None q e = last e q
 
       go : Dec (get_or s j 0 ≡ 0) → Step k j s (cases (eqb (get_or s j 0) 0) (on_found (across_row l t j) (λ i. drawn k l t i (set s j 1)) (set s j 1)) s)
       go (yes e) = rw (eq-eqb (get_or s j 0) 0 e) (found (across_row l t j) refl e)
@@ -66,11 +64,11 @@ module _ (l : List ℕ) (t : ℕ) where
 
   -- closed, but for what may be missing at j
   abbrev ClosedBut : List ℕ → ℕ → Type 0
-  ClosedBut s j = (x y : ℕ) → x < t → across_row l t x ≡ At y → Up s x → (y ≡ j) ⊎ Up s y
+  ClosedBut s j = (x y : ℕ) → x < t → across_row l t x ≡ Some y → Up s x → (y ≡ j) ⊎ Up s y
 
   -- where a note is up, it is up across
   abbrev ClosedUp : List ℕ → Type 0
-  ClosedUp s = (x y : ℕ) → x < t → across_row l t x ≡ At y → Up s x → Up s y
+  ClosedUp s = (x y : ℕ) → x < t → across_row l t x ≡ Some y → Up s x → Up s y
 
   record Chain (s : List ℕ) (j : ℕ) (m : List ℕ) : Type 0 where
     pub keeps : (x : ℕ) → Up s x → Up m x
@@ -98,18 +96,18 @@ module _ (l : List ℕ) (t : ℕ) where
       older y (inl e) = rw e (up_same s j lt)
       older y (inr v) = up-keep s j y lt v
 
-      raised : (i : ℕ) → across_row l t j ≡ At i → ClosedBut (set s j 1) i
+      raised : (i : ℕ) → across_row l t j ≡ Some i → ClosedBut (set s j 1) i
       raised i a x y g q u = at (up-old s j x u)
         where
           at : (x ≡ j) ⊎ Up s x → (y ≡ i) ⊎ Up (set s j 1) y
-          at (inl e) = inl (let f : across_row l t j ≡ At y = rw e at q in let z : y ≡ i = cc in z)
+          at (inl e) = inl (let f : across_row l t j ≡ Some y = rw e at q in let z : y ≡ i = cc in z)
           at (inr v) = inr (older y (c x y g q v))
 
-      ended : across_row l t j ≡ Nothing → ClosedUp (set s j 1)
+      ended : across_row l t j ≡ None → ClosedUp (set s j 1)
       ended n x y g q u = at (up-old s j x u)
         where
           at : (x ≡ j) ⊎ Up s x → Up (set s j 1) y
-          at (inl e) = let f : across_row l t j ≡ At y = rw e at q in let z : ◌≡◌ {A = ℕ} 0 1 = cc in absurd (omega arith)
+          at (inl e) = let f : across_row l t j ≡ Some y = rw e at q in let z : ◌≡◌ {A = ℕ} 0 1 = cc in absurd (omega arith)
           at (inr v) = older y (c x y g q v)
 
       go : {r : List ℕ} → Step k j s r →
@@ -125,7 +123,7 @@ module _ (l : List ℕ) (t : ℕ) where
       go (more i e a) below =
           let y = zeros-set s j lt e in
           let len : length (set s j 1) ≡ length s = length-set s j 1 in
-          let r = below i (set s j 1) (omega arith) (across-below l t j i (At i) (sym a) refl) (omega arith) (raised i a) in
+          let r = below i (set s j 1) (omega arith) (across-below l t j i (Some i) (sym a) refl) (omega arith) (raised i a) in
           record {
             keeps = λ x u. r.keeps x (up-keep s j x lt u);
             starts = r.keeps j (up_same s j lt);
@@ -140,7 +138,7 @@ module _ (l : List ℕ) (t : ℕ) where
 
   -- a set of rows that holds with a row the one across
   abbrev pub PulledAcross : (ℕ → Type 0) → Type 0
-  PulledAcross P = (x y : ℕ) → x < t → across_row l t x ≡ At y → P x → P y
+  PulledAcross P = (x y : ℕ) → x < t → across_row l t x ≡ Some y → P x → P y
 
   -- nothing else goes up
   module _ (P : ℕ → Type 0) (pull : PulledAcross P) where
@@ -160,7 +158,7 @@ module _ (l : List ℕ) (t : ℕ) where
             ((i : ℕ) (s' : List ℕ) → i < t → P i → ((x : ℕ) → x < t → Up s' x → P x) → (x : ℕ) → x < t → Up (drawn k l t i s') x → P x) → Up r x → P x
         go (stopped _) below v = o x b v
         go (last e n) below v = here x b v
-        go (more i e a) below v = below i (set s j 1) (across-below l t j i (At i) (sym a) refl) (pull j i h a p) here x b v
+        go (more i e a) below v = below i (set s j 1) (across-below l t j i (Some i) (sym a) refl) (pull j i h a p) here x b v
 
     draws-only : (j : ℕ) (s : List ℕ) → j < t → P j → ((x : ℕ) → x < t → Up s x → P x) → (x : ℕ) → x < t → Up (draws l t j s) x → P x
     unfolding draws
@@ -213,15 +211,15 @@ module _ (l : List ℕ) (t : ℕ) where
       begins c x u (inr w) = c.keeps x (r.begun x u w)
 
   -- from the row across an edge, if there is one
-  pub raised-across : (starts : ℕ → Type 0) (x y : ℕ) (s : List ℕ) → Raised starts s → Raised (λ z. (lowest (arrow_at l y x) 0 t ≡ At z) ⊎ starts z) (draw_across l t x y s)
+  pub raised-across : (starts : ℕ → Type 0) (x y : ℕ) (s : List ℕ) → Raised starts s → Raised (λ z. (lowest (arrow_at l y x) 0 t ≡ Some z) ⊎ starts z) (draw_across l t x y s)
   unfolding draw_across
   raised-across starts x y s r = go (lowest (arrow_at l y x) 0 t) refl
     where
-      go : (w : Found) → lowest (arrow_at l y x) 0 t ≡ w → Raised (λ z. (w ≡ At z) ⊎ starts z) (on_found w (λ j. draws l t j s) s)
-      go (At j) e =
+      go : (w : Option ℕ) → lowest (arrow_at l y x) 0 t ≡ w → Raised (λ z. (w ≡ Some z) ⊎ starts z) (on_found w (λ j. draws l t j s) s)
+      go (Some j) e =
           let R = raised-more starts j s (lowest-below (arrow_at l y x) t j e) r in
-          raised-as (λ z. (z ≡ j) ⊎ starts z) (λ z. (At j ≡ At z) ⊎ starts z) (draws l t j s) (λ z h. ⊎_map (λ q. ap At (sym q)) (λ q. q))
-          (λ z h w. R.begun z h (⊎_map (λ (q : At j ≡ At z). let d : z ≡ j = cc in d) (λ q. q) w)) R
-      go Nothing e =
-          raised-as starts (λ z. (Nothing ≡ At z) ⊎ starts z) s (λ z h q. inr q)
-          (λ z h w. ⊎_elim (λ (q : Nothing ≡ At z). let d : ◌≡◌ {A = ℕ} 0 1 = cc in absurd (omega arith)) (λ q. r.begun z h q) w) r
+          raised-as (λ z. (z ≡ j) ⊎ starts z) (λ z. (Some j ≡ Some z) ⊎ starts z) (draws l t j s) (λ z h. ⊎_map (λ q. ap Some (sym q)) (λ q. q))
+          (λ z h w. R.begun z h (⊎_map (λ (q : Some j ≡ Some z). let d : z ≡ j = cc in d) (λ q. q) w)) R
+      go None e =
+          raised-as starts (λ z. (None ≡ Some z) ⊎ starts z) s (λ z h q. inr q)
+          (λ z h w. ⊎_elim (λ (q : None ≡ Some z). let d : ◌≡◌ {A = ℕ} 0 1 = cc in absurd (omega arith)) (λ q. r.begun z h q) w) r

@@ -1,6 +1,6 @@
 -- Where chains were drawn from the rows that hold the starting edges, the note of a row is 1 exactly where its refinement edge is in
 -- the least closed set of document 01. Assumes nothing.
-use Rattle.std.specs.Prelude.{◌≡◌, ◌⊎◌, Bool, true, false, ℕ, ◌+◌, ◌≤◌, ◌<◌, eqb, length, set}
+use Rattle.std.specs.Prelude.{◌≡◌, ◌⊎◌, Bool, true, false, ℕ, ◌+◌, ◌≤◌, ◌<◌, eqb, length, set, Some}
 use Rattle.std.proofs.Math.Path.{refl}
 use Rattle.std.proofs.Common.{sym, ◌∙◌, subst, inl, inr, get_or-set_same}
 use Rattle.std.proofs.Math.Logic.{⊎_elim, ⊎_map}
@@ -11,7 +11,6 @@ use Rattle.std.proofs.Math.Decide.{ℕ_discrete}
 use borrow.Author.Tests.{eq-eqb, ne_eqb}
 use Rattle.std.proofs.Math.ListN.{get_or, length-set}
 use Rattle.std.proofs.Math.Seq.{get_or-set_other}
-use Rattle.lists.specs.declared.Found.TheVariants.{At}
 use Rattle.lists.specs.Lists.{cases}
 use Rattle.lists.specs.ListsLaw.{clash, All-at, All-of, All-imp}
 use Rattle.lists.specs.Search.{lowest, items, iter}
@@ -57,7 +56,7 @@ module _ (l : List ℕ) (t : ℕ) (once : OnceAt l t) (starts : ℕ → Type 0) 
   In : ℕ → Type 0
   In x = mem_edge (base (row_at l x)) S ≡ true
 
-  in-pull : (x y : ℕ) → x < t → across_row l t x ≡ At y → In x → In y
+  in-pull : (x y : ℕ) → x < t → across_row l t x ≡ Some y → In x → In y
   unfolding In
   in-pull x y h a p =
       let r = across-has l t once y x a in
@@ -161,7 +160,7 @@ module _ (l : List ℕ) (t : ℕ) (once : OnceAt l t) where
     both = draw_sides l t (row_at l i) (draws l t i s)
 
     abbrev Begun : ℕ → Type 0
-    Begun x = (lowest (arrow_at l (row_at l i).p (row_at l i).r) 0 t ≡ At x) ⊎ ((lowest (arrow_at l (row_at l i).q (row_at l i).p) 0 t ≡ At x) ⊎ ((x ≡ i) ⊎ starts x))
+    Begun x = (lowest (arrow_at l (row_at l i).p (row_at l i).r) 0 t ≡ Some x) ⊎ ((lowest (arrow_at l (row_at l i).q (row_at l i).p) 0 t ≡ Some x) ⊎ ((x ≡ i) ⊎ starts x))
 
     begun-raised : Raised l t Begun both
     unfolding draw_sides
@@ -173,7 +172,7 @@ module _ (l : List ℕ) (t : ℕ) (once : OnceAt l t) where
     begun-has x (inr (inr (inl e))) = inl (base w, side-edge w side-m, rw e (side-edge w side-m))
     begun-has x (inr (inr (inr q))) = inr q
 
-    across-up : (x : ℕ) → x < t → {a b : ℕ} → Side w a b → lowest (arrow_at l b a) 0 t ≡ At x → Up both x
+    across-up : (x : ℕ) → x < t → {a b : ℕ} → Side w a b → lowest (arrow_at l b a) 0 t ≡ Some x → Up both x
     unfolding across_row
     across-up x g side-m d = begun-raised.closed i x h d (begun-raised.begun i h (inr (inr (inl refl))))
     across-up x g side-u d = begun-raised.begun x g (inr (inl d))

@@ -1,12 +1,10 @@
 -- The turns of the closure's loops, in the form of their needs. Assumes nothing.
-use Rattle.std.specs.Prelude.{◌≡◌, Bool, List, [], ◌∷◌, eqb, length, get_or, drop}
+use Rattle.std.specs.Prelude.{◌≡◌, Bool, List, [], ◌∷◌, eqb, length, get_or, drop, Option, Some, None}
 use Rattle.std.proofs.Math.Path.{refl, sym}
 use Rattle.std.proofs.Common.{ap, ◌∙◌, arith, eq-eqb, ne_eqb, length-set, drop-set-lt}
 use Rattle.std.proofs.Math.Bool.{true, false}
 use Prim.Native.Nat.{ℕ, zero, suc, ◌*◌, ◌≤◌, ◌<◌}
 use Rattle.std.proofs.Math.ListN.{set}
-use Rattle.lists.specs.declared.Found.{Found}
-use Rattle.lists.specs.declared.Found.TheVariants.{At, Nothing}
 use Rattle.lists.specs.Lists.{cases}
 use Rattle.lists.specs.Search.{lowest, iter}
 use Rattle.lists.specs.SearchLaw.{lowest-below}
@@ -32,18 +30,18 @@ pub zeros-less : (s m : List ℕ) (t N j : ℕ) → j < t → length s ≡ N →
 zeros-less s m t N j h n b e f = omega (arith, zeros-set s j (omega arith) e, ap zeros f)
 
 -- s before the turn, m after its note is put, W the whole
-module _ (l : List ℕ) (t N j : ℕ) (s m W : List ℕ) (w : Found) (h : j < t) (n : length s ≡ N) (b : t ≤ N) (e : get_or s j 0 ≡ 0) (f : m ≡ set s j 1)
+module _ (l : List ℕ) (t N j : ℕ) (s m W : List ℕ) (w : Option ℕ) (h : j < t) (n : length s ≡ N) (b : t ≤ N) (e : get_or s j 0 ≡ 0) (f : m ≡ set s j 1)
     (a : w ≡ across_row l t j) (inv : draws l t j s ≡ W) where
   drawn-once : cases (eqb (get_or s j 0) 0) (on_found (across_row l t j) (λ i. drawn (zeros (set s j 1)) l t i (set s j 1)) (set s j 1)) s ≡ W
   unfolding draws drawn
   drawn-once = rw (zeros-set s j (omega arith) e) at inv
 
-  pub draw-on : (k : ℕ) → w ≡ At k → draws l t k m ≡ W
+  pub draw-on : (k : ℕ) → w ≡ Some k → draws l t k m ≡ W
   unfolding draws
-  draw-on k q = let z : across_row l t j ≡ At k = sym a ∙ q in rw f (rw (eq-eqb (get_or s j 0) 0 e, z) at drawn-once)
+  draw-on k q = let z : across_row l t j ≡ Some k = sym a ∙ q in rw f (rw (eq-eqb (get_or s j 0) 0 e, z) at drawn-once)
 
-  pub draw-out : w ≡ Nothing → m ≡ W
-  draw-out q = let z : across_row l t j ≡ Nothing = sym a ∙ q in rw f (rw (eq-eqb (get_or s j 0) 0 e, z) at drawn-once)
+  pub draw-out : w ≡ None → m ≡ W
+  draw-out q = let z : across_row l t j ≡ None = sym a ∙ q in rw f (rw (eq-eqb (get_or s j 0) 0 e, z) at drawn-once)
 
 stop : (k : ℕ) (l : List ℕ) (t j : ℕ) (s : List ℕ) → (get_or s j 0 ≡ 0 → ⊥) → drawn k l t j s ≡ s
 unfolding drawn
@@ -54,34 +52,13 @@ pub draw-stop : (l : List ℕ) (t j : ℕ) (s W : List ℕ) → (get_or s j 0 �
 unfolding draws
 draw-stop l t j s W h inv = sym (stop (zeros s) l t j s h) ∙ inv
 
-pub across-below : (l : List ℕ) (t i k : ℕ) (w : Found) → w ≡ across_row l t i → w ≡ At k → k < t
+pub across-below : (l : List ℕ) (t i k : ℕ) (w : Option ℕ) → w ≡ across_row l t i → w ≡ Some k → k < t
 unfolding across_row
 across-below l t i k w e a = lowest-below (arrow_at l (row_at l i).r (row_at l i).q) t k (sym e ∙ a)
 
 -- the parts of the code, in the form of their needs
-module _ (marks : List ℕ) (i : ℕ) (a s m : List ℕ) where
-  pub marked-yes : get_or marks i 0 ≡ 1 → m ≡ a → m ≡ when_marked marks i a s
-  unfolding when_marked
-  marked-yes e f = rw (eq-eqb (get_or marks i 0) 1 e) f
-
-  pub marked-no : (get_or marks i 0 ≡ 1 → ⊥) → m ≡ s → m ≡ when_marked marks i a s
-  unfolding when_marked
-  marked-no e f = rw (ne_eqb (get_or marks i 0) 1 e) f
-
-pub start-yes : (k : Manner) (marks : List ℕ) (i v : ℕ) (s m : List ℕ) → get_or marks i 0 ≡ 1 → v ≡ start_note k → m ≡ set s i v → m ≡ note_start k marks i s
-start-yes k marks i v s m e f g = marked-yes marks i (set s i (start_note k)) s m e (rw (← f) g)
-
-module _ (l : List ℕ) (t x y : ℕ) (s m : List ℕ) (w : Found) (e : w ≡ lowest (arrow_at l y x) 0 t) where
-  pub drawn-across : (j : ℕ) → w ≡ At j → m ≡ draws l t j s → m ≡ draw_across l t x y s
-  unfolding draw_across
-  drawn-across j a f = rw (← e, a) f
-
-  pub none-across : w ≡ Nothing → m ≡ s → m ≡ draw_across l t x y s
-  unfolding draw_across
-  none-across a f = rw (← e, a) f
-
-  pub found_below : (j : ℕ) → w ≡ At j → j < t
-  found_below j a = lowest-below (arrow_at l y x) t j (sym e ∙ a)
+pub found_below : (l : List ℕ) (t x y : ℕ) (w : Option ℕ) → w ≡ lowest (arrow_at l y x) 0 t → (j : ℕ) → w ≡ Some j → j < t
+found_below l t x y w e j a = lowest-below (arrow_at l y x) t j (sym e ∙ a)
 
 module _ (k : Manner) (l : List ℕ) (t i : ℕ) (s a : List ℕ) (f : a ≡ draws l t i s) where
   pub from-newest : k ≡ Newest → a ≡ draw_from k l t i s
@@ -91,18 +68,6 @@ module _ (k : Manner) (l : List ℕ) (t i : ℕ) (s a : List ℕ) (f : a ≡ dra
   pub from_all : (w : Tri) (b : List ℕ) → k ≡ AllThree → w ≡ row_at l i → b ≡ draw_sides l t w a → b ≡ draw_from k l t i s
   unfolding draw_from
   from_all w b e g p = rw (e, ← f, ← g) p
-
-pub sides-drawn : (l : List ℕ) (t : ℕ) (w : Tri) (s a b : List ℕ) → a ≡ draw_across l t w.p w.q s → b ≡ draw_across l t w.r w.p a → b ≡ draw_sides l t w s
-unfolding draw_sides
-sides-drawn l t w s a b e f = rw (← e) f
-
-pub note-newest : (k : Manner) → k ≡ Newest → 1 ≡ start_note k
-unfolding start_note
-note-newest k e = rw e
-
-pub note-all : (k : Manner) → k ≡ AllThree → 7 ≡ start_note k
-unfolding start_note
-note-all k e = rw e
 
 pub closed_is : (k : Manner) (l : List ℕ) (t : ℕ) (marks s a b : List ℕ) → a ≡ iter (draw_marked k l t marks) 0 t s → b ≡ iter (note_start k marks) 0 t a → b ≡ closed_notes k l t marks s
 unfolding closed_notes
@@ -125,10 +90,10 @@ module _ (l : List ℕ) (t b : ℕ) (u : t ≤ b) where
   drawn-kept zero j s h = (refl, refl)
   drawn-kept (suc k) j s h = go (eqb (get_or s j 0) 0) (λ i. drawn-kept k i (set s j 1))
     where
-      found : (w : Found) → across_row l t j ≡ w → ((i : ℕ) → i < t → SameFrom b (set s j 1) (drawn k l t i (set s j 1))) →
+      found : (w : Option ℕ) → across_row l t j ≡ w → ((i : ℕ) → i < t → SameFrom b (set s j 1) (drawn k l t i (set s j 1))) →
           SameFrom b s (on_found w (λ i. drawn k l t i (set s j 1)) (set s j 1))
-      found (At i) q below = same_more b s (set s j 1) (drawn k l t i (set s j 1)) (put-kept j 1 s h) (below i (across-below l t j i (At i) (sym q) refl))
-      found Nothing q below = put-kept j 1 s h
+      found (Some i) q below = same_more b s (set s j 1) (drawn k l t i (set s j 1)) (put-kept j 1 s h) (below i (across-below l t j i (Some i) (sym q) refl))
+      found None q below = put-kept j 1 s h
 
       go : (y : Bool) → ((i : ℕ) → i < t → SameFrom b (set s j 1) (drawn k l t i (set s j 1))) →
           SameFrom b s (cases y (on_found (across_row l t j) (λ i. drawn k l t i (set s j 1)) (set s j 1)) s)
@@ -143,9 +108,9 @@ module _ (l : List ℕ) (t b : ℕ) (u : t ≤ b) where
   unfolding draw_across
   across-kept x y s = go (lowest (arrow_at l y x) 0 t) refl
     where
-      go : (w : Found) → lowest (arrow_at l y x) 0 t ≡ w → SameFrom b s (on_found w (λ j. draws l t j s) s)
-      go (At j) e = draws-kept j s (lowest-below (arrow_at l y x) t j e)
-      go Nothing e = (refl, refl)
+      go : (w : Option ℕ) → lowest (arrow_at l y x) 0 t ≡ w → SameFrom b s (on_found w (λ j. draws l t j s) s)
+      go (Some j) e = draws-kept j s (lowest-below (arrow_at l y x) t j e)
+      go None e = (refl, refl)
 
   sides-kept : (w : Tri) (s : List ℕ) → SameFrom b s (draw_sides l t w s)
   unfolding draw_sides

@@ -1,7 +1,6 @@
 -- The rows that are split, as notes of 1: a row with a starting edge, the row across its refinement edge, the row across that one's, and
 -- so on. Then which edges start. Assumes nothing.
-use Rattle.std.specs.Prelude.{List, [], ◌∷◌, ℕ, zero, suc, eqb, get_or, set}
-use Rattle.lists.specs.declared.Found.{Found}
+use Rattle.std.specs.Prelude.{List, [], ◌∷◌, ℕ, zero, suc, eqb, get_or, set, Option}
 use Rattle.lists.specs.Lists.{cases}
 use Rattle.lists.specs.Search.{lowest, iter}
 use Rattle.meaning.specs.declared.Tri.{Tri}
@@ -12,7 +11,7 @@ use Rattle.tables.specs.Arrow.{arrow_at}
 pub use Rattle.lists.specs.Lists.{on_found}
 
 -- the row across the refinement edge of row i: the one that holds r→q
-unfoldable pub across_row : List ℕ → ℕ → ℕ → Found
+unfoldable pub across_row : List ℕ → ℕ → ℕ → Option ℕ
 across_row l t i = lowest (arrow_at l (row_at l i).r (row_at l i).q) 0 t
 
 -- how many notes are 0

@@ -1,11 +1,9 @@
 -- Rows of a table and their edges: where every directed edge occurs once, a row that has another's refinement edge is that row or the
 -- one across. Assumes nothing.
-use Rattle.std.specs.Prelude.{◌≡◌, refl, ◌⊎◌, true, ℕ, ◌<◌, min, max, eqb, length}
+use Rattle.std.specs.Prelude.{◌≡◌, refl, ◌⊎◌, true, ℕ, ◌<◌, min, max, eqb, length, Option, Some, None}
 use Rattle.std.proofs.Common.{sym, ap, ◌∙◌, subst, inl, inr, arith, eqb-true, eq-eqb}
 use mathlib.Core.List.{List, Memᴰ}
 use Rattle.std.proofs.Math.Decide.{ℕ_discrete}
-use Rattle.lists.specs.declared.Found.{Found}
-use Rattle.lists.specs.declared.Found.TheVariants.{At, Nothing}
 use Rattle.lists.specs.ListsLaw.{clash, and_both, and_left, and_right, any_at, any-row, All-at}
 use Rattle.lists.specs.Search.{lowest, items}
 use Rattle.lists.specs.SearchLaw.{lowest-below, lowest-true, lowest-nothing}
@@ -87,41 +85,41 @@ side-at l i s = side-holds (row_at l i) s
 
 module _ (l : List ℕ) (t : ℕ) (once : OnceAt l t) where
   -- the row that holds x→y is the one that is found
-  pub found-is : (i x y : ℕ) → i < t → Side (row_at l i) x y → lowest (arrow_at l x y) 0 t ≡ At i
+  pub found-is : (i x y : ℕ) → i < t → Side (row_at l i) x y → lowest (arrow_at l x y) 0 t ≡ Some i
   found-is i x y h s = go (lowest (arrow_at l x y) 0 t) refl
     where
-      go : (w : Found) → lowest (arrow_at l x y) 0 t ≡ w → w ≡ At i
-      go Nothing e = clash (sym (side-at l i s) ∙ lowest-nothing (arrow_at l x y) t i e h)
-      go (At j) e = ap At (once j i x y (lowest-below (arrow_at l x y) t j e) h (lowest-true (arrow_at l x y) t j e) (side-at l i s))
+      go : (w : Option ℕ) → lowest (arrow_at l x y) 0 t ≡ w → w ≡ Some i
+      go None e = clash (sym (side-at l i s) ∙ lowest-nothing (arrow_at l x y) t i e h)
+      go (Some j) e = ap Some (once j i x y (lowest-below (arrow_at l x y) t j e) h (lowest-true (arrow_at l x y) t j e) (side-at l i s))
 
-  pub found_side : (i x y : ℕ) → lowest (arrow_at l x y) 0 t ≡ At i → (i < t) × Side (row_at l i) x y
+  pub found_side : (i x y : ℕ) → lowest (arrow_at l x y) 0 t ≡ Some i → (i < t) × Side (row_at l i) x y
   unfolding arrow_at
   found_side i x y e = (lowest-below (arrow_at l x y) t i e, holds-side (row_at l i) x y (lowest-true (arrow_at l x y) t i e))
 
   -- a row with an edge of row j is row j, or the one across that edge
   pub beside : (i j x y : ℕ) (e : Edge) → i < t → j < t → Memᴰ e (edges (row_at l i)) → Side (row_at l j) x y → e ≡ edge x y →
-      (i ≡ j) ⊎ (lowest (arrow_at l y x) 0 t ≡ At i)
+      (i ≡ j) ⊎ (lowest (arrow_at l y x) 0 t ≡ Some i)
   beside i j x y e h k m side q = go (edge-side (row_at l i) e m)
     where
-      go : (a : ℕ) × (b : ℕ) × Side (row_at l i) a b × (e ≡ edge a b) → (i ≡ j) ⊎ (lowest (arrow_at l y x) 0 t ≡ At i)
+      go : (a : ℕ) × (b : ℕ) × Side (row_at l i) a b × (e ≡ edge a b) → (i ≡ j) ⊎ (lowest (arrow_at l y x) 0 t ≡ Some i)
       go (a, b, s, f) = ends (edge-ends x y a b (sym q ∙ f))
         where
-          ends : ((x ≡ a) × (y ≡ b)) ⊎ ((x ≡ b) × (y ≡ a)) → (i ≡ j) ⊎ (lowest (arrow_at l y x) 0 t ≡ At i)
+          ends : ((x ≡ a) × (y ≡ b)) ⊎ ((x ≡ b) × (y ≡ a)) → (i ≡ j) ⊎ (lowest (arrow_at l y x) 0 t ≡ Some i)
           ends (inl (c, d)) = inl (once i j a b h k (side-at l i s) (rw (← c, ← d) (side-at l j side)))
           ends (inr (c, d)) = inr (rw (c, d) (found-is i a b h s))
 
   -- across its refinement edge
-  pub adjacent : (i j : ℕ) (e : Edge) → i < t → j < t → Memᴰ e (edges (row_at l i)) → base (row_at l j) ≡ e → (i ≡ j) ⊎ (across_row l t j ≡ At i)
+  pub adjacent : (i j : ℕ) (e : Edge) → i < t → j < t → Memᴰ e (edges (row_at l i)) → base (row_at l j) ≡ e → (i ≡ j) ⊎ (across_row l t j ≡ Some i)
   unfolding across_row
   adjacent i j e h k m q = beside i j (row_at l j).q (row_at l j).r e h k m side-m (sym q)
 
   -- the row across an edge has that edge
-  pub found-has : (i x y : ℕ) → lowest (arrow_at l y x) 0 t ≡ At i → (i < t) × Memᴰ (edge x y) (edges (row_at l i))
+  pub found-has : (i x y : ℕ) → lowest (arrow_at l y x) 0 t ≡ Some i → (i < t) × Memᴰ (edge x y) (edges (row_at l i))
   found-has i x y e =
       let r = found_side i y x e in
       (r.0, subst (λ (d : Edge). Memᴰ d (edges (row_at l i))) (edge-comm y x) (side-edge (row_at l i) r.1))
 
-  pub across-has : (i j : ℕ) → across_row l t j ≡ At i → (i < t) × Memᴰ (base (row_at l j)) (edges (row_at l i))
+  pub across-has : (i j : ℕ) → across_row l t j ≡ Some i → (i < t) × Memᴰ (base (row_at l j)) (edges (row_at l i))
   unfolding across_row
   across-has i j e = found-has i (row_at l j).q (row_at l j).r e
 

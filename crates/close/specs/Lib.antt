@@ -3,3 +3,4 @@ pub mod DrawLaw
 pub mod EdgeLaw
 pub mod ChainLaw
 pub mod CloseLaw
+pub mod Steps

@@ -7,21 +7,21 @@ ghost use Rattle.lists.specs.Search.{iter};
 ghost use Rattle.neighbours.specs.Ready.{Ready};
 ghost use Rattle.close.specs.Drawn.{across_row, draws, draw_across, draw_sides, draw_from, draw_marked, start_note, note_start, closed_notes};
 
-use lists::Found;
 use meaning::{Manner, Tri};
+use neighbours::Search;
 
 // The row across the refinement edge of row i.
-fn across(rows: &[u32], scratch: &[u32], nc: usize, t: usize, i: usize) -> Found
-    requires i_lt_t { i < t }
-    requires t_in_bounds { 3 * t ≤ length rows.now }
-    requires ready { Ready scratch.now nc rows.now t }
-    ensures { result ≡ across_row rows.now t i }
+fn across(search: Search, i: usize) -> Option<usize>
+    requires i_lt_t { i < search.t }
+    requires t_in_bounds { 3 * search.t ≤ length search.rows.now }
+    ensures { result ≡ across_row search.entry.rows.now search.entry.t i }
 {
-    let w = tables::row_at(rows, i);
-    neighbours::find_edge(rows, scratch, nc, t, w.r, w.q)
+    let w = tables::row_at(search.rows, i);
+    search.find_edge(w.r, w.q)
 }
 
 // Row i is split, and so is the row across its refinement edge, and so on, up to one that was split before.
+// Stays: here and below the tables one by one, and no search: scratch is written between two searches.
 fn draw(rows: &[u32], scratch: &mut [u32], nc: usize, t: usize, i: usize)
     requires i_lt_t { i < t }
     requires t_in_bounds { 3 * t ≤ length rows.now }
@@ -32,14 +32,16 @@ fn draw(rows: &[u32], scratch: &mut [u32], nc: usize, t: usize, i: usize)
     let mut j = i;
     while scratch[j] == 0 {
         tables::put_note(scratch, j, 1);
-        match across(rows, scratch, nc, t, j) {
-            Found::At(k) => {
-                j = k;
-            }
-            Found::Nothing => {
-                return;
-            }
-        }
+        let search = Search {
+            rows,
+            scratch,
+            nc,
+            t,
+        };
+        let Some(k) = across(search, j) else {
+            return;
+        };
+        j = k;
     }
 }
 
@@ -50,11 +52,14 @@ fn draw_across(rows: &[u32], scratch: &mut [u32], nc: usize, t: usize, x: u32, y
     requires ready { Ready scratch.old nc rows.now t }
     ensures { scratch.new ≡ draw_across rows.now t x y scratch.old }
 {
-    match neighbours::find_edge(rows, scratch, nc, t, y, x) {
-        Found::At(j) => {
-            draw(rows, scratch, nc, t, j);
-        }
-        Found::Nothing => {}
+    let search = Search {
+        rows,
+        scratch,
+        nc,
+        t,
+    };
+    if let Some(j) = search.find_edge(y, x) {
+        draw(rows, scratch, nc, t, j);
     }
 }
 
@@ -78,11 +83,8 @@ fn draw_from(rows: &[u32], scratch: &mut [u32], nc: usize, t: usize, i: usize, m
     ensures { scratch.new ≡ draw_from manner rows.now t i scratch.old }
 {
     draw(rows, scratch, nc, t, i);
-    match manner {
-        Manner::Newest => {}
-        Manner::AllThree => {
-            draw_sides(rows, scratch, nc, t, tables::row_at(rows, i));
-        }
+    if let Manner::AllThree = manner {
+        draw_sides(rows, scratch, nc, t, tables::row_at(rows, i));
     }
 }
 
@@ -115,10 +117,8 @@ fn draw_all(rows: &[u32], scratch: &mut [u32], nc: usize, t: usize, marks: &[u8]
     requires ready { Ready scratch.old nc rows.now t }
     ensures { scratch.new ≡ iter (draw_marked manner rows.now t marks.now) 0 t scratch.old }
 {
-    let mut i = 0;
-    while i < t {
+    for i in 0..t {
         draw_marked(rows, scratch, nc, t, marks, i, manner);
-        i += 1;
     }
 }
 
@@ -149,10 +149,8 @@ fn note_starts(scratch: &mut [u32], t: usize, marks: &[u8], manner: Manner)
     requires t_in_bounds_2 { t ≤ length marks.now }
     ensures { scratch.new ≡ iter (note_start manner marks.now) 0 t scratch.old }
 {
-    let mut i = 0;
-    while i < t {
+    for i in 0..t {
         note_start(scratch, marks, i, manner);
-        i += 1;
     }
 }
 

@@ -1,1 +1,2 @@
 pub mod Coarsen
+pub mod Steps

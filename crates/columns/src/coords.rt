@@ -1,11 +1,13 @@
-// Coordinates along one axis: y, or x.
-ghost use Rattle.std.specs.Prelude.{◌≡◌, ◌≤◌, min, max, nat_abs};
+// Coordinates along one axis.
+ghost use Rattle.std.specs.Prelude.{◌≡◌, ◌≤◌, nat_abs};
 ghost use Rattle.meaning.specs.Lawful.{InRange};
 ghost use Rattle.meaning.specs.Tables.{place_at};
 ghost use Rattle.laws.specs.Meshes.{Stands, Standing};
+ghost use Rattle.columns.specs.Axis.{is_y};
 ghost use Rattle.columns.specs.Columns.{shifted, along};
 ghost use Rattle.columns.specs.Coords.{corners_of};
 
+use crate::Axis;
 use meaning::{Place, Tri};
 
 // What the three corners of a row have along an axis.
@@ -21,57 +23,34 @@ fn shifted(z: i32) -> u32
     ensures is { nat_abs z ≤ 1_048_576 → result ≡ shifted z }
     ensures most { result ≤ 2_097_152 }
 {
-    if z < -1048576 {
-        return 0;
-    }
-    if z > 1048576 {
-        return 2097152;
-    }
-    (z + 1048576) as u32
+    (z.clamp(-1_048_576, 1_048_576) + 1_048_576).cast_unsigned()
 }
 
-pub fn along(y: bool, a: Place) -> u32
-    ensures is { InRange a → result ≡ along y a }
+pub fn along(axis: Axis, a: Place) -> u32
+    ensures is { InRange a → result ≡ along (is_y axis) a }
     ensures most { result ≤ 2_097_152 }
 {
-    if y {
-        return shifted(a.y);
-    }
-    shifted(a.x)
+    shifted(match axis {
+        Axis::X => a.x,
+        Axis::Y => a.y,
+    })
 }
 
 // Of node k.
-fn along_at(nodes: &[i32], y: bool, k: u32) -> u32
+fn along_at(nodes: &[i32], axis: Axis, k: u32) -> u32
     requires { Stands nodes.now k }
-    ensures { result ≡ along y (place_at nodes.now k) }
+    ensures { result ≡ along (is_y axis) (place_at nodes.now k) }
 {
-    along(y, tables::corner(nodes, k))
+    along(axis, tables::corner(nodes, k))
 }
 
-pub fn corners(nodes: &[i32], y: bool, w: Tri) -> Three
+pub fn corners(nodes: &[i32], axis: Axis, w: Tri) -> Three
     requires { Standing nodes.now w }
-    ensures { result ≡ corners_of y (place_at nodes.now) w }
+    ensures { result ≡ corners_of (is_y axis) (place_at nodes.now) w }
 {
-    let p = along_at(nodes, y, w.p);
-    let q = along_at(nodes, y, w.q);
-    let r = along_at(nodes, y, w.r);
-    Three { p, q, r }
-}
-
-pub fn lesser(a: u32, b: u32) -> u32
-    ensures { result ≡ min a b }
-{
-    if a < b {
-        return a;
+    Three {
+        p: along_at(nodes, axis, w.p),
+        q: along_at(nodes, axis, w.q),
+        r: along_at(nodes, axis, w.r),
     }
-    b
-}
-
-pub fn greater(a: u32, b: u32) -> u32
-    ensures { result ≡ max a b }
-{
-    if a < b {
-        return b;
-    }
-    a
 }

@@ -2,7 +2,7 @@
 ghost use Rattle.std.specs.Prelude.{◌≡◌, ◌+◌, ◌*◌, ◌≤◌, ◌<◌, length};
 ghost use Rattle.columns.specs.Coords.{Reaches};
 
-use crate::Scale;
+use crate::{Axis, Scale, coords};
 
 // The least and the greatest coordinate.
 #[derive(Clone, Copy)]
@@ -11,31 +11,55 @@ pub struct Extent {
     pub most: u32,
 }
 
-// v is taken in.
-fn wider(e: Extent, v: u32) -> Extent
-    requires { Reaches e × (v ≤ 2_097_152) }
-    ensures { Reaches result }
-{
-    let least = crate::coords::lesser(e.least, v);
-    let most = crate::coords::greater(e.most, v);
-    Extent { least, most }
+impl Extent {
+    // v is taken in.
+    fn wider(self, v: u32) -> Extent
+        requires { Reaches self × (v ≤ 2_097_152) }
+        ensures { Reaches result }
+    {
+        Extent {
+            least: self.least.min(v),
+            most: self.most.max(v),
+        }
+    }
+
+    // How far the nodes reach.
+    pub fn range(self) -> u32
+        requires { Reaches self }
+        ensures { result ≤ 2_097_152 }
+    {
+        self.most - self.least
+    }
+
+    // n columns.
+    pub fn cut(self, axis: Axis, n: usize) -> Scale
+        requires n_nonzero { 0 < n }
+        requires reaches { Reaches self }
+        ensures count { result.count ≡ n }
+        ensures width { 0 < result.width }
+    {
+        Scale {
+            axis,
+            from: self.least,
+            width: width_of(self.range(), n),
+            count: n,
+        }
+    }
 }
 
-// Of the first n nodes, along y or x.
-pub fn extent_of(nodes: &[i32], n: usize, y: bool) -> Extent
+// Of the first n nodes.
+pub fn extent_of(nodes: &[i32], n: usize, axis: Axis) -> Extent
     requires n_nonzero { 0 < n }
     requires n_in_bounds { 4 * n ≤ length nodes.now }
     ensures { Reaches result }
 {
-    let first = crate::coords::along(y, tables::place_at(nodes, 0));
+    let first = coords::along(axis, tables::place_at(nodes, 0));
     let mut e = Extent {
         least: first,
         most: first,
     };
-    let mut k = 1;
-    while k < n {
-        e = wider(e, crate::coords::along(y, tables::place_at(nodes, k)));
-        k += 1;
+    for k in 1..n {
+        e = e.wider(coords::along(axis, tables::place_at(nodes, k)));
     }
     e
 }
@@ -47,20 +71,4 @@ fn width_of(range: u32, n: usize) -> u32
     ensures { 0 < result }
 {
     (range as usize / n) as u32 + 1
-}
-
-// n columns.
-pub fn cut(tall: bool, e: Extent, n: usize) -> Scale
-    requires n_nonzero { 0 < n }
-    requires reaches { Reaches e }
-    ensures count { result.count ≡ n }
-    ensures width { 0 < result.width }
-{
-    let width = width_of(e.most - e.least, n);
-    Scale {
-        tall,
-        from: e.least,
-        width,
-        count: n,
-    }
 }

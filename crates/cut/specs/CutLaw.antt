@@ -1,15 +1,12 @@
 -- The code's turns, in the form of their needs. Assumes nothing.
-use Rattle.std.specs.Prelude.{◌≡◌, ℕ, zero, suc, ◌+◌, ◌-◌, ◌*◌, ◌≤◌, ◌<◌, eqb}
+use Rattle.std.specs.Prelude.{◌≡◌, ℕ, zero, suc, ◌+◌, ◌-◌, ◌*◌, ◌≤◌, ◌<◌, Option, Some, None}
 use Rattle.std.proofs.Math.Path.{refl, ap}
 use Rattle.std.proofs.Common.{sym, ◌∙◌}
 use mathlib.Core.List.{List, [], map}
-use Rattle.std.proofs.Math.Option.{Option, none, some}
 use native.Mathlib.Omega.{arith}
 use Rattle.std.proofs.Math.ListN.{length}
-use Rattle.lists.specs.declared.Found.{Found}
-use Rattle.lists.specs.declared.Found.TheVariants.{At, Nothing}
 use Rattle.lists.specs.Lists.{joined}
-use Rattle.lists.specs.Search.{items, iter, lowest}
+use Rattle.lists.specs.Search.{items, iter}
 use Rattle.lists.specs.ItemsLaw.{items-cons, items-none, items-split, items-agree, sum_to, sum-none, sum_more, sum-le, sum-few}
 use Rattle.meaning.specs.declared.Tri.{Tri}
 use Rattle.meaning.specs.declared.Mids.{Mids}
@@ -24,10 +21,10 @@ use Rattle.notes.specs.Notes.{mids_at}
 use Rattle.notes.specs.NotesLaw.{note-bits}
 use Rattle.notes.specs.AgreeLaw.{mids-agree}
 use Rattle.cut.specs.declared.Children.{Children}
-use Rattle.cut.specs.Cutting.{opt, cut_by, children, append, placed, put_rows, put_cut, cut_at, added_at, cut_all, splits, wholly_at, red_at}
+use Rattle.cut.specs.Cutting.{opt, cut_by, children, append, placed, put_rows, put_cut, cut_at, added_at, cut_all, splits}
 use Rattle.cut.specs.PutRowsLaw.{length-put, put-below, put-above, put-rows, placed-put}
 
-pub opt-yes : (a : ℕ) → (a ≡ 0 → ⊥) → opt a ≡ some a
+pub opt-yes : (a : ℕ) → (a ≡ 0 → ⊥) → opt a ≡ Some a
 opt-yes zero h = absurd (h refl)
 opt-yes (suc a) h = refl
 
@@ -39,44 +36,44 @@ module _ (w : Tri) (k : Mids) where
   cut-none Bisected e = rw e
   cut-none Red e = rw e
 
-  pub cut-m : (q : Quarters) → (k.m ≡ 0 → ⊥) → k.u ≡ 0 → k.v ≡ 0 → children (bisected w (some k.m) none none) ≡ children (cut_by q w k)
+  pub cut-m : (q : Quarters) → (k.m ≡ 0 → ⊥) → k.u ≡ 0 → k.v ≡ 0 → children (bisected w (Some k.m) None None) ≡ children (cut_by q w k)
   unfolding cut_by
   cut-m Bisected e f g = rw (opt-yes k.m e, f, g)
   cut-m Red e f g = rw (opt-yes k.m e, f, g)
 
-  pub cut-mv : (q : Quarters) → (k.m ≡ 0 → ⊥) → k.u ≡ 0 → (k.v ≡ 0 → ⊥) → children (bisected w (some k.m) none (some k.v)) ≡ children (cut_by q w k)
+  pub cut-mv : (q : Quarters) → (k.m ≡ 0 → ⊥) → k.u ≡ 0 → (k.v ≡ 0 → ⊥) → children (bisected w (Some k.m) None (Some k.v)) ≡ children (cut_by q w k)
   unfolding cut_by
   cut-mv Bisected e f g = rw (opt-yes k.m e, f, opt-yes k.v g)
   cut-mv Red e f g = rw (opt-yes k.m e, f, opt-yes k.v g)
 
-  pub cut-mu : (q : Quarters) → (k.m ≡ 0 → ⊥) → (k.u ≡ 0 → ⊥) → k.v ≡ 0 → children (bisected w (some k.m) (some k.u) none) ≡ children (cut_by q w k)
+  pub cut-mu : (q : Quarters) → (k.m ≡ 0 → ⊥) → (k.u ≡ 0 → ⊥) → k.v ≡ 0 → children (bisected w (Some k.m) (Some k.u) None) ≡ children (cut_by q w k)
   unfolding cut_by
   cut-mu Bisected e f g = rw (opt-yes k.m e, opt-yes k.u f, g)
   cut-mu Red e f g = rw (opt-yes k.m e, opt-yes k.u f, g)
 
-  pub cut-bisected : (q : Quarters) → (k.m ≡ 0 → ⊥) → (k.u ≡ 0 → ⊥) → (k.v ≡ 0 → ⊥) → q ≡ Bisected → children (bisected w (some k.m) (some k.u) (some k.v)) ≡ children (cut_by q w k)
+  pub cut-bisected : (q : Quarters) → (k.m ≡ 0 → ⊥) → (k.u ≡ 0 → ⊥) → (k.v ≡ 0 → ⊥) → q ≡ Bisected → children (bisected w (Some k.m) (Some k.u) (Some k.v)) ≡ children (cut_by q w k)
   unfolding cut_by
   cut-bisected q e f g h = rw (opt-yes k.m e, opt-yes k.u f, opt-yes k.v g, h)
 
-  pub cut-red : (q : Quarters) → (k.m ≡ 0 → ⊥) → (k.u ≡ 0 → ⊥) → (k.v ≡ 0 → ⊥) → q ≡ Red → children (red w (some k.m) (some k.u) (some k.v)) ≡ children (cut_by q w k)
+  pub cut-red : (q : Quarters) → (k.m ≡ 0 → ⊥) → (k.u ≡ 0 → ⊥) → (k.v ≡ 0 → ⊥) → q ≡ Red → children (red w (Some k.m) (Some k.u) (Some k.v)) ≡ children (cut_by q w k)
   unfolding cut_by
   cut-red q e f g h = rw (opt-yes k.m e, opt-yes k.u f, opt-yes k.v g, h)
 
 -- however a triangle with all three edges split is cut, as many rows are added
 pub as_many : (q : Quarters) (w : Tri) (a b c : Option ℕ) → length (cutting_of q w a b c).added ≡ length (bisected w a b c).added
 as_many Bisected w a b c = refl
-as_many Red w none b c = refl
-as_many Red w (some m) none c = refl
-as_many Red w (some m) (some u) none = refl
-as_many Red w (some m) (some u) (some v) = refl
+as_many Red w None b c = refl
+as_many Red w (Some m) None c = refl
+as_many Red w (Some m) (Some u) None = refl
+as_many Red w (Some m) (Some u) (Some v) = refl
 
 -- a cut adds three rows at most
 few-for : (w : Tri) (a b c : Option ℕ) → length (bisected w a b c).added ≤ 3
-few-for w none b c = omega arith
-few-for w (some m) none none = omega arith
-few-for w (some m) none (some v) = omega arith
-few-for w (some m) (some u) none = omega arith
-few-for w (some m) (some u) (some v) = omega arith
+few-for w None b c = omega arith
+few-for w (Some m) None None = omega arith
+few-for w (Some m) None (Some v) = omega arith
+few-for w (Some m) (Some u) None = omega arith
+few-for w (Some m) (Some u) (Some v) = omega arith
 
 added-few : (q : Quarters) (n : ℕ) (l s : List ℕ) (i : ℕ) → added_at q n l s i ≤ 3
 unfolding added_at cut_at cut_by
@@ -318,25 +315,3 @@ count_turn s t i r a e f = let k = sum_more (splits s) i in omega arith
 
 pub count-start : (s : List ℕ) (t : ℕ) → t ≡ t + sum_to (splits s) 0
 count-start s t = let k = sum-none (splits s) in omega arith
-
-pub count-end : (s : List ℕ) (t i r : ℕ) → i ≤ t → t ≤ i → r ≡ t + sum_to (splits s) i → r ≡ t + sum_to (splits s) t
-count-end s t i r h k e = let q : i ≡ t = omega arith in rw q at e
-
--- ---- red cuts
-
-pub wholly-is : (s : List ℕ) (i a : ℕ) → a ≡ splits s i → eqb a 3 ≡ wholly_at s i
-unfolding wholly_at
-wholly-is s i a e = rw e
-
-pub red-never : (q : Quarters) (s : List ℕ) (t : ℕ) → q ≡ Bisected → 0 ≡ red_at q s t
-unfolding red_at
-red-never q s t e = rw e
-
-module _ (q : Quarters) (s : List ℕ) (t : ℕ) (e : q ≡ Red) (f : Found) (g : f ≡ lowest (wholly_at s) 0 t) where
-  pub red-some : (i : ℕ) → f ≡ At i → 1 ≡ red_at q s t
-  unfolding red_at
-  red-some i h = rw (e, ← g, h)
-
-  pub red-none : f ≡ Nothing → 0 ≡ red_at q s t
-  unfolding red_at
-  red-none h = rw (e, ← g, h)

@@ -1,7 +1,6 @@
 -- The cut of one triangle as twelve numbers and a count, in a table, and of all rows. Assumes nothing.
-use Rattle.std.specs.Prelude.{Bool, List, [], ◌∷◌, ◌++◌, map, ℕ, zero, suc, ◌+◌, ◌-◌, ◌*◌, eqb, length, replicate}
-use Rattle.std.proofs.Math.Option.{Option, none, some}
-use Rattle.lists.specs.Lists.{cases, is_found, joined}
+use Rattle.std.specs.Prelude.{Bool, List, [], ◌∷◌, ◌++◌, map, ℕ, zero, suc, ◌+◌, ◌-◌, ◌*◌, eqb, length, replicate, is_some, Option, None, Some}
+use Rattle.lists.specs.Lists.{cases, joined}
 use Rattle.lists.specs.Search.{iter, lowest}
 use Rattle.meaning.specs.declared.Tri.{Tri}
 use Rattle.meaning.specs.declared.Mids.{Mids}
@@ -18,8 +17,8 @@ use Rattle.cut.specs.declared.Children.{Children}
 
 -- a number of a node, where 0 says that the edge is not split
 abbrev pub opt : ℕ → Option ℕ
-opt zero = none
-opt (suc k) = some (suc k)
+opt zero = None
+opt (suc k) = Some (suc k)
 
 -- the triangle w cut at the nodes numbered k
 unfoldable pub cut_by : Quarters → Tri → Mids → Cut
@@ -80,4 +79,4 @@ wholly_at s i = eqb (splits s i) 3
 -- W8: 1 when a red cut is made of t rows, "else 0", by their notes
 unfoldable pub red_at : Quarters → List ℕ → ℕ → ℕ
 red_at Bisected s t = 0
-red_at Red s t = cases (is_found (lowest (wholly_at s) 0 t)) 1 0
+red_at Red s t = cases (is_some (lowest (wholly_at s) 0 t)) 1 0

@@ -2,3 +2,4 @@ pub mod Cutting
 pub mod PutRowsLaw
 pub mod CutLaw
 pub mod MeshLaw
+pub mod Steps

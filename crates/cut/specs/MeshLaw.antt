@@ -1,10 +1,8 @@
 -- All rows cut are the rows of the refined mesh, where the notes say its numbers; and their count. Assumes nothing.
-use Rattle.std.specs.Prelude.{Bool, true, false, ◌&&◌, ◌≡◌, refl, List, [], ◌∷◌, ◌++◌, map, ℕ, zero, suc, ◌+◌, ◌-◌, ◌<◌, eqb, length}
+use Rattle.std.specs.Prelude.{Bool, true, false, ◌&&◌, ◌≡◌, refl, List, [], ◌∷◌, ◌++◌, map, ℕ, zero, suc, ◌+◌, ◌-◌, ◌<◌, eqb, length, Option, Some, None, is_some}
 use Rattle.std.proofs.Common.{sym, ap, ◌∙◌, append-nil, arith, length-append}
 use Rattle.std.proofs.lemmas.List.{length-map}
-use Rattle.lists.specs.declared.Found.{Found}
-use Rattle.lists.specs.declared.Found.TheVariants.{At, Nothing}
-use Rattle.lists.specs.Lists.{cases, is_found, joined, where_first}
+use Rattle.lists.specs.Lists.{cases, joined, where_first}
 use Rattle.lists.specs.ListsLaw.{clash}
 use Rattle.lists.specs.AnyLaw.{any_where}
 use Rattle.lists.specs.Tally.{bit}
@@ -47,9 +45,9 @@ cut-all-as f q n l s t h =
 -- ---- document 01's numbers
 
 -- a number above 0 stands for itself
-opt-number : (n : ℕ) (o : Found) → 0 < n → opt (or_zero (plus n o)) ≡ plus n o
-opt-number n Nothing h = refl
-opt-number n (At k) h = opt-yes (n + k) (λ e. omega arith)
+opt-number : (n : ℕ) (o : Option ℕ) → 0 < n → opt (or_zero (plus n o)) ≡ plus n o
+opt-number n None h = refl
+opt-number n (Some k) h = opt-yes (n + k) (λ e. omega arith)
 
 cut-by-numbers : (q : Quarters) (n : ℕ) (es : List Edge) (w : Tri) → 0 < n → cut_by q w (numbers_of n es w) ≡ cut_of (cutting_of q) n es w
 unfolding cut_by
@@ -123,9 +121,9 @@ cut-all-length q n l s t =
 
 -- ---- document 01's count
 
-on-number : (n : ℕ) (o : Found) → 0 < n → bit (is_found o) ≡ on (or_zero (plus n o))
-on-number n Nothing h = refl
-on-number n (At k) h = sym (on_some (n + k) (omega arith))
+on-number : (n : ℕ) (o : Option ℕ) → 0 < n → bit (is_some o) ≡ on (or_zero (plus n o))
+on-number n None h = refl
+on-number n (Some k) h = sym (on_some (n + k) (omega arith))
   where
     on_some : (j : ℕ) → 0 < j → on j ≡ 1
     on_some zero g = absurd (omega arith)
@@ -134,16 +132,16 @@ on-number n (At k) h = sym (on_some (n + k) (omega arith))
 unsplit-zero : (n : ℕ) (es : List Edge) (e : Edge) → mem_edge e es ≡ false → or_zero (number_of n es e) ≡ 0
 unsplit-zero n es e h = go (where_first (same_edge e) es) (sym (any_where (same_edge e) es) ∙ h)
   where
-    go : (o : Found) → is_found o ≡ false → or_zero (plus n o) ≡ 0
-    go (At k) g = clash g
-    go Nothing g = refl
+    go : (o : Option ℕ) → is_some o ≡ false → or_zero (plus n o) ≡ 0
+    go (Some k) g = clash g
+    go None g = refl
 
 zero-unsplit : (n : ℕ) (es : List Edge) (e : Edge) → 0 < n → or_zero (number_of n es e) ≡ 0 → mem_edge e es ≡ false
 zero-unsplit n es e z h = any_where (same_edge e) es ∙ go (where_first (same_edge e) es) h
   where
-    go : (o : Found) → or_zero (plus n o) ≡ 0 → is_found o ≡ false
-    go (At k) g = absurd (omega arith)
-    go Nothing g = refl
+    go : (o : Option ℕ) → or_zero (plus n o) ≡ 0 → is_some o ≡ false
+    go (Some k) g = absurd (omega arith)
+    go None g = refl
 
 -- a note that says which edges are among es tells the numbers of the definition
 tells-numbers : (n : ℕ) (es : List Edge) (w : Tri) (c : Note) → 0 < n → Says (λ e. mem_edge e es) w c →

@@ -8,13 +8,14 @@ ghost use Rattle.lists.specs.ItemsLaw.{sum_to};
 ghost use Rattle.meaning.specs.Tables.{row_at};
 ghost use Rattle.neighbours.specs.Ready.{Ready};
 ghost use Rattle.notes.specs.Notes.{Short};
-ghost use Rattle.cut.specs.Cutting.{cut_by, children, append, placed, cut_at, added_at, put_cut, cut_all, splits_of, splits, wholly_at, red_at};
+ghost use Rattle.cut.specs.Cutting.{cut_by, children, placed, cut_at, added_at, put_cut, cut_all, splits_of, splits, wholly_at, red_at};
 
-use lists::Found;
 use meaning::{Mids, Quarters, Tri};
+use neighbours::Search;
 use notes::Note;
 
 // The rows that one triangle yields, and their number.
+// Stays: twelve numbers and a count, document 01's form of a table's rows; the memory is fixed.
 #[derive(Clone, Copy)]
 struct Children {
     pub rows: [u32; 12],
@@ -26,40 +27,15 @@ struct Children {
 fn cut_of(w: Tri, k: Mids, quarters: Quarters) -> Children
     ensures { result ≡ children (cut_by quarters w k) }
 {
-    if k.m == 0 {
-        Children {
-            rows: [w.p, w.q, w.r, 0, 0, 0, 0, 0, 0, 0, 0, 0],
-            count: 1,
-        }
-    } else if k.u == 0 {
-        if k.v == 0 {
-            Children {
-                rows: [k.m, w.p, w.q, k.m, w.r, w.p, 0, 0, 0, 0, 0, 0],
-                count: 2,
-            }
-        } else {
-            Children {
-                rows: [k.m, w.p, w.q, k.v, k.m, w.r, k.v, w.p, k.m, 0, 0, 0],
-                count: 3,
-            }
-        }
-    } else if k.v == 0 {
-        Children {
-            rows: [k.u, k.m, w.p, k.m, w.r, w.p, k.u, w.q, k.m, 0, 0, 0],
-            count: 3,
-        }
-    } else {
-        match quarters {
-            Quarters::Bisected => Children {
-                rows: [k.u, k.m, w.p, k.v, k.m, w.r, k.u, w.q, k.m, k.v, w.p, k.m],
-                count: 4,
-            },
-            Quarters::Red => Children {
-                rows: [w.p, k.u, k.v, k.u, w.q, k.m, k.v, k.m, w.r, k.m, k.v, k.u],
-                count: 4,
-            },
-        }
-    }
+    let (rows, count) = match (k.m, k.u, k.v, quarters) {
+        (0, _, _, _) => ([w.p, w.q, w.r, 0, 0, 0, 0, 0, 0, 0, 0, 0], 1),
+        (m, 0, 0, _) => ([m, w.p, w.q, m, w.r, w.p, 0, 0, 0, 0, 0, 0], 2),
+        (m, 0, v, _) => ([m, w.p, w.q, v, m, w.r, v, w.p, m, 0, 0, 0], 3),
+        (m, u, 0, _) => ([u, m, w.p, m, w.r, w.p, u, w.q, m, 0, 0, 0], 3),
+        (m, u, v, Quarters::Bisected) => ([u, m, w.p, v, m, w.r, u, w.q, m, v, w.p, m], 4),
+        (m, u, v, Quarters::Red) => ([w.p, u, v, u, w.q, m, v, m, w.r, m, v, u], 4),
+    };
+    Children { rows, count }
 }
 
 // Row k of a cut.
@@ -74,28 +50,6 @@ fn child_at(numbers: &[u32; 12], k: usize) -> Tri
     }
 }
 
-fn place_one(rows: &mut [u32], at: usize, k: usize, numbers: &[u32; 12])
-    requires le_k { (1 ≤ k) × (k < 4) }
-    requires k_in_bounds { 3 * (at + k) ≤ length rows.old }
-    ensures { rows.new ≡ append numbers.now at k rows.old }
-{
-    let w = child_at(numbers, k);
-    tables::put_row(rows, at + k - 1, w);
-}
-
-// Rows 1 to count - 1 of a cut, from row `at` on.
-fn place_rest(rows: &mut [u32], at: usize, count: usize, numbers: &[u32; 12])
-    requires le_count { (1 ≤ count) × (count ≤ 4) }
-    requires count_in_bounds { 3 * (at + count - 1) ≤ length rows.old }
-    ensures { rows.new ≡ iter (append numbers.now at) 1 count rows.old }
-{
-    let mut k = 1;
-    while k < count {
-        place_one(rows, at, k, numbers);
-        k += 1;
-    }
-}
-
 // Row 0 of a cut on row i, the others from row `at` on.
 fn place(rows: &mut [u32], i: usize, at: usize, c: Children)
     requires le_count { (1 ≤ c.count) × (c.count ≤ 4) }
@@ -103,29 +57,20 @@ fn place(rows: &mut [u32], i: usize, at: usize, c: Children)
     requires count_in_bounds { 3 * (at + c.count - 1) ≤ length rows.old }
     ensures { rows.new ≡ placed c.rows c.count rows.old i at }
 {
-    let numbers = c.rows;
-    let count = c.count;
-    let w = child_at(&numbers, 0);
-    tables::put_row(rows, i, w);
-    place_rest(rows, at, count, &numbers);
+    tables::put_row(rows, i, child_at(&c.rows, 0));
+    for k in 1..c.count {
+        tables::put_row(rows, at + k - 1, child_at(&c.rows, k));
+    }
 }
 
-// The cut of row i.
-fn cut_at(
-    rows: &[u32],
-    scratch: &[u32],
-    nc: usize,
-    n: u32,
-    i: usize,
-    quarters: Quarters,
-) -> Children
+// The cut of the row after those of the search.
+fn cut_at(search: Search, n: u32, quarters: Quarters) -> Children
     requires n_bound { n ≤ 65_536 }
-    requires ready { Ready scratch.now nc rows.now i }
-    requires i_in_bounds { 3 * i + 3 ≤ length rows.now }
-    ensures { result ≡ children (cut_at quarters n rows.now scratch.now i) }
+    requires t_in_bounds { 3 * search.t + 3 ≤ length search.rows.now }
+    ensures { result ≡ children (cut_at quarters n search.entry.rows.now search.entry.scratch.now search.entry.t) }
 {
-    let w = tables::row_at(rows, i);
-    let k = notes::mids_of(rows, scratch, nc, n, i);
+    let w = tables::row_at(search.rows, search.t);
+    let k = notes::mids_of(search, n);
     cut_of(w, k, quarters)
 }
 
@@ -146,7 +91,13 @@ fn cut_row(
     ensures begin { result ≡ end - added_at quarters n rows.old scratch.now i }
     ensures table { rows.new ≡ put_cut (cut_at quarters n rows.old scratch.now i) i result rows.old }
 {
-    let c = cut_at(rows, scratch, nc, n, i, quarters);
+    let search = Search {
+        rows,
+        scratch,
+        nc,
+        t: i,
+    };
+    let c = cut_at(search, n, quarters);
     let at = end + 1 - c.count;
     place(rows, i, at, c);
     at
@@ -168,11 +119,9 @@ pub fn cut_rows(
     requires t1_in_bounds { 3 * t1 ≤ length rows.old }
     ensures { items (row_at rows.new) 0 t1 ≡ cut_all (items (cut_at quarters n rows.old scratch.now) 0 t) }
 {
-    let mut i = t;
     let mut end = t1;
-    while i > 0 {
-        end = cut_row(rows, scratch, nc, n, i - 1, end, quarters);
-        i -= 1;
+    for i in (0..t).rev() {
+        end = cut_row(rows, scratch, nc, n, i, end, quarters);
     }
 }
 
@@ -200,10 +149,8 @@ pub fn rows_after(scratch: &[u32], t: usize) -> usize
     ensures { result ≡ t + sum_to (splits scratch.now) t }
 {
     let mut r = t;
-    let mut i = 0;
-    while i < t {
+    for i in 0..t {
         r += added_at(scratch, i);
-        i += 1;
     }
     r
 }
@@ -219,18 +166,11 @@ fn wholly_at(scratch: &[u32], i: usize) -> bool
 }
 
 // The lowest row with all three edges split.
-fn find_wholly(scratch: &[u32], t: usize) -> Found
+fn find_wholly(scratch: &[u32], t: usize) -> Option<usize>
     requires { t ≤ length scratch.now }
     ensures { result ≡ lowest (wholly_at scratch.now) 0 t }
 {
-    let mut i = 0;
-    while i < t {
-        if wholly_at(scratch, i) {
-            return Found::At(i);
-        }
-        i += 1;
-    }
-    Found::Nothing
+    (0..t).find(|&i| wholly_at(scratch, i))
 }
 
 // W8: 1 when a red cut is made, else 0.
@@ -240,9 +180,6 @@ pub fn made_red(scratch: &[u32], t: usize, quarters: Quarters) -> u32
 {
     match quarters {
         Quarters::Bisected => 0,
-        Quarters::Red => match find_wholly(scratch, t) {
-            Found::At(_) => 1,
-            Found::Nothing => 0,
-        },
+        Quarters::Red => u32::from(find_wholly(scratch, t).is_some()),
     }
 }

@@ -2,9 +2,8 @@
 -- the calls themselves: mesh::check, mesh::refine, mesh::quarter, mesh::refine_red, mesh::coarsen, mesh::set_correction, mesh::correction_at (crates/mesh/src/lib.rt;
 -- the last in AskCall) and job::restore (crates/job/src/lib.rt). What `Answers`, `Holds` and `AsGiven` say of tables stands in crates/laws/specs/CallLaw.antt: `Answers` says of every
 -- call which number it gives and, W2, which node or row the culprit is (`Names` in crates/meaning/specs/Lawful.antt). Assumes nothing.
-use Rattle.std.specs.Prelude.{true, false, ◌↔◌, ◌≢◌, ◌⊎◌, ◌≡◌, refl, ℕ, zero, suc, ◌*◌, ◌/◌, ◌≤◌, ◌<◌, length, get_or, replicate}
+use Rattle.std.specs.Prelude.{true, false, ◌↔◌, ◌≢◌, ◌⊎◌, ◌≡◌, refl, ℕ, zero, suc, ◌*◌, ◌/◌, ◌≤◌, ◌<◌, length, get_or, replicate, Some}
 use mathlib.Core.List.{List, [], ◌∷◌, Memᴰ}
-use Rattle.std.proofs.Math.Option.{some}
 use Rattle.std.proofs.Common.{sym, subst, ap, ◌∙◌, arith}
 use Rattle.lists.specs.Lists.{All}
 use Rattle.lists.specs.IterLaw.{get_or-items}
@@ -92,7 +91,7 @@ pub record SameMesh (g : Given) (o : Outcome) : Type 0 where
 pub record CutRed (t : Tri) (i : ℕ) (new : Mesh) : Type 0 where
   pub in_four : InFour Red t i new
   -- "children shaped like the father"
-  pub shaped : All (ShapedLike new t) (parts (red t (some in_four.m) (some in_four.u) (some in_four.v)))
+  pub shaped : All (ShapedLike new t) (parts (red t (Some in_four.m) (Some in_four.u) (Some in_four.v)))
 
 -- a red refine, with the new field
 pub record RedMade (g : Given) (n0 : ℕ) (marks : List ℕ) (x : TintedOut) : Type 1 where

@@ -1,9 +1,8 @@
 -- W1: "a marked triangle cut in four at once"; W8: "a triangle with all three edges split becomes" four rows. After a refine that says 0, every triangle with all three edges
 -- split stands in the new mesh as four rows: those of bisecting it and both its halves, or the red ones, which are shaped like it. From all three edges every marked one is such.
 -- Assumes nothing.
-use Rattle.std.specs.Prelude.{true, ◌≡◌, refl, ℕ, ◌<◌, length, get_or}
+use Rattle.std.specs.Prelude.{true, ◌≡◌, refl, ℕ, ◌<◌, length, get_or, Option, None, Some}
 use mathlib.Core.List.{List, Memᴰ}
-use Rattle.std.proofs.Math.Option.{Option, none, some}
 use Rattle.std.proofs.Common.{ap, ◌∙◌, arith}
 use Rattle.lists.specs.Lists.{All}
 use Rattle.lists.specs.ListsLaw.{All-at, All-get_or, all_yes}
@@ -38,14 +37,14 @@ pub record InFour (q : Quarters) (t : Tri) (i : ℕ) (new : Mesh) : Type 0 where
   pub on-rp : Middle (at new v) (at new t.r) (at new t.p)
   -- the first in row i, the others in three later rows, in this order.
   -- 01: (u,m,p), then (v,m,r), (u,q,m), (v,p,m). W8: "(p,u,v) on the father's row and then (u,q,m), (v,m,r), (m,v,u) appended"
-  pub four-rows : Placed new.tris i (cutting_of q t (some m) (some u) (some v))
+  pub four-rows : Placed new.tris i (cutting_of q t (Some m) (Some u) (Some v))
 
 -- all three edges have a number
 four : (q : Quarters) {t : Tri} {i : ℕ} {new : Mesh} (o u v : Option ℕ) → there o ≡ 1 → there u ≡ 1 → there v ≡ 1 → Centred new t o u v → Placed new.tris i (cutting_of q t o u v) → InFour q t i new
-four q (some m) (some u) (some v) a b c h P = record { m = m; u = u; v = v; on-qr = h.on-qr; on-pq = h.on-pq; on-rp = h.on-rp; four-rows = P }
-four q none u v a b c h P = absurd (omega arith)
-four q (some m) none v a b c h P = absurd (omega arith)
-four q (some m) (some u) none a b c h P = absurd (omega arith)
+four q (Some m) (Some u) (Some v) a b c h P = record { m = m; u = u; v = v; on-qr = h.on-qr; on-pq = h.on-pq; on-rp = h.on-rp; four-rows = P }
+four q None u v a b c h P = absurd (omega arith)
+four q (Some m) None v a b c h P = absurd (omega arith)
+four q (Some m) (Some u) None a b c h P = absurd (omega arith)
 
 -- EVERY TRIANGLE WITH ALL THREE EDGES SPLIT IS CUT IN FOUR.
 pub wholly-in-four : (k : Manner) (q : Quarters) (room : Room) (m : Mesh) (marks : List ℕ) → refine_no (way_of k q) room m marks ≡ 0 → (i : ℕ) → i < length m.tris →
@@ -75,5 +74,5 @@ pub marked-in-four : (q : Quarters) (room : Room) (m : Mesh) (marks : List ℕ) 
 marked-in-four q room m marks e i l one = wholly-in-four AllThree q room m marks e i l (marked-wholly q m marks i l one)
 
 -- W8: "children shaped like the father"
-pub four-shaped : {t : Tri} {i : ℕ} {new : Mesh} (f : InFour Red t i new) → All (ShapedLike new t) (parts (red t (some f.m) (some f.u) (some f.v)))
+pub four-shaped : {t : Tri} {i : ℕ} {new : Mesh} (f : InFour Red t i new) → All (ShapedLike new t) (parts (red t (Some f.m) (Some f.u) (Some f.v)))
 four-shaped {t} {new = new} f = red-shaped new t f.m f.u f.v (record { on-qr = f.on-qr; on-pq = f.on-pq; on-rp = f.on-rp })

@@ -1,6 +1,6 @@
 -- What a line leaves fits the program: no line changes a table's length or brings a count past its room, and no answer is longer than
 -- the buffer. Assumes nothing.
-use Rattle.std.specs.Prelude.{◌≡◌, refl, Bool, true, false, List, [], ℕ, zero, suc, ◌*◌, ◌≤◌, eqb, pos}
+use Rattle.std.specs.Prelude.{◌≡◌, refl, Bool, true, false, List, [], Option, Some, None, ℕ, zero, suc, ◌*◌, ◌≤◌, eqb, pos}
 use Rattle.std.proofs.Math.Path.{ap}
 use Rattle.std.proofs.Common.{◌∙◌, arith, eqb-true}
 use Rattle.std.proofs.Math.ListN.{length}
@@ -8,7 +8,7 @@ use Rattle.std.proofs.lemmas.List.{length-replicate}
 use Rattle.lists.specs.Lists.{cases}
 use Rattle.lists.specs.ListsLaw.{and_right}
 use Rattle.meaning.specs.declared.Correction.{Correction}
-use Rattle.meaning.specs.declared.Fault.{Fault}
+use Rattle.meaning.specs.Fault.{Fault}
 use Rattle.meaning.specs.declared.Manner.{Manner}
 use Rattle.meaning.specs.declared.Quarters.{Quarters}
 use Rattle.meaning.specs.Mesh.{Mesh}
@@ -27,8 +27,6 @@ use Rattle.tables.specs.PutLaw.{length-set_node, length-set_row}
 use Rattle.text.specs.Digits.{field, listed}
 use Rattle.text.specs.Lines.{correction_in, node_in, row_in}
 use Rattle.text.specs.LinesAre.{correction-bounds, answer-longest, all-length}
-use Rattle.protocol.specs.declared.Refines.{Refines}
-use Rattle.protocol.specs.declared.Refines.TheVariants.{In, Never}
 use Rattle.protocol.specs.Frames.{Held, held, session, given_by, Step, step, refines_in, if_refines, well_formed, admits, takes, kind_of, fields_of, add_node, add_row, or_dropped, marks_of, called, session_after, answering, frame, line_step}
 use Rattle.fitting.specs.Lent.{WholeHeld}
 use Rattle.admit.specs.AdmitLaw.{node-room, row_room}
@@ -40,9 +38,9 @@ module _ {A : Type 0} (P : A → Type 0) where
   pick true p q = p
   pick false p q = q
 
-  pick-refining : (r : Refines) {f : Manner → Quarters → A} {y : A} → ((k : Manner) (q : Quarters) → P (f k q)) → P y → P (if_refines r f y)
-  pick-refining (In k q) p _ = p k q
-  pick-refining Never _ p = p
+  pick-refining : (r : Option (Manner × Quarters)) {f : Manner → Quarters → A} {y : A} → ((k : Manner) (q : Quarters) → P (f k q)) → P y → P (if_refines r f y)
+  pick-refining (Some way) p _ = p way.0 way.1
+  pick-refining None _ p = p
 
 pub of-called : (P : Outcome → Type 0) (h : Held) (kind : ℕ) (fields : List ℕ) → P (or_dropped (check_out (given_by h))) →
     ((k : Manner) (q : Quarters) (marks : List ℕ) → P (refine_out (way_of k q) (given_by h) h.session.n0 marks)) →

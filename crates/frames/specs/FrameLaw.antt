@@ -1,8 +1,8 @@
 -- Frames and whole lines, in the form in which the code takes them. Assumes nothing.
 use Rattle.std.specs.Prelude.{◌≡◌, Bool, true, false, not, List, ℕ, ◌+◌, ◌-◌, ◌*◌, ◌≤◌, ℤ, length, take, drop}
-use Rattle.std.proofs.Common.{sym, ap, ◌∙◌, arith}
-use borrow.Author.Tests.{ne_eqb, not-true, not-false}
-use Rattle.meaning.specs.declared.Node.{Node}
+use Rattle.std.proofs.Common.{refl, sym, ap, ◌∙◌, arith}
+use borrow.Author.Tests.{not-true, not-false}
+use Rattle.meaning.specs.declared.Node.{Node as Spot}
 use Rattle.meaning.specs.declared.Tinted.{Tinted}
 use Rattle.meaning.specs.declared.Tri.{Tri}
 use Rattle.meaning.specs.Tables.{outcome}
@@ -11,9 +11,12 @@ use Rattle.tables.specs.Put.{set_node, set_row}
 use Rattle.text.specs.Digits.{number}
 use Rattle.text.specs.Lines.{node_in, row_in, ff_line, answer_line, all_lines}
 use Rattle.text.specs.Writing.{Wrote, wrote, writes}
+use Rattle.protocol.specs.declared.Kind.{Kind}
+use Rattle.protocol.specs.declared.Kind.TheVariants.{Node, Row, Base, Refine, Coarsen, Restore, List as Show, Set, Quarter, Red}
 use Rattle.protocol.specs.declared.Session.{Session}
 use Rattle.frames.specs.declared.Answered.{Answered}
-use Rattle.protocol.specs.Frames.{Held, held, session, admits, takes, add_node, add_row, called, session_after, frame, line_step}
+use Rattle.protocol.specs.Frames.{Held, held, session, admits, takes, add_node, add_row, called, session_after, answering, frame, line_step}
+use Rattle.protocol.specs.Kinds.{code}
 use Rattle.fitting.specs.Lent.{Lent, writing, whole, Whole, whole_is, line_lent}
 use Rattle.frames.specs.Answered.{lent}
 use Rattle.admit.specs.AdmitLaw.{node-room, row_room, rest-is}
@@ -28,48 +31,62 @@ with h w = record { next = h; text = w }
 -- ---- a frame
 
 -- an admitted 01 or 02 has its place in the table
-module _ (nl rl sl ol kind : ℕ) (f : List ℕ) (s : Session) (w : Whole nl rl sl ol s) (y : admits s kind f ≡ true) where
-  pub node-fits : kind ≡ 1 → 4 * s.n + 4 ≤ nl
-  node-fits e = let r = node-room s kind f y e in omega (arith, w.nodes)
+module _ (nl rl sl ol : ℕ) (f : List ℕ) (s : Session) (w : Whole nl rl sl ol s) where
+  module _ (kind : Kind) (y : admits s (code kind) f ≡ true) where
+    pub node-fits : kind ≡ Node → 4 * s.n + 4 ≤ nl
+    node-fits e = let r = node-room s (code kind) f y (ap code e) in omega (arith, w.nodes)
 
-  pub tri-room : kind ≡ 2 → 3 * s.t + 3 ≤ rl
-  tri-room e = let r = row_room s kind f y e in omega (arith, w.rows)
+    pub tri-room : kind ≡ Row → 3 * s.t + 3 ≤ rl
+    tri-room e = let r = row_room s (code kind) f y (ap code e) in omega (arith, w.rows)
 
-module _ (ns : List ℤ) (rs sc out : List ℕ) (s : Session) (kind : ℕ) (f : List ℕ) where
-  pub frame-node : (a : Node) (ns₁ : List ℤ) → kind ≡ 1 → a ≡ node_in f → ns₁ ≡ set_node ns s.n a →
-      lent (answered (session (s.n + 1) s.t s.n0 s.accepted) 0) ns₁ rs sc out ≡ writing out (frame (held ns rs sc s) kind f)
+-- of the other kinds
+answers : (h : Held) (f : List ℕ) (kind : Kind) → (kind ≡ Node → ⊥) → (kind ≡ Row → ⊥) → (kind ≡ Show → ⊥) →
+    frame h (code kind) f ≡ answering h (code kind) (called h (code kind) f)
+unfolding frame
+answers h f Node x y z = absurd (x refl)
+answers h f Row x y z = absurd (y refl)
+answers h f Base x y z = refl
+answers h f Refine x y z = refl
+answers h f Coarsen x y z = refl
+answers h f Restore x y z = refl
+answers h f Show x y z = absurd (z refl)
+answers h f Set x y z = refl
+answers h f Quarter x y z = refl
+answers h f Red x y z = refl
+
+module _ (ns : List ℤ) (rs sc out : List ℕ) (s : Session) (f : List ℕ) (kind : Kind) where
+  pub frame-node : kind ≡ Node → (a : Spot) (ns₁ : List ℤ) → a ≡ node_in f → ns₁ ≡ set_node ns s.n a →
+      lent (answered (session (s.n + 1) s.t s.n0 s.accepted) 0) ns₁ rs sc out ≡ writing out (frame (held ns rs sc s) (code kind) f)
   unfolding frame add_node writes
-  frame-node a ns₁ k p e = rw (k, e, p)
+  frame-node k a ns₁ p e = rw (k, e, p)
 
-  pub frame_row : (w : Tri) (rs₁ : List ℕ) → kind ≡ 2 → w ≡ row_in f → rs₁ ≡ set_row rs s.t w →
-      lent (answered (session s.n (s.t + 1) s.n0 s.accepted) 0) ns rs₁ sc out ≡ writing out (frame (held ns rs sc s) kind f)
+  pub frame_row : kind ≡ Row → (w : Tri) (rs₁ : List ℕ) → w ≡ row_in f → rs₁ ≡ set_row rs s.t w →
+      lent (answered (session s.n (s.t + 1) s.n0 s.accepted) 0) ns rs₁ sc out ≡ writing out (frame (held ns rs sc s) (code kind) f)
   unfolding frame add_row writes
-  frame_row w rs₁ k p e = rw (k, e, p)
+  frame_row k w rs₁ p e = rw (k, e, p)
 
   module _ (k : ℕ) (o : List ℕ) where
-    pub frame-all : kind ≡ 7 → wrote k o ≡ writes (wrote 0 out) (all_lines ns rs s.n s.t) → lent (answered s k) ns rs sc o ≡ writing out (frame (held ns rs sc s) kind f)
+    pub frame-all : kind ≡ Show → wrote k o ≡ writes (wrote 0 out) (all_lines ns rs s.n s.t) → lent (answered s k) ns rs sc o ≡ writing out (frame (held ns rs sc s) (code kind) f)
     unfolding frame
     frame-all h e = rw h (ap (with (held ns rs sc s)) e)
 
-    pub frame-called : (a : Tinted) (ns₁ : List ℤ) (rs₁ sc₁ : List ℕ) (s₁ : Session) → (kind ≡ 1 → ⊥) → (kind ≡ 2 → ⊥) → (kind ≡ 7 → ⊥) →
-        tinted (outcome a.answer ns₁ rs₁ sc₁) a.red ≡ called (held ns rs sc s) kind f → s₁ ≡ session_after s kind a.answer → wrote k o ≡ writes (wrote 0 out) (answer_line kind a) →
-        lent (answered s₁ k) ns₁ rs₁ sc₁ o ≡ writing out (frame (held ns rs sc s) kind f)
-    unfolding frame
-    frame-called a ns₁ rs₁ sc₁ s₁ h₁ h₂ h₇ c e w =
-        rw (ne_eqb kind 1 h₁, ne_eqb kind 2 h₂, ne_eqb kind 7 h₇, ← c, e) (ap (with (held ns₁ rs₁ sc₁ (session_after s kind a.answer))) w)
+    pub frame-called : (a : Tinted) (ns₁ : List ℤ) (rs₁ sc₁ : List ℕ) (s₁ : Session) → (kind ≡ Node → ⊥) → (kind ≡ Row → ⊥) → (kind ≡ Show → ⊥) →
+        tinted (outcome a.answer ns₁ rs₁ sc₁) a.red ≡ called (held ns rs sc s) (code kind) f → s₁ ≡ session_after s (code kind) a.answer →
+        wrote k o ≡ writes (wrote 0 out) (answer_line (code kind) a) → lent (answered s₁ k) ns₁ rs₁ sc₁ o ≡ writing out (frame (held ns rs sc s) (code kind) f)
+    frame-called a ns₁ rs₁ sc₁ s₁ x y z c e w =
+        rw (answers (held ns rs sc s) f kind x y z, ← c, e) (ap (with (held ns₁ rs₁ sc₁ (session_after s (code kind) a.answer))) w)
 
 -- ---- a line
 
 module _ (ns : List ℤ) (rs sc out : List ℕ) (s : Session) (l : List ℕ) where
-  module _ (y : Bool) (t : y ≡ takes s l) where
-    pub line-ff : (k : ℕ) (o : List ℕ) → not y ≡ true → wrote k o ≡ writes (wrote 0 out) ff_line → lent (answered s k) ns rs sc o ≡ writing out (line_step (held ns rs sc s) l)
-    unfolding line_step
-    line-ff k o m e = rw (← t, not-true y m) (ap (with (held ns rs sc s)) e)
+  pub line-ff : (k : ℕ) (o : List ℕ) → takes s l ≡ false → wrote k o ≡ writes (wrote 0 out) ff_line → lent (answered s k) ns rs sc o ≡ writing out (line_step (held ns rs sc s) l)
+  unfolding line_step
+  line-ff k o t e = rw t (ap (with (held ns rs sc s)) e)
 
-    pub line_frame : (kind : ℕ) (x : Lent) → not y ≡ false → kind ≡ number 2 l 0 → x ≡ writing out (frame (held ns rs sc s) kind (take (length l - 2) (drop 2 l))) →
-        x ≡ writing out (line_step (held ns rs sc s) l)
-    unfolding line_step
-    line_frame kind x m e c = rw (← t, not-false y m, ← e) (rw (rest-is l) at c)
+  pub line_frame : (kind : Kind) (x : Lent) → takes s l ≡ true → code kind ≡ number 2 l 0 → x ≡ writing out (frame (held ns rs sc s) (code kind) (take (length l - 2) (drop 2 l))) →
+      x ≡ writing out (line_step (held ns rs sc s) l)
+  unfolding line_step
+  line_frame kind x t e c = rw (t, ← e) (rw (rest-is l) at c)
 
   -- whatever is lent
   module _ (b : Bool) (q : b ≡ whole (length ns) (length rs) (length sc) (length out) s) where

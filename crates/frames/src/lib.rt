@@ -3,10 +3,11 @@
 
 ghost use Rattle.std.specs.Prelude.{◌≡◌, true, length};
 ghost use Rattle.protocol.specs.Frames as f;
+ghost use Rattle.protocol.specs.Kinds.{code};
 ghost use Rattle.fitting.specs.Lent as l;
 ghost use Rattle.frames.specs.Answered.{lent};
 
-use protocol::Session;
+use protocol::{Kind, Session};
 use text::{read, write};
 
 // After a line: the session, and how many bytes were written.
@@ -18,7 +19,7 @@ pub struct Answered {
 
 // A frame that is admitted: its kind, and the part of the line after the kind byte.
 fn frame(
-    kind: u32,
+    kind: Kind,
     fields: &[u8],
     nodes: &mut [i32],
     rows: &mut [u32],
@@ -27,56 +28,51 @@ fn frame(
     out: &mut [u8],
 ) -> Answered
     requires whole { l.Whole (length nodes.old) (length rows.old) (length scratch.old) (length out.old) session }
-    requires fields_value { f.admits session kind fields.now ≡ true }
-    ensures { lent result nodes.new rows.new scratch.new out.new ≡ l.writing out.old (f.frame (f.held nodes.old rows.old scratch.old session) kind fields.now) }
+    requires fields_value { f.admits session (code kind) fields.now ≡ true }
+    ensures { lent result nodes.new rows.new scratch.new out.new ≡ l.writing out.old (f.frame (f.held nodes.old rows.old scratch.old session) (code kind) fields.now) }
 {
-    if kind == 1 {
-        tables::put_node(nodes, session.n, read::node_in(fields));
-        return Answered {
-            session: Session {
-                n: session.n + 1,
-                t: session.t,
-                n0: session.n0,
-                accepted: session.accepted,
-            },
-            written: 0,
-        };
-    }
-    if kind == 2 {
-        tables::put_row(rows, session.t, read::row_in(fields));
-        return Answered {
-            session: Session {
-                n: session.n,
-                t: session.t + 1,
-                n0: session.n0,
-                accepted: session.accepted,
-            },
-            written: 0,
-        };
-    }
-    if kind == 7 {
-        let written = write::put_all(out, nodes, rows, session.n, session.t);
-        return Answered { session, written };
-    }
-    let a = calls::call(kind, fields, nodes, rows, scratch, session);
-    let written = write::put_answer(out, kind, a);
-    let answer = a.answer;
-    Answered {
-        session: calls::session_after(session, kind, answer),
-        written,
+    match kind {
+        Kind::Node => {
+            tables::put_node(nodes, session.n, read::node_in(fields));
+            Answered {
+                session: Session {
+                    n: session.n + 1,
+                    ..session
+                },
+                written: 0,
+            }
+        }
+        Kind::Row => {
+            tables::put_row(rows, session.t, read::row_in(fields));
+            Answered {
+                session: Session {
+                    t: session.t + 1,
+                    ..session
+                },
+                written: 0,
+            }
+        }
+        Kind::List => Answered {
+            session,
+            written: write::put_all(out, nodes, rows, session.n, session.t),
+        },
+        _ => {
+            let said = calls::call(kind, fields, nodes, rows, scratch, session);
+            let written = write::put_answer(out, kind.code(), said);
+            Answered {
+                session: calls::session_after(session, kind.code(), said.answer),
+                written,
+            }
+        }
     }
 }
 
 // Whether the tables and the buffer are as long as those of the program, and the counts within its rooms.
+#[tactic(auto, unfolding(fitting::specs::Lent::whole))]
 pub fn whole(nl: usize, rl: usize, sl: usize, ol: usize, session: Session) -> bool
     ensures { result ≡ l.whole nl rl sl ol session }
 {
-    (nl == 2048)
-        & (rl == 3072)
-        & (sl == 6144)
-        & (32_768 <= ol)
-        & (session.n <= 512)
-        & (session.t <= 1024)
+    nl == 2048 && rl == 3072 && sl == 6144 && 32_768 <= ol && session.n <= 512 && session.t <= 1024
 }
 
 // A line, on whole tables.
@@ -91,14 +87,13 @@ fn plain_line(
     requires { l.Whole (length nodes.old) (length rows.old) (length scratch.old) (length out.old) session }
     ensures { lent result nodes.new rows.new scratch.new out.new ≡ l.writing out.old (f.line_step (f.held nodes.old rows.old scratch.old session) line.now) }
 {
-    if !admit::takes(session, line) {
-        return Answered {
+    match admit::admitted(session, line) {
+        Some(kind) => frame(kind, &line[2..], nodes, rows, scratch, session, out),
+        None => Answered {
             session,
             written: write::put_ff(out),
-        };
+        },
     }
-    let kind = read::two(line, 0);
-    frame(kind, &line[2..], nodes, rows, scratch, session, out)
 }
 
 // One line without its end byte: what it does to the tables, and its answer from the buffer's start on. Lent anything but whole tables,

@@ -4,3 +4,4 @@ pub mod Closing
 pub mod GoneLaw
 pub mod Whole
 pub mod WholeLaw
+pub mod Steps

@@ -5,7 +5,7 @@ use Rattle.meaning.specs.Coarsen.{taken, renumber}
 use Rattle.meaning.specs.Tables.{row_at, flat_nodes, flat_rows, filled}
 use Rattle.gather.specs.Goes.{fate_no}
 use Rattle.gather.specs.GoneLaw.{take_no}
-use Rattle.gather.specs.declared.Counts.{Counts}
+use Rattle.refusals.specs.declared.Counts.{Counts}
 
 -- each node with its pair, where it goes
 pub record Going (s : List ℕ) (nc n0 : ℕ) (m : Mesh) (marks : List ℕ) (n : ℕ) : Type 0 where

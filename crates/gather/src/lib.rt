@@ -6,20 +6,23 @@
 //   2 nc + i   what becomes of row i: 0 it stays, 1 it goes, c + 2 it becomes (q, r, c)
 #![tactic(auto)]
 
-ghost use Rattle.std.specs.Prelude.{◌≡◌, ℕ, ◌+◌, ◌*◌, ◌/◌, ◌%◌, ◌≤◌, ◌<◌, pos, length, get_or, set, take, replicate};
-ghost use Rattle.lists.specs.Search.{items};
+ghost use Rattle.std.specs.Prelude.{◌≡◌, ℕ, ◌+◌, ◌*◌, ◌^◌, ◌≤◌, ◌<◌, pos, length, get_or, set, take, replicate, Option};
+ghost use Rattle.std.specs.Option.{unwrap_or};
+ghost use Rattle.lists.specs.Table.{read_at, flatten};
 ghost use Rattle.lists.specs.Loops.{noted, remaining};
 ghost use Rattle.meaning.specs.Lawful.{Lawful};
 ghost use Rattle.meaning.specs.Coarsen.{marked, coarsened};
 ghost use Rattle.meaning.specs.Tables.{row_at, node_at, flat_rows, flat_nodes, filled};
 ghost use Rattle.neighbours.specs.Sized.{Sized, index_at};
-ghost use Rattle.tables.specs.Put.{set_row, set_node};
 ghost use Rattle.neighbours.specs.Ready.{Ready};
 ghost use Rattle.laws.specs.Meshes.{mesh_at, Fair};
 ghost use Rattle.gather.specs.Whole.{Going, Settled, tabled, tabled_of};
-ghost use Rattle.gather.specs.Goes.{Small, take_at, fate_no, fate_at, gone_node, next_number, number_below, gone_row, father_by, renamed_by, new_row};
+ghost use Rattle.gather.specs.Closing.{Renewing, renewed, kept_by, row_renewing, node_renewing};
+ghost use Rattle.gather.specs.Goes.{Small, take_at, number_of, fate_no, fate_at, gone_node, next_number, number_below, gone_row, renamed_by, new_row};
 
-use meaning::Tri;
+use meaning::{Node, Tri};
+use refusals::Counts;
+use tables::Record;
 
 // ---- which nodes go
 
@@ -30,16 +33,18 @@ fn is_marked(marks: &[u8], z: usize) -> bool
     marks[z] == 1
 }
 
-fn taken(scratch: &[u32], marks: &[u8], nc: usize, z: usize) -> u32
+// The number of its pair, where it goes.
+fn taken(scratch: &[u32], marks: &[u8], nc: usize, z: usize) -> Option<u32>
     requires z_in_bounds { nc + z < length scratch.now }
     requires z_in_bounds_2 { z < length marks.now }
-    ensures { result ≡ take_at marks.now scratch.now nc z }
+    ensures { unwrap_or result 0 ≡ take_at marks.now scratch.now nc z }
 {
     let v = tables::note_at(scratch, nc + z);
-    if is_marked(marks, z) & (v % 2 == 1) {
-        return v / 2;
+    if is_marked(marks, z) && v % 2 == 1 {
+        Some(v / 2)
+    } else {
+        None
     }
-    0
 }
 
 fn take_nodes(scratch: &mut [u32], marks: &[u8], nc: usize, n: usize)
@@ -47,33 +52,65 @@ fn take_nodes(scratch: &mut [u32], marks: &[u8], nc: usize, n: usize)
     requires n_in_bounds_2 { n ≤ length marks.now }
     ensures { scratch.new ≡ noted nc (take_at marks.now scratch.old nc) n scratch.old }
 {
-    let mut z = 0;
-    while z < n {
-        let v = taken(scratch, marks, nc, z);
+    for z in 0..n {
+        let v = taken(scratch, marks, nc, z).unwrap_or(0);
         tables::put_note(scratch, nc + z, v);
-        z += 1;
     }
 }
 
 // ---- what becomes of a row
 
+#[derive(Clone, Copy)]
+enum Fate {
+    Stays,
+    Goes,
+    Becomes(u32), // of (p, q, r) it is (q, r, c), with this c
+}
+
+impl Fate {
+    // As scratch holds it.
+    fn number(self) -> u32
+        requires { number_of self < 2 ^ 32 }
+        ensures { result ≡ number_of self }
+    {
+        match self {
+            Fate::Stays => 0,
+            Fate::Goes => 1,
+            Fate::Becomes(c) => c + 2,
+        }
+    }
+}
+
+impl From<u32> for Fate {
+    ghost from_gives = { λ k f. number_of f ≡ k };
+
+    fn from(k: u32) -> Fate {
+        match k {
+            0 => Fate::Stays,
+            1 => Fate::Goes,
+            _ => Fate::Becomes(k - 2),
+        }
+    }
+}
+
 // Of row w, whose newest vertex goes with the pair number v, or stays with 0.
-fn fate(w: Tri, v: u32) -> u32
+fn fate_of(w: Tri, v: u32) -> Fate
     requires { v ≤ 1_073_741_824 }
-    ensures { result ≡ fate_no v w }
+    ensures number { number_of result ≡ fate_no v w }
+    ensures few { number_of result < 2 ^ 32 }
 {
-    if v == 0 {
-        return 0;
-    }
-    let lo = (v - 1) / 32768;
-    let hi = (v - 1) % 32768;
+    let Some(pair) = v.checked_sub(1) else {
+        return Fate::Stays;
+    };
+    let lo = pair / 32768;
+    let hi = pair % 32768;
     if w.r == lo {
-        return hi + 2;
+        Fate::Becomes(hi)
+    } else if w.r == hi {
+        Fate::Becomes(lo)
+    } else {
+        Fate::Goes // a brother's
     }
-    if w.r == hi {
-        return lo + 2;
-    }
-    1
 }
 
 fn at_node(scratch: &[u32], nc: usize, k: u32) -> u32
@@ -83,16 +120,17 @@ fn at_node(scratch: &[u32], nc: usize, k: u32) -> u32
     tables::note_at(scratch, nc + k as usize)
 }
 
-fn fate_at(rows: &[u32], scratch: &[u32], nc: usize, n: usize, t: usize, i: usize) -> u32
+fn fate_at(rows: &[u32], scratch: &[u32], nc: usize, n: usize, t: usize, i: usize) -> Fate
     requires fair { Fair rows.now n t }
     requires i_lt_t { i < t }
     requires n_in_bounds { nc + n ≤ length scratch.now }
     requires small { Small scratch.now nc n }
-    ensures { result ≡ fate_at rows.now scratch.now nc i }
+    ensures number { number_of result ≡ fate_at rows.now scratch.now nc i }
+    ensures few { number_of result < 2 ^ 32 }
 {
     let w = tables::row_at(rows, i);
     let v = at_node(scratch, nc, w.p);
-    fate(w, v)
+    fate_of(w, v)
 }
 
 fn fates(rows: &[u32], scratch: &mut [u32], nc: usize, n: usize, t: usize)
@@ -102,16 +140,15 @@ fn fates(rows: &[u32], scratch: &mut [u32], nc: usize, n: usize, t: usize)
     requires small { Small scratch.old nc n }
     ensures { scratch.new ≡ noted (2 * nc) (fate_at rows.now scratch.old nc) t scratch.old }
 {
-    let mut i = 0;
-    while i < t {
-        let f = fate_at(rows, scratch, nc, n, t, i);
+    for i in 0..t {
+        let f = fate_at(rows, scratch, nc, n, t, i).number();
         tables::put_note(scratch, 2 * nc + i, f);
-        i += 1;
     }
 }
 
 // ---- new numbers
 
+#[tactic(auto, unfolding(crate::specs::Goes::gone_node))]
 fn gone_node(scratch: &[u32], nc: usize, z: usize) -> bool
     requires { nc + z < length scratch.now }
     ensures { result ≡ gone_node scratch.now nc z }
@@ -129,13 +166,10 @@ fn number_node(scratch: &mut [u32], nc: usize, z: usize, k: u32) -> u32
 {
     let g = gone_node(scratch, nc, z);
     tables::put_note(scratch, z, k);
-    if g {
-        return k;
-    }
-    k + 1
+    if g { k } else { k + 1 }
 }
 
-// Each node'scratch number is how many nodes below it stay.
+// Each node's number is how many nodes below it stay.
 fn numbers(scratch: &mut [u32], nc: usize, n: usize)
     requires n_le_nc { n ≤ nc }
     requires nc_bound { nc ≤ 65_536 }
@@ -143,94 +177,68 @@ fn numbers(scratch: &mut [u32], nc: usize, n: usize)
     ensures { scratch.new ≡ noted 0 (number_below (gone_node scratch.old nc)) n scratch.old }
 {
     let mut k = 0;
-    let mut z = 0;
-    while z < n {
+    for z in 0..n {
         k = number_node(scratch, nc, z, k);
-        z += 1;
     }
 }
 
-// ---- rows close up
+// ---- tables close up
+
+// Of the first t records each goes or stays, made new: those that stay move to the front in order, and the rest of the table is blank.
+// Returns their number.
+fn close<R: Record, F: Fn(usize, R) -> Option<R>>(
+    table: &mut [R::Number],
+    t: usize,
+    after: F,
+) -> usize
+    ghost all: { Renewing R }
+    requires t_in_bounds { R.form.width * t ≤ length table.old }
+    requires callable { (i : ℕ) (w : R) → i < t → F.pre after i w }
+    requires told { (i : ℕ) (w : R) (o : Option R) → i < t → F.post after i w o → o ≡ renewed all i w }
+    ensures count { result ≡ length (kept_by all (read_at R.form table.old) t) }
+    ensures table { table.new ≡ filled R.form.blank (length table.old) (flatten R.form (kept_by all (read_at R.form table.old) t)) }
+{
+    let mut k = 0;
+    for i in 0..t {
+        if let Some(w) = after(i, R::read(table, i)) {
+            w.put(table, k);
+            k += 1;
+        }
+    }
+    tables::clear_from::<R>(table, k);
+    k
+}
 
 fn number(scratch: &[u32], k: u32) -> u32
     ensures { result ≡ get_or scratch.now k 0 }
 {
-    let i = k as usize;
-    if i < scratch.len() {
-        return tables::note_at(scratch, i);
-    }
-    0
+    scratch.get(k as usize).copied().unwrap_or(0)
 }
 
+#[tactic(auto, unfolding(crate::specs::Goes::renamed_by))]
 fn renamed(scratch: &[u32], w: Tri) -> Tri
     ensures { result ≡ renamed_by scratch.now w }
 {
-    let p = number(scratch, w.p);
-    let q = number(scratch, w.q);
-    let r = number(scratch, w.r);
-    Tri { p, q, r }
-}
-
-// What the fate f makes of a row that does not go.
-fn father(w: Tri, f: u32) -> Tri
-    ensures { result ≡ father_by w f }
-{
-    if f < 2 {
-        return w;
-    }
     Tri {
-        p: w.q,
-        q: w.r,
-        r: f - 2,
+        p: number(scratch, w.p),
+        q: number(scratch, w.q),
+        r: number(scratch, w.r),
     }
 }
 
-fn gone_row(scratch: &[u32], nc: usize, i: usize) -> bool
+// Row i, which is w, as it is after.
+fn row_after(scratch: &[u32], nc: usize, i: usize, w: Tri) -> Option<Tri>
     requires { 2 * nc + i < length scratch.now }
-    ensures { result ≡ gone_row scratch.now nc i }
+    ensures { result ≡ renewed (row_renewing scratch.now nc) i w }
 {
-    tables::note_at(scratch, 2 * nc + i) == 1
-}
-
-fn new_row(rows: &[u32], scratch: &[u32], nc: usize, i: usize) -> Tri
-    requires i_in_bounds { 3 * i + 3 ≤ length rows.now }
-    requires i_in_bounds_2 { 2 * nc + i < length scratch.now }
-    ensures { result ≡ new_row scratch.now nc rows.now i }
-{
-    let w = tables::row_at(rows, i);
-    let f = tables::note_at(scratch, 2 * nc + i);
-    renamed(scratch, father(w, f))
-}
-
-fn renew_row(rows: &mut [u32], scratch: &[u32], nc: usize, i: usize, k: usize)
-    requires i_in_bounds { 3 * i + 3 ≤ length rows.old }
-    requires k_in_bounds { 3 * k + 3 ≤ length rows.old }
-    requires i_in_bounds_2 { 2 * nc + i < length scratch.now }
-    ensures { rows.new ≡ set_row rows.old k (new_row scratch.now nc rows.old i) }
-{
-    let w = new_row(rows, scratch, nc, i);
-    tables::put_row(rows, k, w);
-}
-
-// Rows that do not go, renewed and moved to the front in order; returns their number.
-fn keep_rows(rows: &mut [u32], scratch: &[u32], nc: usize, t: usize) -> usize
-    requires t_in_bounds { 3 * t ≤ length rows.old }
-    requires t_in_bounds_2 { 2 * nc + t ≤ length scratch.now }
-    ensures few { result ≤ t }
-    ensures rows { items (row_at rows.new) 0 result ≡ remaining (gone_row scratch.now nc) (new_row scratch.now nc rows.old) 0 t }
-{
-    let mut i = 0;
-    let mut k = 0;
-    while i < t {
-        if gone_row(scratch, nc, i) {
-            i += 1;
-        } else {
-            renew_row(rows, scratch, nc, i, k);
-            k += 1;
-            i += 1;
+    match Fate::from(tables::note_at(scratch, 2 * nc + i)) {
+        Fate::Stays => Some(renamed(scratch, w)),
+        Fate::Goes => None,
+        Fate::Becomes(r) => {
+            let father = Tri { p: w.q, q: w.r, r };
+            Some(renamed(scratch, father))
         }
     }
-    k
 }
 
 // The table after, and the number of its rows.
@@ -240,40 +248,19 @@ fn close_rows(rows: &mut [u32], scratch: &[u32], nc: usize, t: usize) -> usize
     ensures count { result ≡ length (remaining (gone_row scratch.now nc) (new_row scratch.now nc rows.old) 0 t) }
     ensures rows { rows.new ≡ filled 0 (length rows.old) (flat_rows (remaining (gone_row scratch.now nc) (new_row scratch.now nc rows.old) 0 t)) }
 {
-    let k = keep_rows(rows, scratch, nc, t);
-    tables::clear_rows_from(rows, k);
-    k
+    close(rows, t, |i, w: Tri| row_after(scratch, nc, i, w))
 }
 
-// ---- nodes close up
-
-fn move_node(nodes: &mut [i32], i: usize, k: usize)
-    requires i_in_bounds { 4 * i + 4 ≤ length nodes.old }
-    requires k_in_bounds { 4 * k + 4 ≤ length nodes.old }
-    ensures { nodes.new ≡ set_node nodes.old k (node_at nodes.old i) }
+// Node z, which is a, as it is after.
+fn node_after(scratch: &[u32], nc: usize, z: usize, a: Node) -> Option<Node>
+    requires { nc + z < length scratch.now }
+    ensures { result ≡ renewed (node_renewing scratch.now nc) z a }
 {
-    let a = tables::node_at(nodes, i);
-    tables::put_node(nodes, k, a);
-}
-
-fn keep_nodes(nodes: &mut [i32], scratch: &[u32], nc: usize, n: usize) -> usize
-    requires n_in_bounds { 4 * n ≤ length nodes.old }
-    requires n_in_bounds_2 { nc + n ≤ length scratch.now }
-    ensures few { result ≤ n }
-    ensures nodes { items (node_at nodes.new) 0 result ≡ remaining (gone_node scratch.now nc) (node_at nodes.old) 0 n }
-{
-    let mut z = 0;
-    let mut k = 0;
-    while z < n {
-        if gone_node(scratch, nc, z) {
-            z += 1;
-        } else {
-            move_node(nodes, z, k);
-            k += 1;
-            z += 1;
-        }
+    if gone_node(scratch, nc, z) {
+        None
+    } else {
+        Some(a)
     }
-    k
 }
 
 // The table after, and the number of its nodes.
@@ -283,18 +270,10 @@ fn close_nodes(nodes: &mut [i32], scratch: &[u32], nc: usize, n: usize) -> usize
     ensures count { result ≡ length (remaining (gone_node scratch.now nc) (node_at nodes.old) 0 n) }
     ensures nodes { nodes.new ≡ filled (pos 0) (length nodes.old) (flat_nodes (remaining (gone_node scratch.now nc) (node_at nodes.old) 0 n)) }
 {
-    let k = keep_nodes(nodes, scratch, nc, n);
-    tables::clear_nodes_from(nodes, k);
-    k
+    close(nodes, n, |z, a: Node| node_after(scratch, nc, z, a))
 }
 
 // ---- all of it
-
-#[derive(Clone, Copy)]
-pub struct Counts {
-    pub n: usize,
-    pub t: usize,
-}
 
 // Notes which nodes go, each with its pair.
 fn note_nodes(

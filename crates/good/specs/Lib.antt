@@ -3,3 +3,4 @@ pub mod SignLaw
 pub mod Rival
 pub mod RivalLaw
 pub mod WalkLaw
+pub mod Steps

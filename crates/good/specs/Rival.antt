@@ -1,6 +1,6 @@
 -- G5 by the numbers of the pairs: nodes are linked by the remainder of their number by t. Assumes nothing.
-use Rattle.std.specs.Prelude.{◌≡◌, Bool, not, ◌&&◌, List, ℕ, ◌+◌, ◌*◌, ◌/◌, ◌%◌, ◌≤◌, ◌<◌, eqb, length, get_or}
-use Rattle.lists.specs.Lists.{cases, is_found}
+use Rattle.std.specs.Prelude.{◌≡◌, Bool, not, ◌&&◌, List, ℕ, ◌+◌, ◌*◌, ◌/◌, ◌%◌, ◌≤◌, ◌<◌, eqb, length, get_or, is_some, take, drop, replicate, ◌++◌}
+use Rattle.lists.specs.Lists.{cases}
 use Rattle.lists.specs.Tally.{bit}
 use Rattle.lists.specs.Search.{lowest}
 use Rattle.lists.specs.ChainLaw.{Chain, linked}
@@ -18,7 +18,7 @@ rivals sg z y = eqb (sg y) (sg z) && not (eqb y z)
 
 -- z has a number, and no other node below n has it
 abbrev pub lone : (ℕ → ℕ) → ℕ → ℕ → Bool
-lone sg n z = not (eqb (sg z) 0) && not (is_found (lowest (rivals sg z) 0 n))
+lone sg n z = not (eqb (sg z) 0) && not (is_some (lowest (rivals sg z) 0 n))
 
 unfoldable pub tagged : (ℕ → ℕ) → ℕ → ℕ → ℕ
 tagged sg n z = 2 * sg z + bit (lone sg n z)
@@ -46,8 +46,9 @@ pub record Linked (s : List ℕ) (nc n t : ℕ) : Type 0 where
   pub room : n ≤ nc
   pub long : 2 * nc + t ≤ length s
 
-abbrev pub blank : ℕ → ℕ
-blank i = 0
+-- s with zeros from o on, t of them
+unfoldable pub blanked : ℕ → ℕ → List ℕ → List ℕ
+blanked o t s = take o s ++ (replicate t 0 ++ drop (o + t) s)
 
 unfoldable pub link_node : ℕ → ℕ → ℕ → List ℕ → List ℕ
 link_node nc t z s = cases (eqb (numbers_at s nc z) 0) s (linked (2 * nc + numbers_at s nc z % t) z z s)

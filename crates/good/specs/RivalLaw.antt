@@ -1,5 +1,5 @@
 -- A node of a lawful mesh is good exactly if it has a number that no other node has. Assumes nothing.
-use Rattle.std.specs.Prelude.{◌≡◌, ◌≢◌, Bool, not, ◌&&◌, ℕ, ◌+◌, ◌*◌, ◌≤◌, ◌<◌, min, max, eqb, ℤ, length}
+use Rattle.std.specs.Prelude.{◌≡◌, ◌≢◌, Bool, not, ◌&&◌, ℕ, ◌+◌, ◌*◌, ◌≤◌, ◌<◌, min, max, eqb, ℤ, length, Option, Some, None, is_some}
 use Rattle.std.proofs.Math.Path.{refl, ap}
 use Rattle.std.proofs.Common.{sym, ◌∙◌, eqb-true, eq-eqb, leb-true, le-leb}
 use Rattle.std.proofs.Math.Bool.{true, false}
@@ -8,9 +8,7 @@ use native.Mathlib.Omega.{arith}
 use Rattle.std.proofs.lemmas.Bool.{eqb-false}
 use Rattle.std.proofs.Math.Dec.{leb}
 use Rattle.std.proofs.Math.ListN.{get_or}
-use Rattle.lists.specs.declared.Found.{Found}
-use Rattle.lists.specs.declared.Found.TheVariants.{At, Nothing}
-use Rattle.lists.specs.Lists.{cases, is_found, All, cons}
+use Rattle.lists.specs.Lists.{cases, All, cons}
 use Rattle.lists.specs.ListsLaw.{clash, and_both, and_left, and_right, both_ways, All-at, count-le-length}
 use Rattle.lists.specs.PartsLaw.{not_so}
 use Rattle.lists.specs.Tally.{bit}
@@ -98,12 +96,12 @@ module _ (n0 : ℕ) (m : Mesh) (z : ℕ) (law : Lawful m) (few : length m.nodes 
   mine : (n0 ≤ z) × (G1-4 m z ≡ true) × (sign_from n0 m z ≡ pair_no (span m z))
   mine = sign-meets n0 m z o
 
-  there : G5 n0 m z ≡ true → not (is_found (lowest (rivals (sign_from n0 m) z) 0 (length m.nodes))) ≡ true
+  there : G5 n0 m z ≡ true → not (is_some (lowest (rivals (sign_from n0 m) z) 0 (length m.nodes))) ≡ true
   there g = go (lowest (rivals (sign_from n0 m) z) 0 (length m.nodes)) refl
     where
-      go : (f : Found) → lowest (rivals (sign_from n0 m) z) 0 (length m.nodes) ≡ f → not (is_found f) ≡ true
-      go Nothing e = refl
-      go (At y) e =
+      go : (f : Option ℕ) → lowest (rivals (sign_from n0 m) z) 0 (length m.nodes) ≡ f → not (is_some f) ≡ true
+      go None e = refl
+      go (Some y) e =
           let b = lowest-below (rivals (sign_from n0 m) z) (length m.nodes) y e in
           let t = lowest-true (rivals (sign_from n0 m) z) (length m.nodes) y e in
           let q = eqb-true (sign_from n0 m y) (sign_from n0 m z) (and_left (eqb (sign_from n0 m y) (sign_from n0 m z)) (not (eqb y z)) t) in
@@ -113,7 +111,7 @@ module _ (n0 : ℕ) (m : Mesh) (z : ℕ) (law : Lawful m) (few : length m.nodes 
           let w = G5-alone n0 m z g y his.0 b his.1 d in
           clash (sym ne ∙ ap not (eq-eqb y z w))
 
-  back : not (is_found (lowest (rivals (sign_from n0 m) z) 0 (length m.nodes))) ≡ true → G5 n0 m z ≡ true
+  back : not (is_some (lowest (rivals (sign_from n0 m) z) 0 (length m.nodes))) ≡ true → G5 n0 m z ≡ true
   back e = alone-G5 n0 m z alone
     where
       alone : (y : ℕ) → n0 ≤ y → y < length m.nodes → G1-4 m y ≡ true → span m z ≡ span m y → y ≡ z
@@ -126,7 +124,7 @@ module _ (n0 : ℕ) (m : Mesh) (z : ℕ) (law : Lawful m) (few : length m.nodes 
               let f = lowest-some (rivals (sign_from n0 m) z) (length m.nodes) y l (and_both (eq-eqb (sign_from n0 m y) (sign_from n0 m z) q) (ap not w)) in
               clash (sym e ∙ ap not f)
 
-  G5-is : not (is_found (lowest (rivals (sign_from n0 m) z) 0 (length m.nodes))) ≡ G5 n0 m z
+  G5-is : not (is_some (lowest (rivals (sign_from n0 m) z) 0 (length m.nodes))) ≡ G5 n0 m z
   G5-is = both_ways _ (G5 n0 m z) back there
 
 -- ---- good
@@ -135,7 +133,7 @@ module _ (n0 : ℕ) (m : Mesh) (z : ℕ) (law : Lawful m) (few : length m.nodes 
 lone-good : (n0 : ℕ) (m : Mesh) (z : ℕ) → Lawful m → length m.nodes ≤ 32_768 → lone (sign_from n0 m) (length m.nodes) z ≡ good n0 m z
 lone-good n0 m z law few = go (eqb (sign_from n0 m z) 0) refl
   where
-    go : (b : Bool) → eqb (sign_from n0 m z) 0 ≡ b → not b && not (is_found (lowest (rivals (sign_from n0 m) z) 0 (length m.nodes))) ≡ good n0 m z
+    go : (b : Bool) → eqb (sign_from n0 m z) 0 ≡ b → not b && not (is_some (lowest (rivals (sign_from n0 m) z) 0 (length m.nodes))) ≡ good n0 m z
     go true e = good-no n0 m z (eqb-true (sign_from n0 m z) 0 e)
     go false e = let o = eqb-false (sign_from n0 m z) 0 e in good-by n0 m z _ o (G5-is n0 m z law few o)
 

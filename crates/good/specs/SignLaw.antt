@@ -1,10 +1,9 @@
 -- A node's number, test by test, in the form of needs. Assumes nothing.
-use Rattle.std.specs.Prelude.{◌≡◌, Bool, true, false, not, ◌&&◌, ◌||◌, List, [], ◌∷◌, ℕ, ◌+◌, ◌*◌, ◌≤◌, ◌<◌, min, max, ℤ, set}
+use Rattle.std.specs.Prelude.{◌≡◌, Bool, true, false, not, ◌&&◌, ◌||◌, List, [], ◌∷◌, ℕ, ◌+◌, ◌*◌, ◌≤◌, ◌<◌, min, max, ℤ, set, Option, is_some}
 use Rattle.std.proofs.Math.Path.{refl, sym}
 use Rattle.std.proofs.Common.{ap, ◌∙◌, arith}
-use borrow.Author.Tests.{not-true, not-false, lt-leb, le-leb}
-use Rattle.lists.specs.declared.Found.{Found}
-use Rattle.lists.specs.Lists.{any, is_found}
+use borrow.Author.Tests.{lt-leb, le-leb}
+use Rattle.lists.specs.Lists.{any}
 use Rattle.lists.specs.Search.{lowest, items}
 use Rattle.lists.specs.SearchLaw.{lowest-any}
 use Rattle.lists.specs.Loops.{noted}
@@ -59,8 +58,8 @@ span-order m z = go (pairs m z)
     go [] = omega arith
     go (x ∷ xs) = omega arith
 
-pub held-either : (l : List ℕ) (t z : ℕ) (e : Ends) (f g : Found) (a b : Bool) → edge_of e ≡ span (rows_alone l t) z → f ≡ lowest (arrow_at l e.lo e.hi) 0 t → a ≡ is_found f →
-    g ≡ lowest (arrow_at l e.hi e.lo) 0 t → b ≡ is_found g → not (a || b) ≡ G4 (rows_alone l t) z
+pub held-either : (l : List ℕ) (t z : ℕ) (e : Ends) (f g : Option ℕ) (a b : Bool) → edge_of e ≡ span (rows_alone l t) z → f ≡ lowest (arrow_at l e.lo e.hi) 0 t → a ≡ is_some f →
+    g ≡ lowest (arrow_at l e.hi e.lo) 0 t → b ≡ is_some g → not (a || b) ≡ G4 (rows_alone l t) z
 unfolding arrow_at
 held-either l t z e f g a b k p q r u =
     let x = e.lo in
@@ -78,6 +77,26 @@ held-either l t z e f g a b k p q r u =
     )
     (sym (any-split (holds_edge (edge x y)) (holds_arrow (arrow x y)) (holds_arrow (arrow y x)) (edge-arrows x y) (items (row_at l) 0 t))) in
     ap not (v ∙ ap (λ (d : Edge). any (holds_edge d) (items (row_at l) 0 t)) (n ∙ k))
+
+-- a, b: that no row has the edge one way, or the other
+module _ (l : List ℕ) (t z : ℕ) (e : Ends) (k : edge_of e ≡ span (rows_alone l t) z) (f : Option ℕ) (a : Bool) (p : f ≡ lowest (arrow_at l e.lo e.hi) 0 t) (q : is_some f ≡ not a) where
+  held-neither : (g : Option ℕ) (b : Bool) → g ≡ lowest (arrow_at l e.hi e.lo) 0 t → is_some g ≡ not b → a && b ≡ G4 (rows_alone l t) z
+  held-neither g b r u = nor a b ∙ held-either l t z e f g (not a) (not b) k p (sym q) r (sym u)
+    where
+      nor : (a b : Bool) → a && b ≡ not (not a || not b)
+      nor true true = refl
+      nor true false = refl
+      nor false b = refl
+
+  pub other-way : (g : Option ℕ) (b : Bool) → a ≡ true → g ≡ lowest (arrow_at l e.hi e.lo) 0 t → is_some g ≡ not b → b ≡ G4 (rows_alone l t) z
+  other-way g b h r u = rw h at (held-neither g b r u)
+
+  pub one-way : a ≡ false → a ≡ G4 (rows_alone l t) z
+  one-way h = h ∙ rw h at (held-neither (lowest (arrow_at l e.hi e.lo) 0 t) (not (is_some (lowest (arrow_at l e.hi e.lo) 0 t))) refl (twice (is_some (lowest (arrow_at l e.hi e.lo) 0 t))))
+    where
+      twice : (b : Bool) → b ≡ not (not b)
+      twice true = refl
+      twice false = refl
 
 -- ---- G3
 
@@ -97,41 +116,39 @@ module _ (nodes : List ℤ) (rows : List ℕ) (n t z : ℕ) where
   four2 true b c d e = rw e
   four2 false b c d e = refl
 
-  pub sign-not-1 : (b : Bool) → b ≡ G1 (rows_alone rows t) z → not b ≡ true → 0 ≡ sign_of (mesh_at nodes rows n t) z
+  pub sign-not-1 : (b : Bool) → b ≡ G1 (rows_alone rows t) z → b ≡ false → 0 ≡ sign_of (mesh_at nodes rows n t) z
   unfolding sign_of G1-4
   sign-not-1 b e h =
-      rw (four (G1 (mesh_at nodes rows n t) z) (G2 (mesh_at nodes rows n t) z) (G3 (mesh_at nodes rows n t) z) (G4 (mesh_at nodes rows n t) z) (first-same nodes rows n t z ∙ sym e ∙ not-true b h))
+      rw (four (G1 (mesh_at nodes rows n t) z) (G2 (mesh_at nodes rows n t) z) (G3 (mesh_at nodes rows n t) z) (G4 (mesh_at nodes rows n t) z) (first-same nodes rows n t z ∙ sym e ∙ h))
 
-  pub sign-not-2 : (b : Bool) → b ≡ G2 (rows_alone rows t) z → not b ≡ true → 0 ≡ sign_of (mesh_at nodes rows n t) z
+  pub sign-not-2 : (b : Bool) → b ≡ G2 (rows_alone rows t) z → b ≡ false → 0 ≡ sign_of (mesh_at nodes rows n t) z
   unfolding sign_of G1-4
   sign-not-2 b e h =
-      rw (four2 (G1 (mesh_at nodes rows n t) z) (G2 (mesh_at nodes rows n t) z) (G3 (mesh_at nodes rows n t) z) (G4 (mesh_at nodes rows n t) z) (second-same nodes rows n t z ∙ sym e ∙ not-true b h))
+      rw (four2 (G1 (mesh_at nodes rows n t) z) (G2 (mesh_at nodes rows n t) z) (G3 (mesh_at nodes rows n t) z) (G4 (mesh_at nodes rows n t) z) (second-same nodes rows n t z ∙ sym e ∙ h))
 
-  module _ (a b : Bool) (ga : a ≡ G1 (rows_alone rows t) z) (ha : not a ≡ false) (gb : b ≡ G2 (rows_alone rows t) z) (hb : not b ≡ false) where
-    first-yes : G1 (rows_alone rows t) z ≡ true
-    first-yes = sym ga ∙ not-false a ha
+  pub sign-all : (a b : Bool) → a ≡ G1 (rows_alone rows t) z → a ≡ true → b ≡ G2 (rows_alone rows t) z → b ≡ true →
+      (r : ℕ) → r ≡ sign_on (mesh_at nodes rows n t) z → r ≡ sign_of (mesh_at nodes rows n t) z
+  unfolding sign_on sign_of G1-4
+  sign-all a b ga ha gb hb r g =
+      let x : G1 (rows_alone rows t) z ≡ true = sym ga ∙ ha in
+      let y : G2 (rows_alone rows t) z ≡ true = sym gb ∙ hb in
+      g ∙ rw (first-same nodes rows n t z, x, second-same nodes rows n t z, y)
 
-    second-yes : G2 (rows_alone rows t) z ≡ true
-    second-yes = sym gb ∙ not-false b hb
+  pub sign-not-3 : (c : Bool) → c ≡ G3 (mesh_at nodes rows n t) z → c ≡ false → 0 ≡ sign_on (mesh_at nodes rows n t) z
+  unfolding sign_on
+  sign-not-3 c e h = rw (← e, h)
 
-    pub sign-all : (r : ℕ) → r ≡ sign_on (mesh_at nodes rows n t) z → r ≡ sign_of (mesh_at nodes rows n t) z
-    unfolding sign_on sign_of G1-4
-    sign-all r g = g ∙ rw (first-same nodes rows n t z, first-yes, second-same nodes rows n t z, second-yes)
+  module _ (c d : Bool) (gc : c ≡ G3 (mesh_at nodes rows n t) z) (gd : d ≡ G4 (rows_alone rows t) z) (hc : c ≡ true) where
+    both-same : G3 (mesh_at nodes rows n t) z && G4 (mesh_at nodes rows n t) z ≡ d
+    both-same = rw (← gc, fourth-same nodes rows n t z, ← gd, hc)
 
-  module _ (e : Ends) (ge : edge_of e ≡ span (rows_alone rows t) z) (c d : Bool) (gc : c ≡ G3 (mesh_at nodes rows n t) z) (gd : d ≡ G4 (rows_alone rows t) z) where
-    both-same : G3 (mesh_at nodes rows n t) z && G4 (mesh_at nodes rows n t) z ≡ c && d
-    both-same = rw (← gc, fourth-same nodes rows n t z, ← gd)
-
-    pub sign-yes : (r : ℕ) → c && d ≡ true → r ≡ pair_no (edge_of e) → r ≡ sign_on (mesh_at nodes rows n t) z
+    pub sign-yes : (e : Ends) → edge_of e ≡ span (rows_alone rows t) z → (r : ℕ) → d ≡ true → r ≡ pair_no (edge_of e) → r ≡ sign_on (mesh_at nodes rows n t) z
     unfolding sign_on
-    sign-yes r h g = g ∙ rw (both-same, h, span_same nodes rows n t z, ← ge)
+    sign-yes e ge r h g = g ∙ rw (both-same, h, span_same nodes rows n t z, ← ge)
 
-    pub sign-no : c && d ≡ false → 0 ≡ sign_on (mesh_at nodes rows n t) z
+    pub sign-not-4 : d ≡ false → 0 ≡ sign_on (mesh_at nodes rows n t) z
     unfolding sign_on
-    sign-no h = rw (both-same, h)
-
-pub came : (b x : Bool) → b ≡ x → not b ≡ false → x ≡ true
-came b x e h = sym e ∙ not-false b h
+    sign-not-4 h = rw (both-same, h)
 
 pub sign-base : (n0 z : ℕ) (m : Mesh) → z < n0 → 0 ≡ sign_from n0 m z
 unfolding sign_from

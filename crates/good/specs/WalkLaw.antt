@@ -1,13 +1,15 @@
 -- Numbers noted in scratch: the nodes are linked by them, a walk along one chain finds a rival where there is one, and tags say where
 -- there is none. In the form of needs. Assumes nothing.
-use Rattle.std.specs.Prelude.{◌≡◌, Bool, not, List, ℕ, suc, ◌+◌, ◌-◌, ◌*◌, ◌/◌, ◌%◌, ◌≤◌, ◌<◌, eqb, length, set}
+use Rattle.std.specs.Prelude.{◌≡◌, Bool, not, List, ℕ, suc, ◌+◌, ◌-◌, ◌*◌, ◌/◌, ◌%◌, ◌≤◌, ◌<◌, eqb, length, set, take, drop, replicate, ◌++◌, Option, Some, None, is_some}
 use Rattle.std.proofs.Math.Path.{refl, ap}
 use Rattle.std.proofs.Common.{sym, subst, ◌∙◌, arith, mod-lt}
 use Rattle.std.proofs.Math.Bool.{true, false}
 use borrow.Author.Tests.{eqb-true, eq-eqb, ne_eqb, ltb-true, ltb-false}
 use Rattle.std.proofs.Math.Dec.{ltb}
 use Rattle.std.proofs.Math.ListN.{get_or}
-use Rattle.lists.specs.Lists.{cases, is_found}
+use borrow.Rule.Slice.PartMut.{put_mid, mid_of, mid_len, Post-is}
+use Rattle.std.proofs.lemmas.Grind.{common_steps}
+use Rattle.lists.specs.Lists.{cases}
 use Rattle.lists.specs.ListsLaw.{and_left}
 use Rattle.lists.specs.Tally.{bit}
 use Rattle.lists.specs.Search.{lowest}
@@ -15,7 +17,7 @@ use Rattle.lists.specs.SearchLaw.{lowest-some, lowest-agree}
 use Rattle.lists.specs.Loops.{code, down, noted}
 use Rattle.lists.specs.LoopsLaw.{down-makes, noted-turn, noted-length, noted-at, noted-below, noted-above}
 use Rattle.lists.specs.ChainLaw.{Chain, linked, linked-length, linked-other, chain-start, chain-skip, chain_link, chain-kept, On, over, at, on-start, on-next, ahead, ahead-less}
-use Rattle.good.specs.Rival.{numbers_at, rivals, lone, tagged, Tags, key_of, same_key, Linked, blank, link_node}
+use Rattle.good.specs.Rival.{numbers_at, rivals, lone, tagged, Tags, key_of, same_key, Linked, blanked, link_node}
 
 -- ---- where there is a node, t is above 0
 
@@ -25,6 +27,28 @@ module _ (n z t : ℕ) (some : 0 < n → 0 < t) where
 
   pub some-down : 0 < z → z ≤ n → 0 < t
   some-down h k = some (omega arith)
+
+-- ---- heads made blank
+
+module _ (o t : ℕ) (s : List ℕ) where
+  pub blanked-made : (ys : List ℕ) → o + t ≤ length s → ys ≡ replicate (length (mid_of o (o + t - o) s)) 0 → put_mid o (o + t - o) s ys ≡ blanked o t s
+  unfolding blanked
+  blanked-made ys h e =
+      let q : o + t - o ≡ t = omega arith in
+      ap (λ (l : List ℕ). take o s ++ (ys ++ l)) (Post-is o (o + t) s (omega arith))
+      ∙ ap (λ (l : List ℕ). take o s ++ (l ++ drop (o + t) s)) (e ∙ ap (λ (k : ℕ). replicate k 0) (mid_len o (o + t) s h ∙ q))
+
+  blanked-length : o + t ≤ length s → length (blanked o t s) ≡ length s
+  unfolding blanked
+  blanked-length h = grind (arith, common_steps)
+
+  blanked-at : (k : ℕ) → o + t ≤ length s → k < t → get_or (blanked o t s) (o + k) 0 ≡ 0
+  unfolding blanked
+  blanked-at k h l = grind (arith, common_steps)
+
+  blanked-below : (x : ℕ) → o + t ≤ length s → x < o → get_or (blanked o t s) x 0 ≡ get_or s x 0
+  unfolding blanked
+  blanked-below x h l = grind (arith, common_steps)
 
 -- ---- one node linked
 
@@ -74,23 +98,23 @@ module _ (nc n t : ℕ) (room : n ≤ nc) where
                 between = λ z w. (linked-other (2 * nc + b) i i s (nc + z) (omega arith) (omega arith) ∙ l.between z w);
               }
 
-  module _ (s₁ s₂ s₃ : List ℕ) (u : 2 * nc + t ≤ length s₁) (some : 0 < n → 0 < t) (e₂ : s₂ ≡ noted (2 * nc) blank t s₁) (e₃ : s₃ ≡ down (link_node nc t) n s₂) where
+  module _ (s₁ s₂ s₃ : List ℕ) (u : 2 * nc + t ≤ length s₁) (some : 0 < n → 0 < t) (e₂ : s₂ ≡ blanked (2 * nc) t s₁) (e₃ : s₃ ≡ down (link_node nc t) n s₂) where
     long₂ : length s₂ ≡ length s₁
-    long₂ = rw e₂ (noted-length (2 * nc) blank t s₁)
+    long₂ = rw e₂ (blanked-length (2 * nc) t s₁ u)
 
     all-linked : Linking s₂ 0 s₃
     all-linked =
         subst (λ (r : List ℕ). Linking s₂ 0 r) (sym e₃)
         (down-makes (link_node nc t) (λ i r. Linking s₂ i r) n s₂ (λ i r h l. link-turn s₂ i r (let a = long₂ in omega arith) (some (omega arith)) h l)
         (record {
-          chain = chain-start (λ z. key_of t (numbers_at s₂ nc z)) t (2 * nc) 0 n s₂ (λ k l. rw e₂ (noted-at (2 * nc) blank t s₁ k 0 l (omega arith)));
+          chain = chain-start (λ z. key_of t (numbers_at s₂ nc z)) t (2 * nc) 0 n s₂ (λ k l. rw e₂ (blanked-at (2 * nc) t s₁ k u l));
           long = refl;
           between = λ z h. refl;
         }))
 
     numbers-kept : (z : ℕ) → z < n → numbers_at s₃ nc z ≡ numbers_at s₁ nc z
     numbers-kept z h =
-        ap (λ (x : ℕ). x / 2) (all-linked.between z h ∙ rw e₂ (noted-below (2 * nc) blank t s₁ (nc + z) 0 (omega arith)))
+        ap (λ (x : ℕ). x / 2) (all-linked.between z h ∙ rw e₂ (blanked-below (2 * nc) t s₁ (nc + z) u (omega arith)))
 
     pub nodes-linked : Linked s₃ nc n t
     nodes-linked = record {
@@ -129,13 +153,7 @@ module _ (s : List ℕ) (nc n t z : ℕ) (d : Linked s nc n t) (l : z < n) (os :
   walk-below k o (over e) = absurd (o refl)
   walk-below k o (at j h e f) = omega arith
 
-  pub walk-note : (k y : ℕ) → (k ≡ 0 → ⊥) → y ≡ k - 1 → Walk s nc n t z k → nc + y < length s
-  walk-note k y o e w = let a = walk-below k o w in let b = d.room in let u = d.long in omega arith
-
-  pub walk-next : (k y : ℕ) → (k ≡ 0 → ⊥) → y ≡ k - 1 → Walk s nc n t z k → y < length s
-  walk-next k y o e w = let a = walk-note k y o e w in omega arith
-
-  walk-met : (k : ℕ) (r : Bool) → (k ≡ 0 → ⊥) → Walk s nc n t z k → r ≡ rivals (numbers_at s nc) z (k - 1) → r ≡ true → true ≡ is_found (lowest (rivals (numbers_at s nc) z) 0 n)
+  walk-met : (k : ℕ) (r : Bool) → (k ≡ 0 → ⊥) → Walk s nc n t z k → r ≡ rivals (numbers_at s nc) z (k - 1) → r ≡ true → true ≡ is_some (lowest (rivals (numbers_at s nc) z) 0 n)
   walk-met k r o (over x) e y = absurd (o refl)
   walk-met k r o (at j h x f) e y =
       let q : j + 1 - 1 ≡ j = omega arith in
@@ -158,19 +176,36 @@ module _ (s : List ℕ) (nc n t z : ℕ) (d : Linked s nc n t) (l : z < n) (os :
       nearer : {a : ℕ} → j + 1 ≡ suc j → a < n - j → a < ahead n (j + 1)
       nearer {a} q b = subst (λ (x : ℕ). a < ahead n x) (sym q) b
 
-  module _ (k y : ℕ) (r : Bool) (o : k ≡ 0 → ⊥) (q : y ≡ k - 1) (w : Walk s nc n t z k) (e : r ≡ rivals (numbers_at s nc) z y) where
-    pub walk-hit : r ≡ true → true ≡ is_found (lowest (rivals (numbers_at s nc) z) 0 n)
-    walk-hit x = walk-met k r o w (rw q at e) x
+  -- the walk stands at y
+  module _ (k : Option ℕ) (y : ℕ) (e : k ≡ Some y) (w : Walk s nc n t z (code k)) where
+    there : code k ≡ 0 → ⊥
+    there h = let q : y + 1 ≡ 0 = rw e at h in omega arith
 
-    pub walk-on : (k' : ℕ) → r ≡ false → k' ≡ get_or s y 0 → Walk s nc n t z k'
-    walk-on k' x g = (walk-passed k k' r o w (rw q at e) x (rw q at g)).0
+    here : y ≡ code k - 1
+    here = rw e (omega arith)
 
-    pub walk-less : (k' : ℕ) → r ≡ false → k' ≡ get_or s y 0 → ahead n k' < ahead n k
-    walk-less k' x g = (walk-passed k k' r o w (rw q at e) x (rw q at g)).1
+    pub walk-note : nc + y < length s
+    walk-note = let a = walk-below (code k) there w in let b = d.room in let u = d.long in let q = here in omega arith
 
-  pub walk-over : (k : ℕ) → k ≡ 0 → Walk s nc n t z k → false ≡ is_found (lowest (rivals (numbers_at s nc) z) 0 n)
-  walk-over k e (over x) = sym (ap is_found x)
-  walk-over k e (at j h x f) = absurd (omega arith)
+    pub walk-next : y < length s
+    walk-next = let a = walk-note in omega arith
+
+    module _ (r : Bool) (f : r ≡ rivals (numbers_at s nc) z y) where
+      pub walk-hit : r ≡ true → true ≡ is_some (lowest (rivals (numbers_at s nc) z) 0 n)
+      walk-hit x = walk-met (code k) r there w (rw here at f) x
+
+      pub walk-on : (k' : ℕ) → r ≡ false → k' ≡ get_or s y 0 → Walk s nc n t z k'
+      walk-on k' x g = (walk-passed (code k) k' r there w (rw here at f) x (rw here at g)).0
+
+      pub walk-less : (k' : ℕ) → r ≡ false → k' ≡ get_or s y 0 → ahead n k' < ahead n (code k)
+      walk-less k' x g = (walk-passed (code k) k' r there w (rw here at f) x (rw here at g)).1
+
+  walk-none : (k : ℕ) → k ≡ 0 → Walk s nc n t z k → false ≡ is_some (lowest (rivals (numbers_at s nc) z) 0 n)
+  walk-none k e (over x) = sym (ap is_some x)
+  walk-none k e (at j h x f) = absurd (omega arith)
+
+  pub walk-over : (k : Option ℕ) → k ≡ None → Walk s nc n t z (code k) → false ≡ is_some (lowest (rivals (numbers_at s nc) z) 0 n)
+  walk-over k e w = walk-none (code k) (ap code e) w
 
 -- ---- tags
 
@@ -179,7 +214,7 @@ module _ (sg : ℕ → ℕ) (n z v : ℕ) (e : v ≡ sg z) where
   unfolding tagged
   tag-none q = rw (← e, q)
 
-  module _ (o : v ≡ 0 → ⊥) (r : Bool) (f : r ≡ is_found (lowest (rivals sg z) 0 n)) where
+  module _ (o : v ≡ 0 → ⊥) (r : Bool) (f : r ≡ is_some (lowest (rivals sg z) 0 n)) where
     pub tag-rival : r ≡ true → 2 * v ≡ tagged sg n z
     unfolding tagged
     tag-rival q = rw (← f, q, ← e, ne_eqb v 0 o) (omega arith)
@@ -234,7 +269,7 @@ module _ (s₀ s : List ℕ) (nc n t z : ℕ) (e : s ≡ noted nc (tagged (numbe
       (g ∙ ap (λ (x : ℕ). set s (nc + z) x) (f ∙ tagged-agree (numbers_at s nc) (numbers_at s₀ nc) n z h numbers-still))
 
 -- all nodes tagged: s₁ has the numbers, s₂ blank heads, s₃ the links
-pub all-tagged : (nc n t : ℕ) → n ≤ nc → (s₁ s₂ s₃ s₄ : List ℕ) → 2 * nc + t ≤ length s₁ → (0 < n → 0 < t) → s₂ ≡ noted (2 * nc) blank t s₁ → s₃ ≡ down (link_node nc t) n s₂ →
+pub all-tagged : (nc n t : ℕ) → n ≤ nc → (s₁ s₂ s₃ s₄ : List ℕ) → 2 * nc + t ≤ length s₁ → (0 < n → 0 < t) → s₂ ≡ blanked (2 * nc) t s₁ → s₃ ≡ down (link_node nc t) n s₂ →
     s₄ ≡ noted nc (tagged (numbers_at s₃ nc) n) n s₃ → Tags s₁ s₄ nc n
 all-tagged nc n t room s₁ s₂ s₃ s₄ u some e₂ e₃ e₄ =
     let L = nodes-linked nc n t room s₁ s₂ s₃ u some e₂ e₃ in

@@ -4,12 +4,13 @@
 //   nc + z     twice the number of node z, later 1 more where no other node has it
 //   2 nc + k   the lowest node whose number leaves the remainder k by t
 //   z          the next node with the same remainder
-ghost use Rattle.std.specs.Prelude.{◌≡◌, ℕ, ◌+◌, ◌-◌, ◌*◌, ◌%◌, ◌≤◌, ◌<◌, length};
-ghost use Rattle.lists.specs.Lists.{is_found};
+ghost use Rattle.std.specs.Prelude.{◌≡◌, ℕ, ◌+◌, ◌*◌, ◌%◌, ◌≤◌, ◌<◌, length, is_some};
 ghost use Rattle.lists.specs.Search.{lowest};
 ghost use Rattle.lists.specs.Loops.{down, noted};
-ghost use Rattle.good.specs.Rival.{numbers_at, rivals, Linked, tagged, Tags, blank, link_node};
+ghost use Rattle.good.specs.Rival.{numbers_at, rivals, Linked, tagged, Tags, blanked, link_node};
 
+// The number of node z, 0 for none.
+// Stays: it is as scratch holds it, and a walk asks of two of them only whether they are equal.
 fn number_at(scratch: &[u32], nc: usize, z: usize) -> u32
     requires { nc + z < length scratch.now }
     ensures number { result ≡ numbers_at scratch.now nc z }
@@ -22,13 +23,9 @@ fn number_at(scratch: &[u32], nc: usize, z: usize) -> u32
 
 fn blank_rows(scratch: &mut [u32], o: usize, t: usize)
     requires { o + t ≤ length scratch.old }
-    ensures { scratch.new ≡ noted o blank t scratch.old }
+    ensures { scratch.new ≡ blanked o t scratch.old }
 {
-    let mut i = 0;
-    while i < t {
-        tables::put_note(scratch, o + i, 0);
-        i += 1;
-    }
+    scratch[o..o + t].fill(0);
 }
 
 fn bucket(v: u32, t: usize) -> usize
@@ -47,11 +44,9 @@ fn link_node(scratch: &mut [u32], nc: usize, t: usize, z: usize)
     ensures { scratch.new ≡ link_node nc t z scratch.old }
 {
     let v = number_at(scratch, nc, z);
-    if v == 0 {
-        return;
+    if v != 0 {
+        round::link(scratch, 2 * nc + bucket(v, t), z, z);
     }
-    let b = bucket(v, t);
-    round::link(scratch, 2 * nc + b, z, z);
 }
 
 fn link_nodes(scratch: &mut [u32], nc: usize, n: usize, t: usize)
@@ -61,9 +56,7 @@ fn link_nodes(scratch: &mut [u32], nc: usize, n: usize, t: usize)
     requires nc_bound { nc ≤ 65_536 }
     ensures { scratch.new ≡ down (link_node nc t) n scratch.old }
 {
-    let mut z = n;
-    while z > 0 {
-        z -= 1;
+    for z in (0..n).rev() {
         link_node(scratch, nc, t, z);
     }
 }
@@ -75,17 +68,7 @@ fn rival(scratch: &[u32], nc: usize, z: usize, y: usize) -> bool
     requires y_in_bounds { nc + y < length scratch.now }
     ensures { result ≡ rivals (numbers_at scratch.now nc) z y }
 {
-    let a = number_at(scratch, nc, y);
-    let b = number_at(scratch, nc, z);
-    (a == b) & (y != z)
-}
-
-// The item that number k says.
-fn item(k: u32) -> usize
-    requires { k ≡ 0 → ⊥ }
-    ensures { result ≡ k - 1 }
-{
-    k as usize - 1
+    number_at(scratch, nc, y) == number_at(scratch, nc, z) && y != z
 }
 
 // Whether another node below n has the number of z.
@@ -94,17 +77,15 @@ fn find_rival(scratch: &[u32], nc: usize, n: usize, t: usize, z: usize) -> bool
     requires z_lt_n { z < n }
     requires fact { numbers_at scratch.now nc z ≡ 0 → ⊥ }
     requires t_nonzero { 0 < t }
-    ensures { result ≡ is_found (lowest (rivals (numbers_at scratch.now nc) z) 0 n) }
+    ensures { result ≡ is_some (lowest (rivals (numbers_at scratch.now nc) z) 0 n) }
 {
-    let v = number_at(scratch, nc, z);
-    let b = bucket(v, t);
-    let mut k = tables::note_at(scratch, 2 * nc + b);
-    while k != 0 {
-        let y = item(k);
+    let b = bucket(number_at(scratch, nc, z), t);
+    let mut next = round::item(tables::note_at(scratch, 2 * nc + b));
+    while let Some(y) = next {
         if rival(scratch, nc, z, y) {
             return true;
         }
-        k = tables::note_at(scratch, y);
+        next = round::item(tables::note_at(scratch, y));
     }
     false
 }
@@ -120,12 +101,12 @@ fn tag(scratch: &[u32], nc: usize, n: usize, t: usize, z: usize) -> u32
 {
     let v = number_at(scratch, nc, z);
     if v == 0 {
-        return 0;
+        0
+    } else if find_rival(scratch, nc, n, t, z) {
+        2 * v
+    } else {
+        2 * v + 1
     }
-    if find_rival(scratch, nc, n, t, z) {
-        return 2 * v;
-    }
-    2 * v + 1
 }
 
 fn tags(scratch: &mut [u32], nc: usize, n: usize, t: usize)
@@ -133,11 +114,9 @@ fn tags(scratch: &mut [u32], nc: usize, n: usize, t: usize)
     requires t_nonzero { 0 < n → 0 < t }
     ensures { scratch.new ≡ noted nc (tagged (numbers_at scratch.old nc) n) n scratch.old }
 {
-    let mut z = 0;
-    while z < n {
+    for z in 0..n {
         let v = tag(scratch, nc, n, t, z);
         tables::put_note(scratch, nc + z, v);
-        z += 1;
     }
 }
 

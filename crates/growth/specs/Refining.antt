@@ -1,13 +1,10 @@
 -- Refining keeps a mesh grown from a base: bisection along the closure of any starting edges. Assumes nothing.
-use Rattle.std.specs.Prelude.{Bool, true, false, ◌≡◌, refl, ℕ, min, max, ◌+◌, ◌-◌, ◌≤◌, ◌<◌, length}
+use Rattle.std.specs.Prelude.{Bool, true, false, ◌≡◌, refl, ℕ, min, max, ◌+◌, ◌-◌, ◌≤◌, ◌<◌, length, Option, Some, None}
 use mathlib.Core.List.{List, ◌++◌, map, Memᴰ}
-use Rattle.std.proofs.Math.Option.{Option, none, some}
 use Rattle.std.proofs.Common.{sym, subst, subst₂, ◌∙◌, arith}
 use Rattle.std.proofs.Math.Path.{ap}
 use Rattle.std.proofs.Math.ListN.{get_or, get_or-map}
 use Rattle.std.proofs.lemmas.List.{length-map}
-use Rattle.lists.specs.declared.Found.{Found}
-use Rattle.lists.specs.declared.Found.TheVariants.{At}
 use Rattle.lists.specs.Lists.{all, where_first}
 use Rattle.lists.specs.ListsLaw.{clash, All-at, All-get_or, all_yes, any_at, any-row, WhereIs, nowhere, place_of, where-is}
 use Rattle.lists.specs.MembersLaw.{mem-at, at_mem}
@@ -38,13 +35,13 @@ use Rattle.growth.specs.SplitRows.{cut_at, rows-ahead, split-count, row-of-kept,
 -- ---- one triangle
 
 abbrev number : Option ℕ → ℕ
-number none = 0
-number (some k) = k
+number None = 0
+number (Some k) = k
 
 -- An edge with the number k, if it is split.
 data Agrees (k : ℕ) : Bool → Option ℕ → Type 0 where
-  is-split : Agrees k true (some k)
-  is_whole : Agrees k false none
+  is-split : Agrees k true (Some k)
+  is_whole : Agrees k false None
 
 module _ (num : ℕ → ℕ → ℕ) (t : Tri) where
   kept-is : {o u v : Option ℕ} {x y z : Bool} → Agrees (num t.q t.r) x o → Agrees (num t.p t.q) y u → Agrees (num t.r t.p) z v
@@ -87,12 +84,12 @@ module _ (m : Mesh) (s : List Edge) where
     index : ℕ
     below : index < length s
     is : get_or s index (edge 0 0) ≡ e
-    found : where_first (same_edge e) s ≡ At index
+    found : where_first (same_edge e) s ≡ Some index
 
   spot : (e : Edge) → mem_edge e s ≡ true → Spot e
   spot e h = go (where_first (same_edge e) s) refl (where-is (same_edge e) s (edge 0 0))
     where
-      go : (o : Found) → where_first (same_edge e) s ≡ o → WhereIs (same_edge e) s (edge 0 0) o → Spot e
+      go : (o : Option ℕ) → where_first (same_edge e) s ≡ o → WhereIs (same_edge e) s (edge 0 0) o → Spot e
       go o f (nowhere n) = let r = any-row (same_edge e) s h in clash (sym r.2 ∙ All-at n r.1)
       go o f (place_of i l t) = record { index = i; below = l; is = sym (same_edge-eq e (get_or s i (edge 0 0)) t); found = f }
 
@@ -111,15 +108,15 @@ module _ (m : Mesh) (s : List Edge) where
   num a b = number (number_of (length m.nodes) s (edge a b))
 
   num-at : (a b : ℕ) (S : Spot (edge a b)) → num a b ≡ length m.nodes + S.index
-  num-at a b S = ap (λ (o : Found). number (plus (length m.nodes) o)) S.found
+  num-at a b S = ap (λ (o : Option ℕ). number (plus (length m.nodes) o)) S.found
 
   agrees : (a b : ℕ) (d : Dec (Split a b)) → Agrees (num a b) (ask d) (number_of (length m.nodes) s (edge a b))
   agrees a b (yes h) =
       let S = spot (edge a b) h in
-      subst (λ (o : Option ℕ). Agrees (num a b) true o) (sym (ap (plus (length m.nodes)) S.found ∙ ap some (sym (num-at a b S)))) is-split
+      subst (λ (o : Option ℕ). Agrees (num a b) true o) (sym (ap (plus (length m.nodes)) S.found ∙ ap Some (sym (num-at a b S)))) is-split
   agrees a b (no n) = go (where_first (same_edge (edge a b)) s) refl (where-is (same_edge (edge a b)) s (edge 0 0))
     where
-      go : (o : Found) → where_first (same_edge (edge a b)) s ≡ o → WhereIs (same_edge (edge a b)) s (edge 0 0) o → Agrees (num a b) false (plus (length m.nodes) (where_first (same_edge (edge a b)) s))
+      go : (o : Option ℕ) → where_first (same_edge (edge a b)) s ≡ o → WhereIs (same_edge (edge a b)) s (edge 0 0) o → Agrees (num a b) false (plus (length m.nodes) (where_first (same_edge (edge a b)) s))
       go o f (nowhere _) = rw f is_whole
       go o f (place_of i l t) = absurd (n (any_at (same_edge (edge a b)) t (at_mem s i (edge 0 0) l)))
 
@@ -201,7 +198,7 @@ module _ (base m : Mesh) (G : GrownFrom base m) (start : List Edge) (even : all 
       let (t, _, je) = of_row (k - n) li in
       let norm = edge-norm t (edge_of k) je in (
         subst (λ (e : Edge). mem_edge e s ≡ true) (sym norm) (mem_edge-in (at_mem s (k - n) (edge 0 0) li)),
-        ap (λ (e : Edge). number (number_of n s e)) norm ∙ ap (λ (o : Found). number (plus n o)) (split_edges-apart m start (k - n) (edge 0 0) li) ∙ omega arith,
+        ap (λ (e : Edge). number (number_of n s e)) norm ∙ ap (λ (o : Option ℕ). number (plus n o)) (split_edges-apart m start (k - n) (edge 0 0) li) ∙ omega arith,
       )
 
   -- THE REFINED ROWS are those of the table.

@@ -1,7 +1,6 @@
 -- The rows of a split mesh, by number: a father's row holds the part that is kept; the parts that are appended follow, fathers in row order.
 -- So a left child always stands before its brother. Assumes nothing.
-use Rattle.std.specs.Prelude.{List, ◌++◌, map, ◌≡◌, ℕ, ◌+◌, ◌<◌, length, get_or}
-use Rattle.std.proofs.Math.Option.{Option, none, some}
+use Rattle.std.specs.Prelude.{List, ◌++◌, map, ◌≡◌, ℕ, ◌+◌, ◌<◌, length, get_or, Option, None, Some}
 use Rattle.std.proofs.Math.Path.{refl}
 use Rattle.std.proofs.Common.{sym, subst, ap, ap₂, ◌∙◌, arith, length-append, get_or-append-add}
 use Rattle.std.proofs.lemmas.List.{length-map}
@@ -66,8 +65,8 @@ right_child t m = tri m t.r t.p
 
 -- a child, "or its own left child" where its refinement edge is split too
 abbrev pub stands-as : Tri → Option ℕ → Tri
-stands-as t none = t
-stands-as t (some m) = left_child t m
+stands-as t None = t
+stands-as t (Some m) = left_child t m
 
 -- Row i holds a left child and row j, a later one, its brother.
 pub record Before (ts : List Tri) (i j : ℕ) (l r : Tri) : Type 0 where
@@ -81,8 +80,8 @@ pub record LeftFirst (ts : List Tri) (i : ℕ) (t : Tri) (k : ℕ) (u v : Option
   pub j : ℕ
   pub children : Before ts i j (stands-as (left_child t k) u) (stands-as (right_child t k) v)
   -- the children of a child that is split itself
-  pub of_left : (a : ℕ) → u ≡ some a → (h : ℕ) × Before ts i h (left_child (left_child t k) a) (right_child (left_child t k) a)
-  pub of_right : (b : ℕ) → v ≡ some b → (h : ℕ) × Before ts j h (left_child (right_child t k) b) (right_child (right_child t k) b)
+  pub of_left : (a : ℕ) → u ≡ Some a → (h : ℕ) × Before ts i h (left_child (left_child t k) a) (right_child (left_child t k) a)
+  pub of_right : (b : ℕ) → v ≡ Some b → (h : ℕ) × Before ts j h (left_child (right_child t k) b) (right_child (right_child t k) b)
 
 -- the parts of a row that was in row i: the first there, the others in later rows, in order
 pub record Placed (ts : List Tri) (i : ℕ) (x : Cut) : Type 0 where
@@ -102,10 +101,10 @@ parts-placed c m s i l = record {
       (rw e (row-of-added c m s i n l h), omega (arith, split-count c m s)));
 }
 
-none-some : {A : Type 0} (a : ℕ) → none ≡ some a → A
+none-some : {A : Type 0} (a : ℕ) → None ≡ Some a → A
 none-some a e = let z : ◌≡◌ {A = ℕ} 0 1 = cc in absurd (omega arith)
 
-some-some : (a b : ℕ) → some a ≡ some b → a ≡ b
+some-some : (a b : ℕ) → Some a ≡ Some b → a ≡ b
 some-some a b e = cc
 
 module _ {ts : List Tri} {i : ℕ} where
@@ -120,21 +119,21 @@ module _ {ts : List Tri} {i : ℕ} where
       let r = P.then-there b h in
       record { left-row = (P.then-there a (omega arith)).0; brother-row = r.0; before = omega arith; inside = r.1 }
 
-  in_order : (t : Tri) (k : ℕ) (u v : Option ℕ) → Placed ts i (bisected t (some k) u v) → LeftFirst ts i t k u v
-  in_order t k none none P = record { j = P.from + 0; children = first-before P 0 (omega arith); of_left = λ a e. none-some a e; of_right = λ b e. none-some b e }
-  in_order t k (some u) none P = record {
+  in_order : (t : Tri) (k : ℕ) (u v : Option ℕ) → Placed ts i (bisected t (Some k) u v) → LeftFirst ts i t k u v
+  in_order t k None None P = record { j = P.from + 0; children = first-before P 0 (omega arith); of_left = λ a e. none-some a e; of_right = λ b e. none-some b e }
+  in_order t k (Some u) None P = record {
     j = P.from + 0;
     children = first-before P 0 (omega arith);
     of_left = λ a e. (P.from + 1, subst (λ (x : ℕ). Before ts i (P.from + 1) (tri x k t.p) (tri x t.q k)) (some-some u a e) (first-before P 1 (omega arith)));
     of_right = λ b e. none-some b e;
   }
-  in_order t k none (some v) P = record {
+  in_order t k None (Some v) P = record {
     j = P.from + 0;
     children = first-before P 0 (omega arith);
     of_left = λ a e. none-some a e;
     of_right = λ b e. (P.from + 1, subst (λ (x : ℕ). Before ts (P.from + 0) (P.from + 1) (tri x k t.r) (tri x t.p k)) (some-some v b e) (other-before P 0 1 (omega arith) (omega arith)));
   }
-  in_order t k (some u) (some v) P = record {
+  in_order t k (Some u) (Some v) P = record {
     j = P.from + 0;
     children = first-before P 0 (omega arith);
     of_left = λ a e. (P.from + 1, subst (λ (x : ℕ). Before ts i (P.from + 1) (tri x k t.p) (tri x t.q k)) (some-some u a e) (first-before P 1 (omega arith)));
@@ -145,7 +144,7 @@ module _ {ts : List Tri} {i : ℕ} where
 pub left-stands-first : (m : Mesh) (s : List Edge) (i : ℕ) → i < length m.tris → (k : ℕ) →
     let t : Tri = row_of m.tris i in
     let n : ℕ = length m.nodes in
-    number_of n s (base t) ≡ some k → LeftFirst (split_at bisected m s).tris i t k (number_of n s (edge t.p t.q)) (number_of n s (edge t.r t.p))
+    number_of n s (base t) ≡ Some k → LeftFirst (split_at bisected m s).tris i t k (number_of n s (edge t.p t.q)) (number_of n s (edge t.r t.p))
 left-stands-first m s i l k e =
     let t = row_of m.tris i in
     let n = length m.nodes in

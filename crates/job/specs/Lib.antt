@@ -1,2 +1,3 @@
 pub mod Pass
 pub mod PassLaw
+pub mod Steps

@@ -26,9 +26,6 @@ take-ones zero k h = refl
 take-ones (suc m) zero h = absurd (omega arith)
 take-ones (suc m) (suc k) h = ap (λ (l : List ℕ). 1 ∷ l) (take-ones m k (omega arith))
 
-pub ones-count : (m n : ℕ) → m ≡ min n 1024 → m ≡ length (take {A = ℕ} m (replicate 1024 1))
-ones-count m n e = rw (take-ones m 1024 (omega arith)) (sym (length-replicate m 1))
-
 pub pass-made : (o : Outcome) (nodes : List ℤ) (rows scratch : List ℕ) (n0 n t m : ℕ) → m ≡ min n 1024 →
     o ≡ coarsen_out (given nodes rows scratch n t) n0 (take {A = ℕ} m (replicate 1024 1)) → o ≡ pass_out (given nodes rows scratch n t) n0
 unfolding pass_out
@@ -144,22 +141,22 @@ module _ (g : Given) (n0 : ℕ) where
 
 module _ (a : Answer) (g : Given) (nodes' : List ℤ) (rows' scratch' : List ℕ) (n0 n t p : ℕ) (w : Outcome) (e : outcome a nodes' rows' scratch' ≡ pass_out g n0)
     (inv : after p n t (restore_out g n0) ≡ w) where
-  pub refuse : (a.number ≡ 0 → ⊥) → outcome (answer a.number n t 0 a.culprit) nodes' rows' scratch' ≡ w
+  pub refuse : (a.number ≡ 0 → ⊥) → outcome (answer a.number n t a.passes a.culprit) nodes' rows' scratch' ≡ w
   refuse o = go (pass-and-restore g n0) e inv
     where
-      go : {x y : Outcome} → Said g n0 x y → outcome a nodes' rows' scratch' ≡ x → after p n t y ≡ w → outcome (answer a.number n t 0 a.culprit) nodes' rows' scratch' ≡ w
-      go (refused k c z) e inv = ap (λ (o : Outcome). outcome (answer o.answer.number n t 0 o.answer.culprit) o.nodes o.rows o.scratch) e ∙ sym (after-refused p n t g k c z) ∙ inv
+      go : {x y : Outcome} → Said g n0 x y → outcome a nodes' rows' scratch' ≡ x → after p n t y ≡ w → outcome (answer a.number n t a.passes a.culprit) nodes' rows' scratch' ≡ w
+      go (refused k c z) e inv = ap (λ (o : Outcome). outcome (answer o.answer.number n t o.answer.passes o.answer.culprit) o.nodes o.rows o.scratch) e ∙ sym (after-refused p n t g k c z) ∙ inv
       go (passed s l) e inv = absurd (o (ap (λ (o : Outcome). o.answer.number) e))
 
   module _ (z : a.number ≡ 0) where
-    pub finish : a.n ≡ g.n → outcome (answer 0 a.n a.t p 0) nodes' rows' scratch' ≡ w
+    pub finish : a.n ≡ g.n → outcome (answer a.number a.n a.t p a.culprit) nodes' rows' scratch' ≡ w
     finish q = go (pass-and-restore g n0) e inv
       where
-        go : {x y : Outcome} → Said g n0 x y → outcome a nodes' rows' scratch' ≡ x → after p n t y ≡ w → outcome (answer 0 a.n a.t p 0) nodes' rows' scratch' ≡ w
+        go : {x y : Outcome} → Said g n0 x y → outcome a nodes' rows' scratch' ≡ x → after p n t y ≡ w → outcome (answer a.number a.n a.t p a.culprit) nodes' rows' scratch' ≡ w
         go (refused k c o) e inv = absurd (o (sym (ap (λ (o : Outcome). o.answer.number) e) ∙ z))
         go (passed s l) e inv =
             let b : length (pass n0 (mesh_of g)).nodes ≡ length (mesh_of g).nodes = sym (ap (λ (o : Outcome). o.answer.n) e) ∙ q ∙ sym (nodes-count g) in
-            ap (λ (o : Outcome). outcome (answer 0 o.answer.n o.answer.t p 0) o.nodes o.rows o.scratch) e
+            ap (λ (o : Outcome). outcome (answer o.answer.number o.answer.n o.answer.t p o.answer.culprit) o.nodes o.rows o.scratch) e
             ∙ ended g n0 b p
             ∙ sym (after-done p n t g (restored n0 (mesh_of g)).end (restored n0 (mesh_of g)).passes) ∙ inv
 

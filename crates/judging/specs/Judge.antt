@@ -1,18 +1,20 @@
 -- 1 to 7, which every call judges first: the number and where, and what its absence tells. Assumes nothing.
-use Rattle.std.specs.Prelude.{◌≡◌, Bool, true, false, not, List, ℕ, ◌*◌, ◌/◌, ◌≤◌, eqb, ℤ, length, take, replicate}
-use Rattle.std.proofs.Common.{sym, ◌∙◌, arith}
-use borrow.Author.Tests.{not-true, not-false, eqb-true}
+use Rattle.std.specs.Prelude.{◌≡◌, refl, Bool, true, false, List, ℕ, ◌*◌, ◌/◌, ◌≤◌, eqb, ℤ, length, take, replicate, Result, Ok, Err, IfOk}
+use Rattle.std.proofs.Common.{sym, ap, ◌∙◌, arith}
+use borrow.Author.Tests.{eqb-true}
 use Rattle.std.proofs.Math.Dec.{leb}
 use Rattle.lists.specs.Lists.{all, cases}
 use Rattle.lists.specs.ListsLaw.{and_left}
 use Rattle.lists.specs.Search.{items}
-use Rattle.meaning.specs.declared.Fault.{Fault}
+use Rattle.meaning.specs.Fault.{Fault}
 use Rattle.meaning.specs.Mesh.{Mesh, mesh}
 use Rattle.meaning.specs.Lawful.{Lawful, fault, fault_of, refusal}
 use Rattle.meaning.specs.Tables.{Given, given, mesh_of, row_at, node_at}
 use Rattle.meaning.specs.Calls.{marks_fit, sizes_fit}
 use Rattle.laws.specs.Lawful.{refusal-lawful}
 use Rattle.laws.specs.CallLaw.{Sizes, sizes-exact}
+use Rattle.refusals.specs.declared.Refusal.{Refusal}
+use Rattle.refusals.specs.Refusals.{verdict}
 use Rattle.neighbours.specs.Sized.{Sized, index_at}
 use Rattle.neighbours.specs.Ready.{Ready}
 use Rattle.lawful.specs.FaultLaw.{Judged}
@@ -43,13 +45,13 @@ module _ (nodes : List ℤ) (rows s marks : List ℕ) (k n0 n t : ℕ) (b : Bool
   fits-are : sizes_fit (given nodes rows s n t) n0 ≡ b
   fits-are = sym (e ∙ fitting-is nodes rows s n0 n t)
 
-  pub early-one : not b ≡ true → fault 1 0 ≡ early (given nodes rows s n t) n0 k marks
+  pub early-one : b ≡ false → fault 1 0 ≡ early (given nodes rows s n t) n0 k marks
   unfolding early
-  early-one h = rw (fits-are, not-true b h)
+  early-one h = rw (fits-are, h)
 
-  module _ (h : not b ≡ false) where
+  module _ (h : b ≡ true) where
     all_fit : Sizes (given nodes rows s n t) n0
-    all_fit = (sizes-exact (given nodes rows s n t) n0).0 (fits-are ∙ not-false b h)
+    all_fit = (sizes-exact (given nodes rows s n t) n0).0 (fits-are ∙ h)
 
     pub fits-sizes : Sized (length nodes / 4) (length rows) (length s)
     fits-sizes = let f = all_fit in record { few-nodes = omega (arith, f.few-nodes); few-rows = omega (arith, f.few-rows); scratch = f.scratch-fits }
@@ -63,28 +65,29 @@ module _ (nodes : List ℤ) (rows s marks : List ℕ) (k n0 n t : ℕ) (b : Bool
     module _ (c : Bool) (q : c ≡ marks_fit k marks) where
       early-on : early (given nodes rows s n t) n0 k marks ≡ cases c (fault_of (mesh_of (given nodes rows s n t))) (fault 2 0)
       unfolding early
-      early-on = rw (fits-are, not-false b h, ← q)
+      early-on = rw (fits-are, h, ← q)
 
-      pub early-two : not c ≡ true → fault 2 0 ≡ early (given nodes rows s n t) n0 k marks
-      early-two y = sym (early-on ∙ rw (not-true c y))
+      pub early-two : c ≡ false → fault 2 0 ≡ early (given nodes rows s n t) n0 k marks
+      early-two y = sym (early-on ∙ rw y)
 
-      module _ (y : not c ≡ false) (f : Fault) (d : f ≡ fault_of (mesh_of (given nodes rows s n t))) where
-        refusal_is : refusal (mesh_of (given nodes rows s n t)) ≡ f.number
-        unfolding refusal
-        refusal_is = rw d
+      module _ (y : c ≡ true) {A : Type 0} (r : Result A Refusal) (d : verdict r ≡ fault_of (mesh_of (given nodes rows s n t))) where
+        pub early-fault : verdict r ≡ early (given nodes rows s n t) n0 k marks
+        early-fault = sym (early-on ∙ rw y (sym d))
 
-        pub early-fault : f ≡ early (given nodes rows s n t) n0 k marks
-        early-fault = sym (early-on ∙ rw (not-false c y) (sym d))
-
-        pub admitted : (s' : List ℕ) → length s' ≡ length s → Judged f s' (length nodes / 4) rows t → f.number ≡ 0 → Admitted nodes rows s' marks k n t
-        unfolding mesh_of
-        admitted s' len j z = record {
-          law = refusal-lawful (mesh_of (given nodes rows s n t)) (refusal_is ∙ z);
-          sizes = rw len fits-sizes;
-          nodes-fit = fits-nodes;
-          rows_fit = fits-rows;
-          few = all_fit.few-nodes;
-          marks-fit = eqb-true (length marks) k (and_left (eqb (length marks) k) (all (λ b. leb b 1) marks) (sym q ∙ not-false c y));
-          notes = j.notes;
-          ready = j.ready z;
-        }
+        pub admitted : (s' : List ℕ) → length s' ≡ length s → Judged (verdict r) s' (length nodes / 4) rows t → IfOk r (λ _. Admitted nodes rows s' marks k n t)
+        unfolding mesh_of refusal
+        admitted s' len j = go r d j
+          where
+            go : (r : Result A Refusal) → verdict r ≡ fault_of (mesh_of (given nodes rows s n t)) → Judged (verdict r) s' (length nodes / 4) rows t →
+                IfOk r (λ _. Admitted nodes rows s' marks k n t)
+            go (Ok a) d j = record {
+              law = refusal-lawful (mesh_of (given nodes rows s n t)) (sym (ap (λ (f : Fault). f.number) d));
+              sizes = rw len fits-sizes;
+              nodes-fit = fits-nodes;
+              rows_fit = fits-rows;
+              few = all_fit.few-nodes;
+              marks-fit = eqb-true (length marks) k (and_left (eqb (length marks) k) (all (λ b. leb b 1) marks) (sym q ∙ y));
+              notes = j.notes;
+              ready = j.ready refl;
+            }
+            go (Err e) d j = tt

@@ -1,18 +1,22 @@
 -- What the three calls share once 1 to 7 are judged: each judges what is its own (`late`: 10, or 8 and 9, or nothing), then works;
 -- scratch is cleared before and after, and counts by its length alone. Assumes nothing.
-use Rattle.std.specs.Prelude.{◌≡◌, Bool, true, false, List, ℤ, pos, length, replicate}
+use Rattle.std.specs.Prelude.{◌≡◌, Bool, true, false, List, ℤ, pos, length, replicate, Result, Ok, Err}
+use Rattle.std.specs.Result.{IsErrAnd}
 use Rattle.std.proofs.Math.Path.{refl}
 use Rattle.std.proofs.Common.{sym, ap, ◌∙◌, inl, arith}
 use Prim.Native.Nat.{ℕ, zero, suc}
 use Rattle.std.proofs.lemmas.List.{length-replicate}
 use Rattle.lists.specs.Lists.{cases}
 use Rattle.meaning.specs.declared.Answer.{Answer}
-use Rattle.meaning.specs.declared.Fault.{Fault}
+use Rattle.meaning.specs.Fault.{Fault}
 use Rattle.meaning.specs.Mesh.{Mesh}
 use Rattle.meaning.specs.Lawful.{fault, fault_of, refusal}
 use Rattle.meaning.specs.Tables.{Given, given, Outcome, outcome, answer, mesh_of, flat_nodes, flat_rows, filled}
 use Rattle.meaning.specs.Calls.{Reply, culprit_of, says, unless, or_else, marks_fit, sizes_fit, untouched, leaves_by, leaves, sized}
 use Rattle.laws.specs.Culprit.{culprit-none, culprit-own, culprit-lawful}
+use Rattle.refusals.specs.declared.Refusal.{Refusal}
+use Rattle.refusals.specs.declared.Refusal.TheVariants.{Sizes, Marks, OutOfRange, Misnamed, Repeated, Flat, Unused, Odd, Full, Clashing, Touching, Lapping, BaseNode, Nowhere, NoNode}
+use Rattle.refusals.specs.Refusals.{fault_in}
 use Rattle.judging.specs.Sizes.{fitting, fitting-is}
 use Rattle.judging.specs.Judge.{early}
 
@@ -32,6 +36,29 @@ first_of f late o = go f.number refl
     go : (j : ℕ) → f.number ≡ j → f ≡ or_late_by j f late
     go zero e = absurd (o e)
     go (suc j) e = refl
+
+-- a refusal has a number
+pub numbered : (r : Refusal) → (fault_in r).number ≡ 0 → ⊥
+numbered Sizes e = cc
+numbered Marks e = cc
+numbered (OutOfRange k) e = cc
+numbered (Misnamed k) e = cc
+numbered (Repeated k) e = cc
+numbered (Flat k) e = cc
+numbered (Unused k) e = cc
+numbered Odd e = cc
+numbered Full e = cc
+numbered Clashing e = cc
+numbered Touching e = cc
+numbered Lapping e = cc
+numbered BaseNode e = cc
+numbered Nowhere e = cc
+numbered NoNode e = cc
+
+-- what a `?` hands on
+pub passed-on : {A : Type 0} (e : Refusal) (r : Result A Refusal) → IsErrAnd r (λ y. y ≡ e) → r ≡ Err e
+passed-on e (Err y) h = ap Err h
+passed-on e (Ok a) h = absurd h
 
 abbrev leaves_for : Given → Mesh → Fault → Outcome
 leaves_for g after f = leaves_by g f.number after 0 f.at

@@ -15,12 +15,9 @@ unfolding fitting sizes_fit
 fitting-is nodes rows s n0 n t = refl
 
 -- the code divides, so that nothing overflows
-quarter : (x sl : ℕ) → leb x (sl / 4) ≡ leb (4 * x) sl
+pub quarter : (x sl : ℕ) → leb x (sl / 4) ≡ leb (4 * x) sl
 quarter x sl = go (leb (4 * x) sl) refl
   where
     go : (b : Bool) → leb (4 * x) sl ≡ b → leb x (sl / 4) ≡ b
     go true e = le-leb x (sl / 4) (omega (arith, leb-true (4 * x) sl e))
     go false e = lt-leb x (sl / 4) (omega (arith, leb-false (4 * x) sl e))
-
-pub fitting-made : (b : Bool) (x sl : ℕ) → b && leb x (sl / 4) ≡ b && leb (4 * x) sl
-fitting-made b x sl = rw (quarter x sl)

@@ -1,9 +1,7 @@
 -- The chain of tests, in the form of its needs, and scratch along it. Assumes nothing.
-use Rattle.std.specs.Prelude.{◌≡◌, refl, List, ◌∷◌, ℕ, zero, suc, ◌≤◌, ◌<◌, length, take, replicate}
+use Rattle.std.specs.Prelude.{◌≡◌, refl, List, ◌∷◌, ℕ, zero, suc, ◌≤◌, ◌<◌, length, take, replicate, Option, Some, None}
 use Rattle.std.proofs.Common.{sym, ap, ◌∙◌, arith, take-take}
-use Rattle.lists.specs.declared.Found.{Found}
-use Rattle.lists.specs.declared.Found.TheVariants.{At, Nothing}
-use Rattle.meaning.specs.declared.Fault.{Fault}
+use Rattle.meaning.specs.Fault.{Fault}
 use Rattle.meaning.specs.Lawful.{fault, or_later}
 use Rattle.neighbours.specs.Sized.{Sized, index_at}
 use Rattle.neighbours.specs.Ready.{Ready}
@@ -15,14 +13,14 @@ pub record Judged (f : Fault) (s : List ℕ) (nc : ℕ) (rows : List ℕ) (t : �
 
 -- ---- a is what a search gave, f what it is by its contract
 
-module _ (r : Fault) (k : ℕ) (a f : Found) (rest : Fault) (e : a ≡ f) where
-  pub or_at : (i : ℕ) → a ≡ At i → r ≡ fault k i → r ≡ or_later k f rest
-  or_at i g h = h ∙ ap (λ (o : Found). or_later k o rest) (sym g ∙ e)
+module _ (r : Fault) (k : ℕ) (a f : Option ℕ) (rest : Fault) (e : a ≡ f) where
+  pub or_at : (i : ℕ) → a ≡ Some i → r ≡ fault k i → r ≡ or_later k f rest
+  or_at i g h = h ∙ ap (λ (o : Option ℕ). or_later k o rest) (sym g ∙ e)
 
-  pub or-on : a ≡ Nothing → r ≡ rest → r ≡ or_later k f rest
-  or-on g h = h ∙ ap (λ (o : Found). or_later k o rest) (sym g ∙ e)
+  pub or-on : a ≡ None → r ≡ rest → r ≡ or_later k f rest
+  or-on g h = h ∙ ap (λ (o : Option ℕ). or_later k o rest) (sym g ∙ e)
 
-pub nothing_is : (a f : Found) → a ≡ f → a ≡ Nothing → f ≡ Nothing
+pub nothing_is : (a f : Option ℕ) → a ≡ f → a ≡ None → f ≡ None
 nothing_is a f e g = sym e ∙ g
 
 pub ruleset chain = (or_at, or-on, nothing_is)
@@ -51,8 +49,8 @@ module _ (s rows : List ℕ) (nc t : ℕ) (z : Sized nc (length rows) (length s)
   judged-last f s' s'' g q h = judged-late f s'' (rw q g) h
 
   -- no number applies
-  pub judged-right : (f : Fault) (s' s'' : List ℕ) (c : Found) → take (index_at nc (length rows)) s' ≡ take (index_at nc (length rows)) s →
-      (c ≡ Nothing → Ready s' nc rows t) → c ≡ Nothing → s'' ≡ s' → Judged f s'' nc rows t
+  pub judged-right : (f : Fault) (s' s'' : List ℕ) (c : Option ℕ) → take (index_at nc (length rows)) s' ≡ take (index_at nc (length rows)) s →
+      (c ≡ None → Ready s' nc rows t) → c ≡ None → s'' ≡ s' → Judged f s'' nc rows t
   judged-right f s' s'' c g r h q = record { notes = rw q (g ∙ zero-notes s nc (length rows) z e); ready = λ k. rw q (r h) }
 
   -- the marks have room

@@ -1,8 +1,6 @@
 -- Marks: after all rows have marked their corners, a node has no mark exactly where no row holds it. Assumes nothing.
-use Rattle.std.specs.Prelude.{◌≡◌, refl, Bool, true, false, not, ◌||◌, List, ◌++◌, ℕ, ◌≤◌, ◌<◌, eqb, length, get_or, set, take, drop, replicate}
+use Rattle.std.specs.Prelude.{◌≡◌, refl, Bool, true, false, not, ◌||◌, List, ◌++◌, ℕ, ◌≤◌, ◌<◌, eqb, length, get_or, set, take, drop, replicate, Option, None}
 use Rattle.std.proofs.Common.{ap, ◌∙◌, arith, length-set, take-append-drop, drop-set-lt}
-use Rattle.lists.specs.declared.Found.{Found}
-use Rattle.lists.specs.declared.Found.TheVariants.{Nothing}
 use Rattle.lists.specs.Lists.{any, cases}
 use Rattle.lists.specs.Search.{lowest, items, iter}
 use Rattle.lists.specs.SearchLaw.{lowest-agree}
@@ -42,7 +40,7 @@ blank-unused l s t n z h b e =
     (zero-mark (any (holds_node z) (items (row_at l) 0 t)))
 
 -- the lowest node without a mark
-pub unmarked : (l s s' : List ℕ) (t n : ℕ) (f : Found) → n ≤ length s → take n s ≡ replicate n 0 → s' ≡ iter (mark_step l) 0 t s → f ≡ lowest (blank_at s') 0 n →
+pub unmarked : (l s s' : List ℕ) (t n : ℕ) (f : Option ℕ) → n ≤ length s → take n s ≡ replicate n 0 → s' ≡ iter (mark_step l) 0 t s → f ≡ lowest (blank_at s') 0 n →
     f ≡ lowest (unused (items (row_at l) 0 t)) 0 n
 unmarked l s s' t n f b e g h = h ∙ rw g (lowest-agree (blank_at (iter (mark_step l) 0 t s)) (unused (items (row_at l) 0 t)) n (λ z u. blank-unused l s t n z u b e))
 
@@ -54,7 +52,7 @@ step-above l s n i c =
     drop-set-lt n (set (set s w.p 1) w.q 1) w.r 1 c.r-in ∙ drop-set-lt n (set s w.p 1) w.q 1 c.q-in ∙ drop-set-lt n s w.p 1 c.p-in
 
 -- and with these cleared scratch is as it was
-pub marks-gone : (l s s' s'' : List ℕ) (t n : ℕ) → lowest (misnamed_at l n) 0 t ≡ Nothing → take n s ≡ replicate n 0 → s' ≡ iter (mark_step l) 0 t s →
+pub marks-gone : (l s s' s'' : List ℕ) (t n : ℕ) → lowest (misnamed_at l n) 0 t ≡ None → take n s ≡ replicate n 0 → s' ≡ iter (mark_step l) 0 t s →
     s'' ≡ replicate n 0 ++ drop n s' → s'' ≡ s
 marks-gone l s s' s'' t n m e g h =
     let a : drop n s' ≡ drop n s = rw g

@@ -1,15 +1,13 @@
 -- The searches by number are document 01's searches of the mesh in the tables. Assumes nothing.
-use Rattle.std.specs.Prelude.{◌≡◌, List, ℕ, ◌≤◌, ◌<◌, ℤ}
+use Rattle.std.specs.Prelude.{◌≡◌, List, ℕ, ◌≤◌, ◌<◌, ℤ, Option, Some, None}
 use Rattle.std.proofs.Math.Path.{refl}
 use Rattle.std.proofs.Common.{ap}
 use native.Mathlib.Omega.{arith}
-use Rattle.lists.specs.declared.Found.{Found}
-use Rattle.lists.specs.declared.Found.TheVariants.{At, Nothing}
 use Rattle.lists.specs.Lists.{any}
 use Rattle.lists.specs.Search.{lowest, items}
 use Rattle.lists.specs.SearchLaw.{or-three, lowest-where, lowest-any, lowest-agree}
 use Rattle.lists.specs.IterLaw.{length-items, get_or-items, take-items}
-use Rattle.meaning.specs.declared.Fault.{Fault}
+use Rattle.meaning.specs.Fault.{Fault}
 use Rattle.meaning.specs.Mesh.{arrow, holds_arrow, tri, twice_area}
 use Rattle.meaning.specs.Lawful.{node_outside, misnamed, Named, repeats, flat, unused, or_later, fault_of, first_outside, first_misnamed, first_repeat, first_flat, first_unused}
 use Rattle.meaning.specs.Tables.{node_at, row_at, given, mesh_of}
@@ -61,7 +59,7 @@ module _ (nodes : List ℤ) (l s : List ℕ) (n t : ℕ) where
         place_is nodes l n t (row_at l i).r h.r-below,
       )
 
-  flat-is : lowest (misnamed_at l n) 0 t ≡ Nothing → lowest (flat_at nodes l) 0 t ≡ first_flat (mesh_of (given nodes l s n t))
+  flat-is : lowest (misnamed_at l n) 0 t ≡ None → lowest (flat_at nodes l) 0 t ≡ first_flat (mesh_of (given nodes l s n t))
   unfolding first_flat mesh_of
   flat-is e = lowest-where (flat (mesh_of (given nodes l s n t))) (row_at l) (flat_at nodes l) t (λ i h. flat-row i (named-row (row_at l i) l n i refl (not-misnamed l n t i e h)))
 
@@ -73,9 +71,9 @@ module _ (nodes : List ℤ) (l s : List ℕ) (n t : ℕ) where
 
   -- ---- all
 
-  after-named : (f : Found) → lowest (misnamed_at l n) 0 t ≡ f → (x y : Fault) → (f ≡ Nothing → x ≡ y) → or_later 4 f x ≡ or_later 4 f y
-  after-named (At i) e x y h = refl
-  after-named Nothing e x y h = h refl
+  after-named : (f : Option ℕ) → lowest (misnamed_at l n) 0 t ≡ f → (x y : Fault) → (f ≡ None → x ≡ y) → or_later 4 f x ≡ or_later 4 f y
+  after-named (Some i) e x y h = refl
+  after-named None e x y h = h refl
 
   pub fault_by-is : fault_by nodes l n t ≡ fault_of (mesh_of (given nodes l s n t))
   unfolding fault_by later_by fault_of

@@ -1,8 +1,7 @@
 -- Document 01's tests of one node or one row, by its number in the tables. Assumes nothing.
-use Rattle.std.specs.Prelude.{Bool, ◌||◌, List, ℕ, eqb, ℤ, get_or, set}
-use Rattle.lists.specs.Lists.{is_found}
+use Rattle.std.specs.Prelude.{Bool, ◌||◌, List, ℕ, eqb, ℤ, get_or, set, is_some}
 use Rattle.lists.specs.Search.{lowest, items}
-use Rattle.meaning.specs.declared.Fault.{Fault}
+use Rattle.meaning.specs.Fault.{Fault}
 use Rattle.meaning.specs.Lawful.{node_outside, misnamed, unused, fault, or_later}
 use Rattle.meaning.specs.Tables.{node_at, place_at, row_at}
 use Rattle.plane.specs.Plane.{flat_tri}
@@ -18,7 +17,7 @@ misnamed_at l n i = misnamed n (row_at l i)
 
 -- a row below i holds x→y
 abbrev pub arrow_below : List ℕ → ℕ → ℕ → ℕ → Bool
-arrow_below l i x y = is_found (lowest (arrow_at l x y) 0 i)
+arrow_below l i x y = is_some (lowest (arrow_at l x y) 0 i)
 
 -- 5
 unfoldable pub repeat_at : List ℕ → ℕ → Bool

@@ -1,7 +1,6 @@
 -- What the tests tell, in the form of needs. Assumes nothing.
-use Rattle.std.specs.Prelude.{◌≡◌, refl, false, List, ℕ, ◌+◌, ◌*◌, ◌≤◌, ◌<◌, ℤ, length, take, set}
+use Rattle.std.specs.Prelude.{◌≡◌, refl, false, List, ℕ, ◌+◌, ◌*◌, ◌≤◌, ◌<◌, ℤ, length, take, set, None}
 use Rattle.std.proofs.Common.{ap, ◌∙◌, arith, length-set}
-use Rattle.lists.specs.declared.Found.TheVariants.{Nothing}
 use Rattle.lists.specs.Search.{lowest}
 use Rattle.lists.specs.SearchLaw.{lowest-nothing}
 use Rattle.meaning.specs.declared.Place.{Place}
@@ -18,17 +17,17 @@ pub named-row : (w : Tri) (l : List ℕ) (n i : ℕ) → w ≡ row_at l i → mi
 unfolding misnamed_at
 named-row w l n i e h = named-yes n w (rw e h)
 
-pub not-misnamed : (l : List ℕ) (n t i : ℕ) → lowest (misnamed_at l n) 0 t ≡ Nothing → i < t → misnamed_at l n i ≡ false
+pub not-misnamed : (l : List ℕ) (n t i : ℕ) → lowest (misnamed_at l n) 0 t ≡ None → i < t → misnamed_at l n i ≡ false
 not-misnamed l n t i e h = lowest-nothing (misnamed_at l n) t i e h
 
-pub corners-at : (l : List ℕ) (nc n t i : ℕ) → n ≤ nc → lowest (misnamed_at l n) 0 t ≡ Nothing → i < t → Corners nc (row_at l i)
+pub corners-at : (l : List ℕ) (nc n t i : ℕ) → n ≤ nc → lowest (misnamed_at l n) 0 t ≡ None → i < t → Corners nc (row_at l i)
 corners-at l nc n t i b e h =
     let k = named-row (row_at l i) l n i refl (not-misnamed l n t i e h) in
     record { p-in = omega arith; q-in = omega arith; r-in = omega arith }
 
 -- ---- 3 said no
 
-place-near : (nodes : List ℤ) (n k : ℕ) → lowest (outside_at nodes) 0 n ≡ Nothing → k < n → InRange (place_at nodes k)
+place-near : (nodes : List ℤ) (n k : ℕ) → lowest (outside_at nodes) 0 n ≡ None → k < n → InRange (place_at nodes k)
 unfolding outside_at
 place-near nodes n k e h = ((node-exact (node_at nodes k)).0 (lowest-nothing (outside_at nodes) n k e h)).place_in
 
@@ -44,7 +43,7 @@ module _ (w : Tri) (l : List ℕ) (n i : ℕ) (e : w ≡ row_at l i) (h : misnam
   pub fits-r : (len : ℕ) → 4 * n ≤ len → 4 * w.r + 4 ≤ len
   fits-r len b = omega (arith, named-row w l n i e h)
 
-  module _ (nodes : List ℤ) (a : Place) (f : lowest (outside_at nodes) 0 n ≡ Nothing) where
+  module _ (nodes : List ℤ) (a : Place) (f : lowest (outside_at nodes) 0 n ≡ None) where
     pub range-p : a ≡ place_at nodes w.p → InRange a
     range-p g = rw g (place-near nodes n w.p f (named-row w l n i e h).p-below)
 

@@ -1,14 +1,11 @@
 -- W6 as one statement, `asks-exact`: what a question about a point is told, exactly when. The row used is the lowest that holds the point, 14 is
 -- given exactly if no row does, any refusal gives 0, 0, and what is told is the mean of that row's corrections. Assumes nothing.
-use Rattle.std.specs.Prelude.{Bool, true, ◌&&◌, ◌↔◌, ◌≡◌, ℤ, pos, negsuc, length, ◌≤ℤ◌, ◌<ℤ◌}
+use Rattle.std.specs.Prelude.{Bool, true, ◌&&◌, ◌↔◌, ◌≡◌, ℤ, pos, negsuc, length, ◌≤ℤ◌, ◌<ℤ◌, Option, Some, None, is_some}
 use mathlib.Core.List.{Memᴰ}
 use Rattle.std.proofs.Common.{inl, inr, sym, subst, ◌∙◌, arith}
 use Rattle.std.proofs.Math.Path.{refl, ap, subst⁻¹}
 use Prim.Native.Nat.{ℕ, zero, suc, ◌≤◌, ◌<◌}
 use Rattle.std.specs.Int.Signed.{le_z}
-use Rattle.lists.specs.declared.Found.{Found}
-use Rattle.lists.specs.declared.Found.TheVariants.{At, Nothing}
-use Rattle.lists.specs.Lists.{is_found}
 use Rattle.lists.specs.ListsLaw.{clash, and_both, and_left, and_right, All-get_or}
 use Rattle.lists.specs.Search.{lowest}
 use Rattle.lists.specs.ByNumberLaw.{where-lowest}
@@ -63,12 +60,12 @@ module _ (m : Mesh) (P : Place) where
   test-exact j l = holds_exact m P (row_of m.tris j)
 
   -- THE ROW USED IS THE LOWEST THAT HOLDS THE POINT.
-  pub row-exact : (i : ℕ) → (row_holding m P ≡ At i) ↔ LowestHolding i
-  row-exact i = subst⁻¹ (λ o. (o ≡ At i) ↔ LowestHolding i) row-search (lowest-exact row_test (length m.tris) test-exact i)
+  pub row-exact : (i : ℕ) → (row_holding m P ≡ Some i) ↔ LowestHolding i
+  row-exact i = subst⁻¹ (λ o. (o ≡ Some i) ↔ LowestHolding i) row-search (lowest-exact row_test (length m.tris) test-exact i)
 
-  pub covered-exact : (is_found (row_holding m P) ≡ true) ↔ Covered m P
+  pub covered-exact : (is_some (row_holding m P) ≡ true) ↔ Covered m P
   covered-exact =
-      let h = subst⁻¹ (λ o. (is_found o ≡ true) ↔ ((j : ℕ) × (j < length m.tris) × RowHolds m P j)) row-search (found-exact row_test (length m.tris) test-exact) in (
+      let h = subst⁻¹ (λ o. (is_some o ≡ true) ↔ ((j : ℕ) × (j < length m.tris) × RowHolds m P j)) row-search (found-exact row_test (length m.tris) test-exact) in (
         λ e. (let r = h.0 e in record { row = r.0; row_below = r.1; row-holds = r.2 }),
         λ c. h.1 (c.row, c.row_below, c.row-holds),
       )
@@ -85,8 +82,8 @@ module _ (m : Mesh) (P : Place) where
   pub covered-past : PastSeven CoveredLines
   covered-past = unless-past (omega arith) done-past
 
-  lines-exact : Lawful m → Exactly (unless (is_found (row_holding m P)) 14 0) CoveredLines
-  lines-exact law = unless-exact (record { sound = covered-exact; fault = unfit (is_found (row_holding m P)) covered-exact }) 14 done-exact
+  lines-exact : Lawful m → Exactly (unless (is_some (row_holding m P)) 14 0) CoveredLines
+  lines-exact law = unless-exact (record { sound = covered-exact; fault = unfit (is_some (row_holding m P)) covered-exact }) 14 done-exact
 
   -- EACH NUMBER IS GIVEN EXACTLY WHEN ITS LINE SAYS, AND NO OTHER IS.
   pub ask-exact : (k : ℕ) → (ask_no m P ≡ k) ↔ AskSays k
@@ -130,7 +127,7 @@ module _ (m : Mesh) (P : Place) where
     -- "Find the lowest row whose closed triangle holds it and answer the mean of its three corrections"
     answers : Lawful m → (i : ℕ) (c : Correction) → MeanOf i c → Tells (record { number = 0; correction = c; culprit = 0 })
 
-  by_row : (i : ℕ) → row_holding m P ≡ At i → correction_at m P ≡ correction_in m P (row_of m.tris i)
+  by_row : (i : ℕ) → row_holding m P ≡ Some i → correction_at m P ≡ correction_in m P (row_of m.tris i)
   unfolding correction_at
   by_row i e = ap (correction_by m P) e
 
@@ -143,12 +140,12 @@ module _ (m : Mesh) (P : Place) where
       let (law, c) = ask-0.0 e in
       go law (row_holding m P) refl (covered-exact.1 c)
     where
-      go : Lawful m → (o : Found) → row_holding m P ≡ o → is_found (row_holding m P) ≡ true → (i : ℕ) × MeanOf i (correction_at m P)
-      go law (At i) q h =
+      go : Lawful m → (o : Option ℕ) → row_holding m P ≡ o → is_some (row_holding m P) ≡ true → (i : ℕ) × MeanOf i (correction_at m P)
+      go law (Some i) q h =
           let f = (row-exact i).0 q in
           let a = above law i f.below in
           (i, subst⁻¹ (MeanOf i) (by_row i q) (record { lowest-holding = f; area-above = a; dx-down = mean-floor (dx_of m) m (row_of m.tris i) a P; dy-down = mean-floor (dy_of m) m (row_of m.tris i) a P }))
-      go law Nothing q h = clash (sym h ∙ ap is_found q)
+      go law None q h = clash (sym h ∙ ap is_some q)
 
   -- one mean and no other
   mean-one : Lawful m → (i : ℕ) (c : Correction) → MeanOf i c → correction_at m P ≡ c

@@ -1,12 +1,10 @@
 -- The split edges. The closure of any starting edges is closed and lies in every closed set: it is the least one. The split edges of
 -- a mesh are the edges of its rows that lie in the closure, each once, and with an edge of a row they hold its refinement edge.
 -- Assumes nothing.
-use Rattle.std.specs.Prelude.{Bool, true, false, not, ◌&&◌, ◌||◌, ◌↔◌, ◌≡◌, refl, ℕ, zero, suc, ◌≤◌, ◌<◌, eqb, length, get_or}
+use Rattle.std.specs.Prelude.{Bool, true, false, not, ◌&&◌, ◌||◌, ◌↔◌, ◌≡◌, refl, ℕ, zero, suc, ◌≤◌, ◌<◌, eqb, length, get_or, Some, Option, None}
 use mathlib.Core.List.Memᴰ
 use mathlib.Core.List.{List, [], ◌∷◌, Memᴰ}
-use Rattle.std.proofs.Math.Option.{Option, none, some}
 use Rattle.std.proofs.Common.{sym, ap, ◌∙◌, arith, eqb-true}
-use Rattle.lists.specs.declared.Found.TheVariants.{At}
 use Rattle.lists.specs.Lists.{any, only, once, cons_if, count, first, where_first, joined, All, nil, cons}
 use Rattle.lists.specs.ListsLaw.{clash, and_left, and_right, or_left, or_right, All-imp, All-both, All-append, All-at, All-of, All-joined, All-get_or, any-row, any_none, FirstIs, no_row, row, first-is, count-lt, count_none, count-le-length}
 use Rattle.lists.specs.MembersLaw.{at_mem, only-in, only-passes, only_keeps, once-keeps, joined_in}
@@ -58,8 +56,8 @@ grow-keeps zero ts s e m = m
 grow-keeps (suc k) ts s e m = step (first (pulls s) ts) (grow-keeps k ts)
   where
     step : (o : Option Tri) → ((s' : List Edge) (e : Edge) → mem_edge e s' ≡ true → mem_edge e (grow k ts s') ≡ true) → mem_edge e (add_base o s (grow k ts)) ≡ true
-    step none below = m
-    step (some t) below = below (base t ∷ s) e (or_right (same_edge e (base t)) m)
+    step None below = m
+    step (Some t) below = below (base t ∷ s) e (or_right (same_edge e (base t)) m)
 
 not-missing : (b : Bool) → not b ≡ false → b ≡ true
 not-missing true e = refl
@@ -100,7 +98,7 @@ closure-closed ts start = record {
 
 -- no edge stands twice: the i-th is first met at i
 abbrev pub Apart : List Edge → Type 0
-Apart s = (i : ℕ) (d : Edge) → i < length s → where_first (same_edge (get_or s i d)) s ≡ At i
+Apart s = (i : ℕ) (d : Edge) → i < length s → where_first (same_edge (get_or s i d)) s ≡ Some i
 
 data Once : List Edge → Type 0 where
   once-nil : Once []

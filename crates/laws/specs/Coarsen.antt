@@ -1,9 +1,8 @@
 -- Demand 2 for coarsen: of any lawful mesh, with any n0 and any marks, exactly the nodes that are marked and good go, and what is left is
 -- lawful, has the same total, and has the base nodes under their numbers. Assumes nothing.
 use Rattle.std.proofs.Math.Bool.{Bool}
-use Rattle.std.specs.Prelude.{true, false, not, ◌&&◌, ◌↔◌, ◌≡◌, refl, eqb, ltb, length}
+use Rattle.std.specs.Prelude.{true, false, not, ◌&&◌, ◌↔◌, ◌≡◌, refl, eqb, ltb, length, Option, None, Some}
 use mathlib.Core.List.{List, [], ◌∷◌, map, Memᴰ}
-use Rattle.std.proofs.Math.Option.{Option, none, some}
 use Rattle.std.proofs.Math.Path.{sym, subst}
 use Prim.Native.Nat.{ℕ, ◌+◌, ◌≤◌, ◌<◌}
 use native.Mathlib.Omega.{arith}
@@ -56,9 +55,9 @@ module _ (n0 : ℕ) (m : Mesh) (marks : List ℕ) where
   coarsened-count = staying-rest (taken n0 m marks) taken-once m.nodes (All-of (taken n0 m marks) (λ z i. ((taken_is z).0 i).0))
 
 becomes-one : (t : Tri) (o : Option Brothers) (b : Bool) → length (becomes t o b) ≤ 1
-becomes-one t (some x) b = omega arith
-becomes-one t none true = omega arith
-becomes-one t none false = omega arith
+becomes-one t (Some x) b = omega arith
+becomes-one t None true = omega arith
+becomes-one t None false = omega arith
 
 fates-fewer : (bs : List Brothers) (ts : List Tri) → length (joined (fate bs) ts) ≤ length ts
 fates-fewer bs [] = omega arith

@@ -3,9 +3,8 @@
 -- A row holds at most one of the nodes, as its newest vertex; so the pairs round the nodes are the rows that hold one, each once
 -- (`before`). A row that is the left one of a pair becomes the father and one that is the right one goes, so afterwards the fathers stand
 -- for the pairs (`after`). Both are sums over the rows of any number f, so that counts of arrows and nodes, and areas, follow alike.
-use Rattle.std.specs.Prelude.{Bool, true, false, not, ◌≡◌, refl, ℕ, ◌+◌, ◌≤◌, eqb}
+use Rattle.std.specs.Prelude.{Bool, true, false, not, ◌≡◌, refl, ℕ, ◌+◌, ◌≤◌, eqb, Option}
 use mathlib.Core.List.{List, [], ◌∷◌, Memᴰ}
-use Rattle.std.proofs.Math.Option.{Option}
 use Rattle.std.proofs.Common.{sym, ap, ◌∙◌, arith, eq-eqb}
 use Rattle.lists.specs.Lists.{any, joined, All, nil, cons}
 use Rattle.lists.specs.ListsLaw.{or_left, both_ways, All-imp, All-at, All-of, All-joined, any_at, any-row, any_none, FirstIs, no_row, row, first-is}

@@ -1,13 +1,11 @@
 -- W2, "Name the bad row": the fault of a mesh names the lowest node or row at fault; a mesh and a number name one culprit; what a call carries
 -- with its number is that culprit. Assumes nothing.
-use Rattle.std.specs.Prelude.{Bool, true, false, List, ◌↔◌, ◌⊎◌, ◌≡◌, refl, ℕ, zero, suc, ◌≤◌, ◌<◌, eqb, pos, ◌<ℤ◌, length}
+use Rattle.std.specs.Prelude.{Bool, true, false, List, ◌↔◌, ◌⊎◌, ◌≡◌, refl, ℕ, zero, suc, ◌≤◌, ◌<◌, eqb, pos, ◌<ℤ◌, length, Option, Some, None, is_some}
 use Rattle.std.proofs.Common.{inl, inr, sym, subst, arith, eqb-true, eq-eqb}
 use Rattle.std.proofs.Math.Decide.{dec_lt}
 use Rattle.std.proofs.lemmas.Bool.{eqb-false}
-use Rattle.lists.specs.declared.Found.{Found}
-use Rattle.lists.specs.declared.Found.TheVariants.{At, Nothing}
-use Rattle.lists.specs.Lists.{all, cases, count, is_found}
-use Rattle.meaning.specs.declared.Fault.{Fault}
+use Rattle.lists.specs.Lists.{all, cases, count}
+use Rattle.meaning.specs.Fault.{Fault}
 use Rattle.meaning.specs.declared.Place.{Place}
 use Rattle.meaning.specs.Mesh.{Mesh, node_of, holds_node, twice_area}
 use Rattle.meaning.specs.Lawful.{NodeInRange, Named, First, Repeats, Other, Names, names-3, names-4, names-5, names-6, names-7, names-none, first_outside, first_misnamed, first_repeat, first_flat, first_unused, row_of, fault, or_later, from4, fault_of, refusal, compatible}
@@ -19,10 +17,10 @@ use Rattle.meaning.specs.Calls.{culprit_of, unless, or_else, marks_fit, fits, ch
 use Rattle.laws.specs.Faults.{first-3, first-4, first-5, first-6, first-7}
 
 -- a chain of numbers, whatever they name
-pub names-or-later : (N : ℕ → ℕ → Type 0) (k : ℕ) (f : Found) (rest : Fault) → ((i : ℕ) → f ≡ At i → N k i) → (f ≡ Nothing → N rest.number rest.at) →
+pub names-or-later : (N : ℕ → ℕ → Type 0) (k : ℕ) (f : Option ℕ) (rest : Fault) → ((i : ℕ) → f ≡ Some i → N k i) → (f ≡ None → N rest.number rest.at) →
     N (or_later k f rest).number (or_later k f rest).at
-names-or-later N k (At i) rest here later = here i refl
-names-or-later N k Nothing rest here later = later refl
+names-or-later N k (Some i) rest here later = here i refl
+names-or-later N k None rest here later = later refl
 
 pub names-4-7 : (m : Mesh) (N : ℕ → ℕ → Type 0) → ((k z : ℕ) → Names m k z → N k z) → (rest : Fault) → N rest.number rest.at → N (from4 m rest).number (from4 m rest).at
 names-4-7 m N there rest later =
@@ -163,7 +161,7 @@ module _ (m : Mesh) where
 
   pub ask-due : (P : Place) → Due m (ask_no m P)
   unfolding ask_no
-  ask-due P = or-else-due _ (unless-due (is_found (row_holding m P)) 14 0 (inr (omega arith)) done-due)
+  ask-due P = or-else-due _ (unless-due (is_some (row_holding m P)) 14 0 (inr (omega arith)) done-due)
 
   pub restore-due : Due m (refusal m)
   restore-due = inl refl

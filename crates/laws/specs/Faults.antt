@@ -1,12 +1,11 @@
 -- Each test of a node or a row is tied to its fact, and each search to the lowest node or row at fault: it is below the end, at fault, and all
 -- below it are sound; where nothing is found, all are sound. Assumes nothing.
-use Rattle.std.specs.Prelude.{Bool, true, false, not, ◌||◌, ◌↔◌, ◌≡◌, refl, ℕ, zero, suc, ◌+◌, ◌≤◌, ◌<◌, eqb, leb, ℤ, pos, negsuc, nat_abs, ◌<ℤ◌, ◌≤ℤ◌, length, get_or, take}
+use Rattle.std.specs.Prelude.{Bool, true, false, not, ◌||◌, ◌↔◌, ◌≡◌, refl, ℕ, zero, suc, ◌+◌, ◌≤◌, ◌<◌, eqb, leb, ℤ, pos, negsuc, nat_abs, ◌<ℤ◌, ◌≤ℤ◌, length, get_or, take, Some, None}
 use mathlib.Core.List.{List, [], ◌∷◌, Memᴰ}
 use Rattle.std.proofs.Common.{sym, subst, ap, ◌∙◌, arith, get_or-take, length-take-le, eqb-true, ne_eqb, leb-true, leb-false, le-leb}
 use Rattle.std.specs.Int.Signed.{lt_z}
 use Rattle.std.proofs.lemmas.Bool.{eqb-false, lt-leb, not-false}
 use Rattle.whole.specs.Tests.{lt_z-true, lt_z-false, lt-lt_z, le-lt_z}
-use Rattle.lists.specs.declared.Found.TheVariants.{At, Nothing}
 use Rattle.lists.specs.Lists.{any, count, suc_if, joined, where_first, All, nil, cons}
 use Rattle.lists.specs.ListsLaw.{clash, or_no, All-imp, All-at, All-of, any_at, any-row, any_none, where-none}
 use Rattle.lists.specs.MembersLaw.{mem-at, at_mem, any-count, count-some}
@@ -222,59 +221,59 @@ used-none ts z e = go (count (holds_node z) ts) refl
 -- ---- each search finds the lowest at fault, or all are sound
 
 pub first-at : {Faulty Sound : ℕ → Type 0} (f : ℕ → Bool) (end : ℕ) → ((j : ℕ) → j < end → f j ≡ true → Faulty j) → ((j : ℕ) → j < end → f j ≡ false → Sound j) →
-    (i : ℕ) → lowest f 0 end ≡ At i → First end Faulty Sound i
+    (i : ℕ) → lowest f 0 end ≡ Some i → First end Faulty Sound i
 first-at f end faulty sound i e =
     let b = lowest-below f end i e in
     record { below = b; at-fault = faulty i b (lowest-true f end i e); sound-below = λ j h. sound j (omega arith) (lowest-lower f end i j e h) }
 
 -- of a list whose members are sound exactly if a test says no
 module _ {A : Type 0} {Sound : A → Type 0} (f : A → Bool) (exact : (x : A) → (f x ≡ false) ↔ Sound x) (l : List A) where
-  first-unsound : (d : A) (i : ℕ) → where_first f l ≡ At i → First (length l) (λ j. ¬ Sound (get_or l j d)) (λ j. Sound (get_or l j d)) i
+  first-unsound : (d : A) (i : ℕ) → where_first f l ≡ Some i → First (length l) (λ j. ¬ Sound (get_or l j d)) (λ j. Sound (get_or l j d)) i
   first-unsound d i e =
       first-at (λ j. f (get_or l j d)) (length l) (λ j h t s. clash (sym t ∙ (exact (get_or l j d)).1 s)) (λ j h. (exact (get_or l j d)).0) i (sym (where-lowest f l d) ∙ e)
 
-  all_sound : where_first f l ≡ Nothing → All Sound l
+  all_sound : where_first f l ≡ None → All Sound l
   all_sound e = All-imp (λ x. (exact x).0) (where-none f l e)
 
 module _ (m : Mesh) where
-  pub first-3 : (i : ℕ) → first_outside m ≡ At i → First (length m.nodes) (λ j. ¬ NodeInRange (node_of m j)) (λ j. NodeInRange (node_of m j)) i
+  pub first-3 : (i : ℕ) → first_outside m ≡ Some i → First (length m.nodes) (λ j. ¬ NodeInRange (node_of m j)) (λ j. NodeInRange (node_of m j)) i
   unfolding first_outside
   first-3 = first-unsound node_outside node-exact m.nodes origin
 
-  pub none-3 : first_outside m ≡ Nothing → All NodeInRange m.nodes
+  pub none-3 : first_outside m ≡ None → All NodeInRange m.nodes
   unfolding first_outside
   none-3 = all_sound node_outside node-exact m.nodes
 
-  pub first-4 : (i : ℕ) → first_misnamed m ≡ At i → First (length m.tris) (λ j. ¬ Named (length m.nodes) (row_of m.tris j)) (λ j. Named (length m.nodes) (row_of m.tris j)) i
+  pub first-4 : (i : ℕ) → first_misnamed m ≡ Some i → First (length m.tris) (λ j. ¬ Named (length m.nodes) (row_of m.tris j)) (λ j. Named (length m.nodes) (row_of m.tris j)) i
   unfolding first_misnamed
   first-4 = first-unsound (misnamed (length m.nodes)) (named-exact (length m.nodes)) m.tris (tri 0 0 0)
 
-  pub none-4 : first_misnamed m ≡ Nothing → All (Named (length m.nodes)) m.tris
+  pub none-4 : first_misnamed m ≡ None → All (Named (length m.nodes)) m.tris
   unfolding first_misnamed
   none-4 = all_sound (misnamed (length m.nodes)) (named-exact (length m.nodes)) m.tris
 
-  pub first-5 : (i : ℕ) → first_repeat m ≡ At i → First (length m.tris) (Repeats m.tris) (λ j. ¬ Repeats m.tris j) i
+  pub first-5 : (i : ℕ) → first_repeat m ≡ Some i → First (length m.tris) (Repeats m.tris) (λ j. ¬ Repeats m.tris j) i
   unfolding first_repeat
   first-5 = first-at (repeats m.tris) (length m.tris) (λ j h. (repeats-exact m.tris j h).0) (λ j h f r. clash (sym ((repeats-exact m.tris j h).1 r) ∙ f))
 
-  pub none-5 : All (Named (length m.nodes)) m.tris → first_repeat m ≡ Nothing → (e : Arrow) → count (same_arrow e) (joined arrows m.tris) ≤ 1
+  pub none-5 : All (Named (length m.nodes)) m.tris → first_repeat m ≡ None → (e : Arrow) → count (same_arrow e) (joined arrows m.tris) ≤ 1
   unfolding first_repeat NoRepeat
   none-5 named f e =
       let h = once-hit (length m.nodes) m.tris named (λ i l. lowest-nothing (repeats m.tris) (length m.tris) i f l) e in
       omega (arith, count-arrows e m.tris)
 
-  pub first-6 : (i : ℕ) → first_flat m ≡ At i → First (length m.tris) (λ j. ¬ (pos 0 <ℤ twice_area m (row_of m.tris j))) (λ j. pos 0 <ℤ twice_area m (row_of m.tris j)) i
+  pub first-6 : (i : ℕ) → first_flat m ≡ Some i → First (length m.tris) (λ j. ¬ (pos 0 <ℤ twice_area m (row_of m.tris j))) (λ j. pos 0 <ℤ twice_area m (row_of m.tris j)) i
   unfolding first_flat
   first-6 = first-unsound (flat m) (flat-exact m) m.tris (tri 0 0 0)
 
-  pub none-6 : first_flat m ≡ Nothing → All (λ t. pos 0 <ℤ twice_area m t) m.tris
+  pub none-6 : first_flat m ≡ None → All (λ t. pos 0 <ℤ twice_area m t) m.tris
   unfolding first_flat
   none-6 = all_sound (flat m) (flat-exact m) m.tris
 
-  pub first-7 : (i : ℕ) → first_unused m ≡ At i → First (length m.nodes) (λ j. count (holds_node j) m.tris ≡ 0) (λ j. 1 ≤ count (holds_node j) m.tris) i
+  pub first-7 : (i : ℕ) → first_unused m ≡ Some i → First (length m.nodes) (λ j. count (holds_node j) m.tris ≡ 0) (λ j. 1 ≤ count (holds_node j) m.tris) i
   unfolding first_unused
   first-7 = first-at (unused m.tris) (length m.nodes) (λ j h. used-none m.tris j) (λ j h. used-some m.tris j)
 
-  pub none-7 : first_unused m ≡ Nothing → (z : ℕ) → z < length m.nodes → 1 ≤ count (holds_node z) m.tris
+  pub none-7 : first_unused m ≡ None → (z : ℕ) → z < length m.nodes → 1 ≤ count (holds_node z) m.tris
   unfolding first_unused
   none-7 e z l = used-some m.tris z (lowest-nothing (unused m.tris) (length m.nodes) z e l)

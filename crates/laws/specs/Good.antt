@@ -2,9 +2,8 @@
 --
 -- The lines name the rows round z one after the other; the tests pair them off. Both are the same pairing of all rows round z (`Matched`):
 -- no directed edge occurs twice, so the row that holds a→z is the one that pairing off finds, and no row is met twice.
-use Rattle.std.specs.Prelude.{true, false, not, ◌&&◌, ◌↔◌, ◌≢◌, ◌≡◌, refl, ℕ, suc, ◌*◌, ◌≤◌, ◌<◌, eqb, length}
+use Rattle.std.specs.Prelude.{true, false, not, ◌&&◌, ◌↔◌, ◌≢◌, ◌≡◌, refl, ℕ, suc, ◌*◌, ◌≤◌, ◌<◌, eqb, length, Option, Some}
 use mathlib.Core.List.{List, [], ◌∷◌, Memᴰ}
-use Rattle.std.proofs.Math.Option.{Option, some}
 use Rattle.std.proofs.Common.{sym, ap, ap₂, ◌∙◌, arith, eqb-true, eq-eqb}
 use Rattle.std.proofs.Math.Path.{subst, subst⁻¹}
 use Rattle.lists.specs.Lists.{first, first_or, All, nil, cons}
@@ -30,12 +29,12 @@ empty [] e = refl
 empty (t ∷ ts) e = absurd (omega arith)
 
 -- the row that holds an arrow is the first that does
-first-holder : (e : Arrow) {u : Tri} {ts : List Tri} → ArrowsOnce ts → Memᴰ u ts → holds_arrow e u ≡ true → first (holds_arrow e) ts ≡ some u
+first-holder : (e : Arrow) {u : Tri} {ts : List Tri} → ArrowsOnce ts → Memᴰ u ts → holds_arrow e u ≡ true → first (holds_arrow e) ts ≡ Some u
 first-holder e {u} {ts} o i y = go (first-is (holds_arrow e) ts)
   where
-    go : {x : Option Tri} → FirstIs (holds_arrow e) ts x → x ≡ some u
+    go : {x : Option Tri} → FirstIs (holds_arrow e) ts x → x ≡ Some u
     go (no_row n) = clash (sym y ∙ All-at n i)
-    go (row j w) = ap some (holder-one e o j w i y)
+    go (row j w) = ap Some (holder-one e o j w i y)
 
 -- the lowest row that is neither the first nor u
 left_over : (t u : Tri) (ts : List Tri) → RowsOnce (t ∷ ts) → first (λ v. not (same_tri t v) && not (same_tri u v)) (t ∷ ts) ≡ head_of (but u ts)
@@ -69,9 +68,9 @@ begins (pair-first {u = u} {ts = ts} i j r) = record {
 module _ (m : Mesh) (z : ℕ) (law : Lawful m) where
   -- what the lines say of a pair of brothers: left is (z, a, b), and the row that holds a→z is right
   holder-is : (x : Brothers) (a c : ℕ) → Memᴰ x.right m.tris → x.right.p ≡ z → x.right.r ≡ x.left.q → x.left.q ≡ a → x.right.q ≡ c →
-      first (holds_arrow (arrow a z)) m.tris ≡ some (tri z c a)
+      first (holds_arrow (arrow a z)) m.tris ≡ Some (tri z c a)
   holder-is x a c i e j f g =
-      first-holder (arrow a z) (arrows-once m law) i (third-holds x.right a z (j ∙ f) e) ∙ ap some (tri-is x.right z c a e g (j ∙ f))
+      first-holder (arrow a z) (arrows-once m law) i (third-holds x.right a z (j ∙ f) e) ∙ ap Some (tri-is x.right z c a e g (j ∙ f))
 
   module _ (newest : All (λ t. t.p ≡ z) (rows_of m z)) where
     in_rows : {t : Tri} → Memᴰ t (rows_of m z) → Memᴰ t m.tris × (t.p ≡ z)
@@ -87,7 +86,7 @@ module _ (m : Mesh) (z : ℕ) (law : Lawful m) where
           x.left.r,
           x.right.q,
           two x.left.q (omega arith)
-              (first_head (holds_node z) m.tris ∙ ap head_of B.rows_are ∙ ap some (tri-is x.left z x.left.q x.left.r L.1 refl refl))
+              (first_head (holds_node z) m.tris ∙ ap head_of B.rows_are ∙ ap Some (tri-is x.left z x.left.q x.left.r L.1 refl refl))
               (holder-is x x.left.q x.right.q R.0 R.1 B.joint refl refl),
           refl,
         )
@@ -106,13 +105,13 @@ module _ (m : Mesh) (z : ℕ) (law : Lawful m) where
           x.left.r,
           x.right.q,
           four x.left.q y.left.q (omega arith)
-              (first_head (holds_node z) m.tris ∙ ap head_of B.rows_are ∙ ap some l-is)
+              (first_head (holds_node z) m.tris ∙ ap head_of B.rows_are ∙ ap Some l-is)
               (holder-is x x.left.q x.right.q R.0 R.1 B.joint refl refl)
               (sym (ap₂ (lowest_left m z) l-is r-is) ∙
               ap (first (λ v. not (same_tri x.left v) && not (same_tri x.right v))) B.rows_are ∙
               left_over x.left x.right B.more (subst RowsOnce B.rows_are (round-once m z law)) ∙
               ap head_of C.rows_are ∙
-              ap some (tri-is y.left z y.left.q x.right.q L'.1 refl c-is))
+              ap Some (tri-is y.left z y.left.q x.right.q L'.1 refl c-is))
               (holder-is y y.left.q x.left.r R'.0 R'.1 C.joint refl b-is),
           refl,
         )
@@ -131,7 +130,7 @@ module _ (m : Mesh) (z : ℕ) (law : Lawful m) where
       later : Memᴰ (tri z c a) more
       apart : a ≢ b
 
-    named-two : (a b c : ℕ) → first (holds_node z) m.tris ≡ some (tri z a b) → first (holds_arrow (arrow a z)) m.tris ≡ some (tri z c a) → Named-two a b c
+    named-two : (a b c : ℕ) → first (holds_node z) m.tris ≡ Some (tri z a b) → first (holds_arrow (arrow a z)) m.tris ≡ Some (tri z c a) → Named-two a b c
     named-two a b c f g =
         let h = head-is (rows_of m z) (sym (first_head (holds_node z) m.tris) ∙ f) in
         let apart = (All-at law.named (first_found (holds_node z) m.tris f).0).q≢r in

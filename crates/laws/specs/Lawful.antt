@@ -1,18 +1,16 @@
 -- The number that refuses a mesh is the lowest of 3 to 7 that applies, and 0 exactly for lawful meshes; 10 is given exactly for
 -- labellings that are not compatible. Assumes nothing.
-use Rattle.std.specs.Prelude.{Bool, true, false, not, ◌&&◌, ◌||◌, List, [], ◌∷◌, ◌↔◌, ◌≡◌, refl, ℕ, zero, suc, ◌≤◌, ◌<◌, pos, ◌<ℤ◌, length}
+use Rattle.std.specs.Prelude.{Bool, true, false, not, ◌&&◌, ◌||◌, List, [], ◌∷◌, ◌↔◌, ◌≡◌, refl, ℕ, zero, suc, ◌≤◌, ◌<◌, pos, ◌<ℤ◌, length, Option, Some, None, is_some}
 use Rattle.std.proofs.Common.{sym, subst, ap, ◌∙◌, arith}
 use Rattle.std.proofs.Math.Path.{subst⁻¹}
 use Rattle.std.proofs.Math.Decide.{ℕ_discrete}
 use Rattle.std.proofs.lemmas.Bool.{not-false}
-use Rattle.lists.specs.declared.Found.{Found}
-use Rattle.lists.specs.declared.Found.TheVariants.{At, Nothing}
-use Rattle.lists.specs.Lists.{count, joined, where_first, is_found, All, nil, cons}
+use Rattle.lists.specs.Lists.{count, joined, where_first, All, nil, cons}
 use Rattle.lists.specs.ListsLaw.{clash, All-imp, All-get_or, any_none, where-none}
 use Rattle.lists.specs.SearchLaw.{lowest-below, lowest-true}
 use Rattle.lists.specs.ByNumberLaw.{where-lowest}
 use Rattle.meaning.specs.declared.Tri.{Tri}
-use Rattle.meaning.specs.declared.Fault.{Fault}
+use Rattle.meaning.specs.Fault.{Fault}
 use Rattle.meaning.specs.Mesh.{Mesh, Arrow, tri, arrows, base, origin, same_arrow, same_edge, holds_node, holds_edge, twice_area}
 use Rattle.meaning.specs.Lawful.{NodeInRange, Named, Lawful, Compatible, Applies, out_of_range, misnames, occurs-twice, not-above, in-none, LowestOf, Lowest, row_of, clashes, first_outside, first_misnamed, first_repeat, first_flat, first_unused, first_clash, fault, or_later, from4, fault_of, refusal, compatible}
 use Rattle.laws.specs.Edges.{same_edge-eq, same_edge-refl}
@@ -26,10 +24,10 @@ module _ (A : ℕ → Type 0) where
     pub applies : 0 < k → A k
     pub no_lower : (j : ℕ) → lo ≤ j → A j → (0 < k) × (k ≤ j)
 
-  pub link : (k : ℕ) (f : Found) (rest : Fault) → 0 < k → ((i : ℕ) → f ≡ At i → A k) → (f ≡ Nothing → (¬ A k) × LowestFrom (suc k) rest.number) →
+  pub link : (k : ℕ) (f : Option ℕ) (rest : Fault) → 0 < k → ((i : ℕ) → f ≡ Some i → A k) → (f ≡ None → (¬ A k) × LowestFrom (suc k) rest.number) →
       LowestFrom k (or_later k f rest).number
-  link k (At i) rest pos-k yes-f no-f = record { applies = λ h. yes-f i refl; no_lower = λ j l a. (pos-k, l) }
-  link k Nothing rest pos-k yes-f no-f = record { applies = (no-f refl).1.applies; no_lower = λ j l a. which j l a (ℕ_discrete k j) }
+  link k (Some i) rest pos-k yes-f no-f = record { applies = λ h. yes-f i refl; no_lower = λ j l a. (pos-k, l) }
+  link k None rest pos-k yes-f no-f = record { applies = (no-f refl).1.applies; no_lower = λ j l a. which j l a (ℕ_discrete k j) }
     where
       which : (j : ℕ) → k ≤ j → A j → Dec (k ≡ j) → (0 < rest.number) × (rest.number ≤ j)
       which j l a (yes q) = absurd ((no-f refl).0 (subst⁻¹ A q a))
@@ -59,19 +57,19 @@ at-most-7 (in-none z l f) = omega arith
 -- ---- what is found applies
 
 module _ (m : Mesh) where
-  pub found-3 : (i : ℕ) → first_outside m ≡ At i → Applies m 3
+  pub found-3 : (i : ℕ) → first_outside m ≡ Some i → Applies m 3
   found-3 i e = let h = first-3 m i e in out_of_range i h.below h.at-fault
 
-  found-4 : (i : ℕ) → first_misnamed m ≡ At i → Applies m 4
+  found-4 : (i : ℕ) → first_misnamed m ≡ Some i → Applies m 4
   found-4 i e = let h = first-4 m i e in misnames i h.below h.at-fault
 
-  found-5 : (i : ℕ) → first_repeat m ≡ At i → Applies m 5
+  found-5 : (i : ℕ) → first_repeat m ≡ Some i → Applies m 5
   found-5 i e = let h = first-5 m i e in occurs-twice h.at-fault.edge (repeat-twice m.tris i h.below h.at-fault)
 
-  found-6 : (i : ℕ) → first_flat m ≡ At i → Applies m 6
+  found-6 : (i : ℕ) → first_flat m ≡ Some i → Applies m 6
   found-6 i e = let h = first-6 m i e in not-above i h.below h.at-fault
 
-  found-7 : (i : ℕ) → first_unused m ≡ At i → Applies m 7
+  found-7 : (i : ℕ) → first_unused m ≡ Some i → Applies m 7
   found-7 i e = let h = first-7 m i e in in-none i h.below h.at-fault
 
 -- ---- where a fact holds, its number does not apply
@@ -148,9 +146,9 @@ lawful-none {m} law = record { applies = λ h. absurd (omega arith); no_lower = 
 pub lawful-refusal : (m : Mesh) → Lawful m → refusal m ≡ 0
 lawful-refusal m law = lowest-one (Applies m) (refusal m) 0 (refusal-lowest m) (lawful-none law)
 
-none_yet : (k : ℕ) (f : Found) (rest : Fault) → 0 < k → (or_later k f rest).number ≡ 0 → (f ≡ Nothing) × (rest.number ≡ 0)
-none_yet k (At i) rest h e = absurd (omega arith)
-none_yet k Nothing rest h e = (refl, e)
+none_yet : (k : ℕ) (f : Option ℕ) (rest : Fault) → 0 < k → (or_later k f rest).number ≡ 0 → (f ≡ None) × (rest.number ≡ 0)
+none_yet k (Some i) rest h e = absurd (omega arith)
+none_yet k None rest h e = (refl, e)
 
 pub refusal-lawful : (m : Mesh) → refusal m ≡ 0 → Lawful m
 unfolding refusal fault_of
@@ -193,15 +191,15 @@ pub compatible-exact : (m : Mesh) → (compatible m ≡ true) ↔ Compatible m
 unfolding compatible first_clash
 compatible-exact m = (λ e. All-imp (no-clash m.tris) (where-none (clashes m.tris) m.tris (none (where_first (clashes m.tris) m.tris) e)), λ h. ap not (nowhere-found h))
   where
-    none : (f : Found) → not (is_found f) ≡ true → f ≡ Nothing
-    none (At i) e = clash (sym e)
-    none Nothing e = refl
+    none : (f : Option ℕ) → not (is_some f) ≡ true → f ≡ None
+    none (Some i) e = clash (sym e)
+    none None e = refl
 
-    nowhere-found : Compatible m → is_found (where_first (clashes m.tris) m.tris) ≡ false
+    nowhere-found : Compatible m → is_some (where_first (clashes m.tris) m.tris) ≡ false
     nowhere-found h = go (where_first (clashes m.tris) m.tris) refl
       where
-        go : (f : Found) → where_first (clashes m.tris) m.tris ≡ f → is_found f ≡ false
-        go (At i) q =
+        go : (f : Option ℕ) → where_first (clashes m.tris) m.tris ≡ f → is_some f ≡ false
+        go (Some i) q =
             let e = sym (where-lowest (clashes m.tris) m.tris (tri 0 0 0)) ∙ q in
             clash (sym (lowest-true _ _ i e) ∙ clash-free m.tris (row_of m.tris i) (All-get_or h i (tri 0 0 0) (lowest-below _ _ i e)))
-        go Nothing q = refl
+        go None q = refl

@@ -1,7 +1,6 @@
 -- The nodes of a split mesh: the old ones stay as they are; a new one's number tells the edge it halves, and its place is the exact
 -- midpoint. Assumes nothing.
-use Rattle.std.specs.Prelude.{true, List, [], ◌∷◌, map, ◌≢◌, ◌≡◌, refl, ℕ, zero, suc, min, max, ◌+◌, ◌-◌, ◌%◌, ◌≤◌, ◌<◌, ℤ, pos, nat_abs, ◌+ℤ◌, get_or}
-use Rattle.std.proofs.Math.Option.{Option, none, some}
+use Rattle.std.specs.Prelude.{true, List, [], ◌∷◌, map, ◌≢◌, ◌≡◌, refl, ℕ, zero, suc, min, max, ◌+◌, ◌-◌, ◌%◌, ◌≤◌, ◌<◌, ℤ, pos, nat_abs, ◌+ℤ◌, get_or, Option, None, Some}
 use Rattle.std.proofs.Common.{sym, ◌∙◌, arith, eqb-true}
 use Rattle.std.proofs.Math.Path.{subst⁻¹, ap}
 use Rattle.std.proofs.Math.ListN.{length, length-append, get_or-append}
@@ -9,7 +8,6 @@ use Rattle.std.proofs.lemmas.List.{length-map}
 use Rattle.std.proofs.Math.Seq.{get_or-append-add}
 use Rattle.whole.specs.Ring.{K, ◌:+◌, ◌:*◌, ring1}
 use Rattle.whole.specs.Half.{half-even}
-use Rattle.lists.specs.declared.Found.{Found}
 use Rattle.lists.specs.Lists.{All}
 use Rattle.lists.specs.ListsLaw.{and_left, and_right, All-get_or, WhereIs, nowhere, place_of, where-is}
 use Rattle.meaning.specs.declared.Tri.{Tri}
@@ -29,8 +27,8 @@ edge_at n s k = get_or s (k - n) (edge 0 0)
 
 -- the number of the midpoint of a–b, if there is one, is n or above, below n', and tells the edge
 abbrev pub Number : (ℕ → Edge) → ℕ → ℕ → ℕ → ℕ → Option ℕ → Type 0
-Number E n n' a b none = Unit {0}
-Number E n n' a b (some k) = (n ≤ k) × (k < n') × (E k ≡ edge a b)
+Number E n n' a b None = Unit {0}
+Number E n n' a b (Some k) = (n ≤ k) × (k < n') × (E k ≡ edge a b)
 
 pub record Numbered (E : ℕ → Edge) (n n' : ℕ) (t : Tri) (o u v : Option ℕ) : Type 0 where
   pub on-qr : Number E n n' t.q t.r o
@@ -40,7 +38,7 @@ pub record Numbered (E : ℕ → Edge) (n n' : ℕ) (t : Tri) (o u v : Option �
 number-of : (n : ℕ) (s : List Edge) (a b : ℕ) → Number (edge_at n s) n (n + length s) a b (number_of n s (edge a b))
 number-of n s a b = go (where-is (same_edge (edge a b)) s (edge 0 0))
   where
-    go : {o : Found} → WhereIs (same_edge (edge a b)) s (edge 0 0) o → Number (edge_at n s) n (n + length s) a b (plus n o)
+    go : {o : Option ℕ} → WhereIs (same_edge (edge a b)) s (edge 0 0) o → Number (edge_at n s) n (n + length s) a b (plus n o)
     go (nowhere h) = tt
     go (place_of i l t) =
         let k : n + i - n ≡ i = omega arith in
@@ -60,13 +58,13 @@ edges-differ a b c ne e =
 -- so a triangle's midpoints are new, and no two are one node
 module _ (E : ℕ → Edge) (n n' : ℕ) where
   new-node : (a b : ℕ) (o : Option ℕ) → Number E n n' a b o → NewNode n n' o
-  new-node a b none h = tt
-  new-node a b (some k) h = (h.0, h.1)
+  new-node a b None h = tt
+  new-node a b (Some k) h = (h.0, h.1)
 
   two-nodes : (a b c d : ℕ) (o u : Option ℕ) → (edge a b ≡ edge c d → ⊥) → Number E n n' a b o → Number E n n' c d u → Differ o u
-  two-nodes a b c d none u ne g h = tt
-  two-nodes a b c d (some k) none ne g h = tt
-  two-nodes a b c d (some k) (some l) ne g h = λ w. ne (sym g.2 ∙ ap E w ∙ h.2)
+  two-nodes a b c d None u ne g h = tt
+  two-nodes a b c d (Some k) None ne g h = tt
+  two-nodes a b c d (Some k) (Some l) ne g h = λ w. ne (sym g.2 ∙ ap E w ∙ h.2)
 
 pub fresh : {E : ℕ → Edge} {n n' : ℕ} {t : Tri} {o u v : Option ℕ} → Named n t → Numbered E n n' t o u v → Fresh n n' o u v
 fresh {E} {n} {n'} {t} {o} {u} {v} a h = record {
@@ -120,7 +118,7 @@ module _ (c : Cutting) (m : Mesh) (s : List Edge) where
       MidOf (split_at c m s) a b (number_of (length m.nodes) s (edge a b))
   mid-of h a b ha hb = go (where-is (same_edge (edge a b)) s (edge a b))
     where
-      go : {o : Found} → WhereIs (same_edge (edge a b)) s (edge a b) o → MidOf (split_at c m s) a b (plus (length m.nodes) o)
+      go : {o : Option ℕ} → WhereIs (same_edge (edge a b)) s (edge a b) o → MidOf (split_at c m s) a b (plus (length m.nodes) o)
       go (nowhere n) = tt
       go (place_of i l t) =
           let e = same_edge-eq (edge a b) (get_or s i (edge a b)) t in

@@ -1,8 +1,7 @@
 -- G2's pairs: the rows round a node, paired off from the lowest on. A pairing that leaves none over is the one G2 reads off, and its
 -- pairs are these rows, each once. Assumes nothing.
-use Rattle.std.specs.Prelude.{Bool, true, false, not, ◌||◌, ◌≢◌, ◌≡◌, refl, ℕ, zero, suc, ◌+◌, ◌*◌, ◌≤◌, ◌<◌, length, get_or}
+use Rattle.std.specs.Prelude.{Bool, true, false, not, ◌||◌, ◌≢◌, ◌≡◌, refl, ℕ, zero, suc, ◌+◌, ◌*◌, ◌≤◌, ◌<◌, length, get_or, Option}
 use mathlib.Core.List.{List, [], ◌∷◌, Memᴰ}
-use Rattle.std.proofs.Math.Option.{Option}
 use Rattle.std.proofs.Common.{sym, subst, ap, ◌∙◌, arith, eq-eqb}
 use Rattle.std.proofs.Math.Decide.{dec_lt}
 use Rattle.lists.specs.Lists.{only, All, nil, cons}

@@ -1,7 +1,6 @@
 -- W8's cut has the laws of a cut: with all three edges split each child has a quarter of the father's twice-area; with one or two it is
 -- bisection. Assumes nothing.
-use Rattle.std.specs.Prelude.{◌≢◌, ◌≡◌, refl, ℕ, suc, ◌+◌, ◌≤◌, ◌<◌, ℤ, pos, ◌+ℤ◌, ◌-ℤ◌, ◌*ℤ◌, length, ◌<ℤ◌}
-use Rattle.std.proofs.Math.Option.{Option, none, some}
+use Rattle.std.specs.Prelude.{◌≢◌, ◌≡◌, refl, ℕ, suc, ◌+◌, ◌≤◌, ◌<◌, ℤ, pos, ◌+ℤ◌, ◌-ℤ◌, ◌*ℤ◌, length, ◌<ℤ◌, Option, None, Some}
 use Rattle.std.proofs.Common.{sym, ◌∙◌, arith}
 use Rattle.lists.specs.Lists.{All, nil, cons}
 use Rattle.lists.specs.Tally.{tally}
@@ -58,17 +57,17 @@ module _ (P Q R M U W : Place) (m : Middle M Q R) (u : Middle U P Q) (v : Middle
   together : turn P U W +ℤ (turn U Q M +ℤ (turn W M R +ℤ (turn M W U +ℤ pos 0))) ≡ turn P Q R
   together = four_quarters (turn P U W) (turn U Q M) (turn W M R) (turn M W U) (turn P Q R) quarter-p quarter-q quarter-r quarter-inner
 
-red-area : (M : Mesh) (t : Tri) (m : ℕ) (u v : Option ℕ) → Centred M t (some m) u v → sum (twice_area M) (parts (red t (some m) u v)) ≡ twice_area M t
+red-area : (M : Mesh) (t : Tri) (m : ℕ) (u v : Option ℕ) → Centred M t (Some m) u v → sum (twice_area M) (parts (red t (Some m) u v)) ≡ twice_area M t
 unfolding twice_area
-red-area M t m none v h = bisected-laws.area M t m none v h
-red-area M t m (some u) none h = bisected-laws.area M t m (some u) none h
-red-area M t m (some u) (some v) h = together (at M t.p) (at M t.q) (at M t.r) (at M m) (at M u) (at M v) h.on-qr h.on-pq h.on-rp
+red-area M t m None v h = bisected-laws.area M t m None v h
+red-area M t m (Some u) None h = bisected-laws.area M t m (Some u) None h
+red-area M t m (Some u) (Some v) h = together (at M t.p) (at M t.q) (at M t.r) (at M m) (at M u) (at M v) h.on-qr h.on-pq h.on-rp
 
-red-above : (M : Mesh) (t : Tri) (m : ℕ) (u v : Option ℕ) → Centred M t (some m) u v → pos 0 <ℤ twice_area M t → All (λ k. pos 0 <ℤ twice_area M k) (parts (red t (some m) u v))
+red-above : (M : Mesh) (t : Tri) (m : ℕ) (u v : Option ℕ) → Centred M t (Some m) u v → pos 0 <ℤ twice_area M t → All (λ k. pos 0 <ℤ twice_area M k) (parts (red t (Some m) u v))
 unfolding twice_area
-red-above M t m none v h a = bisected-laws.above M t m none v h a
-red-above M t m (some u) none h a = bisected-laws.above M t m (some u) none h a
-red-above M t m (some u) (some v) h a =
+red-above M t m None v h a = bisected-laws.above M t m None v h a
+red-above M t m (Some u) None h a = bisected-laws.above M t m (Some u) None h a
+red-above M t m (Some u) (Some v) h a =
     let P = at M t.p in
     let Q = at M t.q in
     let R = at M t.r in
@@ -85,10 +84,10 @@ three-nodes n' a b c ha hb hc ab bc ca = record { p-below = ha; q-below = hb; r-
 old-new : {n k a : ℕ} → a < n → n ≤ k → a ≢ k
 old-new h l e = omega arith
 
-red-named : (n n' : ℕ) (t : Tri) (m : ℕ) (u v : Option ℕ) → Named n t → Fresh n n' (some m) u v → All (Named n') (parts (red t (some m) u v))
-red-named n n' t m none v a f = bisected-laws.named n n' t m none v a f
-red-named n n' t m (some u) none a f = bisected-laws.named n n' t m (some u) none a f
-red-named n n' t m (some u) (some v) a f =
+red-named : (n n' : ℕ) (t : Tri) (m : ℕ) (u v : Option ℕ) → Named n t → Fresh n n' (Some m) u v → All (Named n') (parts (red t (Some m) u v))
+red-named n n' t m None v a f = bisected-laws.named n n' t m None v a f
+red-named n n' t m (Some u) None a f = bisected-laws.named n n' t m (Some u) None a f
+red-named n n' t m (Some u) (Some v) a f =
     let um : u ≢ m = λ e. f.m-u (sym e) in
     let vm : v ≢ m = λ e. f.m-v (sym e) in
     let vu : v ≢ u = λ e. f.u-v (sym e) in
@@ -99,25 +98,25 @@ red-named n n' t m (some u) (some v) a f =
 
 -- ---- arrows, corners, rows: counted
 
-red-arrows : (e : Arrow) (t : Tri) (m : ℕ) (u v : Option ℕ) → tally (hits e) (parts (red t (some m) u v)) ≤ allowed e t (some m) u v
-red-arrows e t m none v = bisected-laws.arrows e t m none v
-red-arrows e t m (some u) none = bisected-laws.arrows e t m (some u) none
-red-arrows e t m (some u) (some v) = omega arith
+red-arrows : (e : Arrow) (t : Tri) (m : ℕ) (u v : Option ℕ) → tally (hits e) (parts (red t (Some m) u v)) ≤ allowed e t (Some m) u v
+red-arrows e t m None v = bisected-laws.arrows e t m None v
+red-arrows e t m (Some u) None = bisected-laws.arrows e t m (Some u) None
+red-arrows e t m (Some u) (Some v) = omega arith
 
-red-corners : (z : ℕ) (t : Tri) (m : ℕ) (u v : Option ℕ) → names z t ≤ tally (names z) (parts (red t (some m) u v))
-red-corners z t m none v = bisected-laws.corners z t m none v
-red-corners z t m (some u) none = bisected-laws.corners z t m (some u) none
-red-corners z t m (some u) (some v) = omega arith
+red-corners : (z : ℕ) (t : Tri) (m : ℕ) (u v : Option ℕ) → names z t ≤ tally (names z) (parts (red t (Some m) u v))
+red-corners z t m None v = bisected-laws.corners z t m None v
+red-corners z t m (Some u) None = bisected-laws.corners z t m (Some u) None
+red-corners z t m (Some u) (Some v) = omega arith
 
-red-middles : (z : ℕ) (t : Tri) (m : ℕ) (u v : Option ℕ) → here z m + here_if z u + here_if z v ≤ tally (names z) (parts (red t (some m) u v))
-red-middles z t m none v = bisected-laws.middles z t m none v
-red-middles z t m (some u) none = bisected-laws.middles z t m (some u) none
-red-middles z t m (some u) (some v) = omega arith
+red-middles : (z : ℕ) (t : Tri) (m : ℕ) (u v : Option ℕ) → here z m + here_if z u + here_if z v ≤ tally (names z) (parts (red t (Some m) u v))
+red-middles z t m None v = bisected-laws.middles z t m None v
+red-middles z t m (Some u) None = bisected-laws.middles z t m (Some u) None
+red-middles z t m (Some u) (Some v) = omega arith
 
-red-rows : (t : Tri) (m : ℕ) (u v : Option ℕ) → length (red t (some m) u v).added ≡ suc (there u + there v)
-red-rows t m none v = bisected-laws.rows t m none v
-red-rows t m (some u) none = bisected-laws.rows t m (some u) none
-red-rows t m (some u) (some v) = refl
+red-rows : (t : Tri) (m : ℕ) (u v : Option ℕ) → length (red t (Some m) u v).added ≡ suc (there u + there v)
+red-rows t m None v = bisected-laws.rows t m None v
+red-rows t m (Some u) None = bisected-laws.rows t m (Some u) None
+red-rows t m (Some u) (Some v) = refl
 
 pub red-laws : CutLaws red
 red-laws = record {

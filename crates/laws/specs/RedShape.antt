@@ -1,7 +1,6 @@
 -- W8: "Jobs with round stamps want children shaped like the father." The four rows of a red cut are: each side of a child is half a side of the father, exactly, in
 -- length and direction; of the inner child every side is turned round. So children have the father's angles, at half the size. Assumes nothing.
-use Rattle.std.proofs.Math.Option.{some}
-use Rattle.std.specs.Prelude.{◌≡◌, refl, ℕ, ℤ, pos, ◌+ℤ◌, ◌-ℤ◌, ◌*ℤ◌}
+use Rattle.std.specs.Prelude.{◌≡◌, refl, ℕ, ℤ, pos, ◌+ℤ◌, ◌-ℤ◌, ◌*ℤ◌, Some}
 use Rattle.std.proofs.Common.{◌∙◌}
 use Rattle.std.proofs.Math.IntN.{+ℤ_comm}
 use Rattle.lists.specs.Lists.{All, nil, cons}
@@ -46,7 +45,7 @@ across {A} {B} {C} {D} {E} f g = record {
 }
 
 -- CHILDREN ARE SHAPED LIKE THE FATHER: all four rows of a red cut.
-pub red-shaped : (M : Mesh) (t : Tri) (m u v : ℕ) → Centred M t (some m) (some u) (some v) → All (ShapedLike M t) (parts (red t (some m) (some u) (some v)))
+pub red-shaped : (M : Mesh) (t : Tri) (m u v : ℕ) → Centred M t (Some m) (Some u) (Some v) → All (ShapedLike M t) (parts (red t (Some m) (Some u) (Some v)))
 red-shaped M t m u v h =
     let p = own (at M t.p) in
     let q = own (at M t.q) in

@@ -1,10 +1,8 @@
 -- W8: "the answer says 1 in a new field when it made a red cut, else 0". What that tells: it is 1 exactly if the call was not refused and a row is marked; and with no row
 -- marked a refine, by whatever way, leaves the mesh as it is. But for that field the answer is W1's. Assumes nothing.
-use Rattle.std.specs.Prelude.{Bool, true, false, ◌&&◌, List, [], ◌∷◌, ◌++◌, map, ◌↔◌, ◌≢◌, ◌≡◌, refl, ℕ, zero, suc, ◌<◌, length, get_or}
+use Rattle.std.specs.Prelude.{Bool, true, false, ◌&&◌, List, [], ◌∷◌, ◌++◌, map, ◌↔◌, ◌≢◌, ◌≡◌, refl, ℕ, zero, suc, ◌<◌, length, get_or, Option, None, Some}
 use Rattle.std.proofs.Common.{append-nil, sym, subst, ap₂, ◌∙◌, arith}
-use Rattle.std.proofs.Math.Option.{Option, none, some}
 use Rattle.std.proofs.Math.Path.{ap}
-use Rattle.lists.specs.declared.Found.{Found}
 use Rattle.lists.specs.Lists.{any, cases, joined, All, nil, cons}
 use Rattle.lists.specs.ListsLaw.{clash, All-imp, All-at, All-of, yes-all, and_left, any_at, any-row, WhereIs, nowhere, place_of, where-is}
 use Rattle.lists.specs.MembersLaw.{at_mem}
@@ -55,7 +53,7 @@ unfolding split_at
 unsplit {c} laws m = ap₂ mesh (append-nil m.nodes) (ap (λ (k : Tri → Cut). map (λ t. (k t).kept) m.tris ++ joined (λ t. (k t).added) m.tris) whole ∙ rows_stay m.tris)
   where
     whole : ◌≡◌ {A = Tri → Cut} (cut_of c (length m.nodes) []) (λ t. cut t [])
-    whole = λ i t. laws.whole t none none i
+    whole = λ i t. laws.whole t None None i
 
 -- WITH NO ROW MARKED THE MESH STAYS AS IT IS, whatever the way.
 pub unmarked-stays : (w : Way) → CutLaws w.cutting → (m : Mesh) (marks : List ℕ) → ¬ SomeMarked marks (length m.tris) → refined w m marks ≡ m
@@ -66,8 +64,8 @@ unmarked-stays w laws m marks unmarked = ap (split_at w.cutting m) (unmarked-uns
 pub unmarked-alike : (w w' : Way) → CutLaws w.cutting → CutLaws w'.cutting → (g : Given) (n0 : ℕ) (marks : List ℕ) → ¬ SomeMarked marks g.t → refine_out w g n0 marks ≡ refine_out w' g n0 marks
 unfolding refine_out refines refine_no
 unmarked-alike w w' laws laws' g n0 marks unmarked =
-    let none : ¬ SomeMarked marks (length (mesh_of g).tris) = rw (rows-count g) unmarked in
-    rw (unmarked-stays w laws (mesh_of g) marks none, unmarked-stays w' laws' (mesh_of g) marks none, unmarked-unsplit w.starts (mesh_of g) marks none, unmarked-unsplit w'.starts (mesh_of g) marks none)
+    let None : ¬ SomeMarked marks (length (mesh_of g).tris) = rw (rows-count g) unmarked in
+    rw (unmarked-stays w laws (mesh_of g) marks None, unmarked-stays w' laws' (mesh_of g) marks None, unmarked-unsplit w.starts (mesh_of g) marks None, unmarked-unsplit w'.starts (mesh_of g) marks None)
 
 -- ---- the field
 
@@ -83,13 +81,13 @@ else-as-01 n s t h =
     go (number_of n s (base t)) (number_of n s pq) (number_of n s rp) (mem_edge (base t) s) (mem_edge pq s) (mem_edge rp s) (number-there n s (base t)) (number-there n s pq) (number-there n s rp) h
   where
     go : (o u v : Option ℕ) (a b c : Bool) → there o ≡ bit a → there u ≡ bit b → there v ≡ bit c → a && (b && (c && true)) ≡ false → red t o u v ≡ bisected t o u v
-    go none u v a b c e f g h = refl
-    go (some m) none v a b c e f g h = refl
-    go (some m) (some u) none a b c e f g h = refl
-    go (some m) (some u) (some v) true true true e f g h = clash h
-    go (some m) (some u) (some v) false b c e f g h = absurd (omega arith)
-    go (some m) (some u) (some v) true false c e f g h = absurd (omega arith)
-    go (some m) (some u) (some v) true true false e f g h = absurd (omega arith)
+    go None u v a b c e f g h = refl
+    go (Some m) None v a b c e f g h = refl
+    go (Some m) (Some u) None a b c e f g h = refl
+    go (Some m) (Some u) (Some v) true true true e f g h = clash h
+    go (Some m) (Some u) (Some v) false b c e f g h = absurd (omega arith)
+    go (Some m) (Some u) (Some v) true false c e f g h = absurd (omega arith)
+    go (Some m) (Some u) (Some v) true true false e f g h = absurd (omega arith)
 
 red-0-or-1 : (q : Quarters) (s : List Edge) (ts : List Tri) → red_made q s ts ≢ 1 → red_made q s ts ≡ 0
 red-0-or-1 Bisected s ts n = refl
@@ -107,7 +105,7 @@ SomeWholly s ts = (i : ℕ) × (i < length ts) × (wholly s (row_of ts i) ≡ tr
 pub red-wholly : (s : List Edge) (ts : List Tri) → (red_made Red s ts ≡ 1) ↔ SomeWholly s ts
 red-wholly s ts = (onward (any (wholly s) ts) refl (where-is (wholly s) ts (tri 0 0 0)), λ r. rw (any_at (wholly s) r.2 (at_mem ts r.0 (tri 0 0 0) r.1)))
   where
-    onward : (b : Bool) → any (wholly s) ts ≡ b → {o : Found} → WhereIs (wholly s) ts (tri 0 0 0) o → cases {A = ℕ} b 1 0 ≡ 1 → SomeWholly s ts
+    onward : (b : Bool) → any (wholly s) ts ≡ b → {o : Option ℕ} → WhereIs (wholly s) ts (tri 0 0 0) o → cases {A = ℕ} b 1 0 ≡ 1 → SomeWholly s ts
     onward true q (place_of i l t) e = (i, l, t)
     onward true q (nowhere h) e = let (t, i, w) = any-row (wholly s) ts q in clash (sym w ∙ All-at h i)
     onward false q w e = absurd (omega arith)

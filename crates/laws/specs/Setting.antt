@@ -1,6 +1,6 @@
 -- W5, setting: node z carries c after it and nothing else differs, so that the mesh is lawful and of the same total; each number is given exactly when
 -- its line says; what it names. Assumes nothing.
-use Rattle.std.specs.Prelude.{Bool, true, false, ◌↔◌, ◌≢◌, ◌⊎◌, ◌≡◌, refl, leb, ltb, ◌<ℤ◌, set}
+use Rattle.std.specs.Prelude.{Bool, true, false, ◌↔◌, ◌≢◌, ◌⊎◌, ◌≡◌, refl, leb, ltb, ◌<ℤ◌, set, Option, Some, None}
 use mathlib.Core.List.{List}
 use Rattle.std.proofs.Common.{inl, inr, ap, ◌∙◌, arith, leb-true, leb-false, ltb-true, ltb-false}
 use Rattle.std.proofs.Math.Path.{sym, subst}
@@ -8,8 +8,6 @@ use Prim.Native.Nat.{ℕ, zero, suc, ◌≤◌, ◌<◌}
 use Rattle.std.proofs.Math.IntN.{pos}
 use Rattle.std.proofs.Math.ListN.{length, length-set}
 use Rattle.std.proofs.Math.Seq.{get_or-set_same, get_or-set_other, map-set_same}
-use Rattle.lists.specs.declared.Found.{Found}
-use Rattle.lists.specs.declared.Found.TheVariants.{At, Nothing}
 use Rattle.lists.specs.Lists.{on_found, All, nil, cons}
 use Rattle.lists.specs.ListsLaw.{clash, All-imp, All-get_or}
 use Rattle.meaning.specs.declared.Node.{Node}
@@ -68,35 +66,35 @@ module _ (m : Mesh) (z : ℕ) (c : Correction) where
 -- ---- the number
 
 -- what `found_if` and `or_found` find
-if_yes : (b : Bool) (i j : ℕ) → found_if b i ≡ At j → (b ≡ true) × (i ≡ j)
+if_yes : (b : Bool) (i j : ℕ) → found_if b i ≡ Some j → (b ≡ true) × (i ≡ j)
 if_yes true i j e = (refl, ap (λ f. on_found f (λ k. k) 0) e)
 if_yes false i j e = absurd (let w : ◌≡◌ {A = ℕ} 0 1 = ap (λ f. on_found f (λ k. 1) 0) e in omega arith)
 
-if_no : (b : Bool) (i : ℕ) → found_if b i ≡ Nothing → b ≡ false
+if_no : (b : Bool) (i : ℕ) → found_if b i ≡ None → b ≡ false
 if_no true i e = absurd (let w : ◌≡◌ {A = ℕ} 1 0 = ap (λ f. on_found f (λ k. 1) 0) e in omega arith)
 if_no false i e = refl
 
-either-found : (f g : Found) (i : ℕ) → or_found f g ≡ At i → (f ≡ At i) ⊎ ((f ≡ Nothing) × (g ≡ At i))
-either-found (At j) g i e = inl e
-either-found Nothing g i e = inr (refl, e)
+either-found : (f g : Option ℕ) (i : ℕ) → or_found f g ≡ Some i → (f ≡ Some i) ⊎ ((f ≡ None) × (g ≡ Some i))
+either-found (Some j) g i e = inl e
+either-found None g i e = inr (refl, e)
 
-neither-found : (f g : Found) → or_found f g ≡ Nothing → (f ≡ Nothing) × (g ≡ Nothing)
-neither-found (At j) g e = absurd (let w : ◌≡◌ {A = ℕ} 1 0 = ap (λ f. on_found f (λ k. 1) 0) e in omega arith)
-neither-found Nothing g e = (refl, e)
+neither-found : (f g : Option ℕ) → or_found f g ≡ None → (f ≡ None) × (g ≡ None)
+neither-found (Some j) g e = absurd (let w : ◌≡◌ {A = ℕ} 1 0 = ap (λ f. on_found f (λ k. 1) 0) e in omega arith)
+neither-found None g e = (refl, e)
 
 module _ (n0 : ℕ) (m : Mesh) (z : ℕ) (c : Correction) where
   -- 3 stored, or for the value
-  which-3 : (i : ℕ) → or_found (first_outside m) (found_if (beyond c) z) ≡ At i → (first_outside m ≡ At i) ⊎ ((first_outside m ≡ Nothing) × (beyond c ≡ true) × (z ≡ i))
+  which-3 : (i : ℕ) → or_found (first_outside m) (found_if (beyond c) z) ≡ Some i → (first_outside m ≡ Some i) ⊎ ((first_outside m ≡ None) × (beyond c ≡ true) × (z ≡ i))
   which-3 i e = go (either-found (first_outside m) (found_if (beyond c) z) i e)
     where
-      go : (first_outside m ≡ At i) ⊎ ((first_outside m ≡ Nothing) × (found_if (beyond c) z ≡ At i)) → (first_outside m ≡ At i) ⊎ ((first_outside m ≡ Nothing) × (beyond c ≡ true) × (z ≡ i))
+      go : (first_outside m ≡ Some i) ⊎ ((first_outside m ≡ None) × (found_if (beyond c) z ≡ Some i)) → (first_outside m ≡ Some i) ⊎ ((first_outside m ≡ None) × (beyond c ≡ true) × (z ≡ i))
       go (inl f) = inl f
       go (inr (f, g)) = let h = if_yes (beyond c) z i g in inr (f, h.0, h.1)
 
   not-bounded : beyond c ≡ true → ¬ InBounds c
   not-bounded e b = clash (sym e ∙ (bounds-exact c).1 b)
 
-  none-3-set : or_found (first_outside m) (found_if (beyond c) z) ≡ Nothing → All NodeInRange m.nodes × InBounds c
+  none-3-set : or_found (first_outside m) (found_if (beyond c) z) ≡ None → All NodeInRange m.nodes × InBounds c
   none-3-set e =
       let h = neither-found (first_outside m) (found_if (beyond c) z) e in
       (none-3 m h.0, (bounds-exact c).0 (if_no (beyond c) z h.1))
@@ -157,10 +155,10 @@ module _ (n0 : ℕ) (m : Mesh) (z : ℕ) (c : Correction) where
   unfolding set_fault
   set-lowest = record { applies = whole.applies; no_lower = λ j a. whole.no_lower j (from-3 a) a }
     where
-      found : (i : ℕ) → or_found (first_outside m) (found_if (beyond c) z) ≡ At i → SetApplies n0 m z c 3
+      found : (i : ℕ) → or_found (first_outside m) (found_if (beyond c) z) ≡ Some i → SetApplies n0 m z c 3
       found i e = go (which-3 i e)
         where
-          go : (first_outside m ≡ At i) ⊎ ((first_outside m ≡ Nothing) × (beyond c ≡ true) × (z ≡ i)) → SetApplies n0 m z c 3
+          go : (first_outside m ≡ Some i) ⊎ ((first_outside m ≡ None) × (beyond c ≡ true) × (z ≡ i)) → SetApplies n0 m z c 3
           go (inl f) = of-mesh 3 (found-3 m i f)
           go (inr (f, b, w)) = value_out (not-bounded b)
 
@@ -193,10 +191,10 @@ module _ (n0 : ℕ) (m : Mesh) (z : ℕ) (c : Correction) where
       nobody : (k : ℕ) → Other k → SetNames m z c k 0
       nobody k o = names-stored (names-none k o)
 
-      found : (i : ℕ) → or_found (first_outside m) (found_if (beyond c) z) ≡ At i → SetNames m z c 3 i
+      found : (i : ℕ) → or_found (first_outside m) (found_if (beyond c) z) ≡ Some i → SetNames m z c 3 i
       found i e = go (which-3 i e)
         where
-          go : (first_outside m ≡ At i) ⊎ ((first_outside m ≡ Nothing) × (beyond c ≡ true) × (z ≡ i)) → SetNames m z c 3 i
+          go : (first_outside m ≡ Some i) ⊎ ((first_outside m ≡ None) × (beyond c ≡ true) × (z ≡ i)) → SetNames m z c 3 i
           go (inl f) = names-stored (names-3 (first-3 m i f))
           go (inr (f, b, w)) = subst (SetNames m z c 3) w (names-given (none-3 m f) (not-bounded b))
 

@@ -6,8 +6,7 @@
 -- In a row every inner arrow that starts at the midpoint of one of its arrows (and p→m too) so has that arrow as its source, for the row
 -- is on its left: this is where the twice-area above 0 is used. Different arrows of one row that have one source differ in an end, so
 -- at most one of them is a given arrow. Hence: a row allows an arrow at most as often as it has the arrow's source. Assumes nothing.
-use Rattle.std.specs.Prelude.{Bool, true, false, ◌||◌, ◌≢◌, ◌≡◌, ℕ, min, max, ◌+◌, ◌-◌, ◌≤◌, ◌<◌, eqb, leb, ltb, ℤ, ◌<ℤ◌, ◌≤ℤ◌}
-use Rattle.std.proofs.Math.Option.{Option, none, some}
+use Rattle.std.specs.Prelude.{Bool, true, false, ◌||◌, ◌≢◌, ◌≡◌, ℕ, min, max, ◌+◌, ◌-◌, ◌≤◌, ◌<◌, eqb, leb, ltb, ℤ, ◌<ℤ◌, ◌≤ℤ◌, Option, None, Some}
 use Rattle.std.proofs.Math.Path.{refl}
 use Rattle.std.proofs.Common.{sym, subst, ap, ◌∙◌, arith}
 use Rattle.std.proofs.Math.IntN.{pos, neg_ℤ}
@@ -193,36 +192,36 @@ module _ (P : ℕ → Place) (E : ℕ → Edge) (n n' : ℕ) where
         (let w : source e ≡ arrow a' b' = ap source (λ i. record { from = x i; to = y i }) ∙ s in
         (ap (λ d. d.from) w, ap (λ d. d.to) w)))
 
-    way_next : {a b c k : ℕ} {l j : Option ℕ} → Side a b c (some k) l j → way e (some k) l ≤ hit (source e) a b
-    way_next {a} {b} {c} {k} {l = none} s = omega arith
-    way_next {a} {b} {c} {k} {l = some l} s = from-source k l a b (source-next a b c k l s.on-ab.0 s.on-bc.0 s.on-ab.2 s.on-bc.2 s.b≢c s.c≢a s.turns)
+    way_next : {a b c k : ℕ} {l j : Option ℕ} → Side a b c (Some k) l j → way e (Some k) l ≤ hit (source e) a b
+    way_next {a} {b} {c} {k} {l = None} s = omega arith
+    way_next {a} {b} {c} {k} {l = Some l} s = from-source k l a b (source-next a b c k l s.on-ab.0 s.on-bc.0 s.on-ab.2 s.on-bc.2 s.b≢c s.c≢a s.turns)
 
-    way-before : {a b c k : ℕ} {l j : Option ℕ} → Side a b c (some k) l j → way e (some k) j ≤ hit (source e) a b
-    way-before {a} {b} {c} {k} {j = none} s = omega arith
-    way-before {a} {b} {c} {k} {j = some j} s = from-source k j a b (source-before a b c k j s.on-ab.0 s.on-ca.0 s.on-ab.2 s.on-ca.2 s.b≢c s.c≢a s.turns)
+    way-before : {a b c k : ℕ} {l j : Option ℕ} → Side a b c (Some k) l j → way e (Some k) j ≤ hit (source e) a b
+    way-before {a} {b} {c} {k} {j = None} s = omega arith
+    way-before {a} {b} {c} {k} {j = Some j} s = from-source k j a b (source-before a b c k j s.on-ab.0 s.on-ca.0 s.on-ab.2 s.on-ca.2 s.b≢c s.c≢a s.turns)
 
     -- a way between midpoints is no arrow with an old end
-    way-none : (a b k : ℕ) (l : Option ℕ) → Number E n n' a b l → (e.from ≡ k → n ≤ e.to → ⊥) → way e (some k) l ≡ 0
-    way-none a b k none h f = refl
-    way-none a b k (some l) h f = hit-no e k l (λ x y. f x (subst (λ z. n ≤ z) (sym y) h.0))
+    way-none : (a b k : ℕ) (l : Option ℕ) → Number E n n' a b l → (e.from ≡ k → n ≤ e.to → ⊥) → way e (Some k) l ≡ 0
+    way-none a b k None h f = refl
+    way-none a b k (Some l) h f = hit-no e k l (λ x y. f x (subst (λ z. n ≤ z) (sym y) h.0))
 
-    ways : {a b c k : ℕ} {l j : Option ℕ} → Side a b c (some k) l j → way e (some k) l + way e (some k) j ≤ hit (source e) a b
-    ways {l = none} s = let h = way-before s in omega arith
-    ways {l = some l} {j = none} s = let h = way_next s in omega arith
-    ways {a} {b} {c} {k} {l = some l} {j = some j} s =
+    ways : {a b c k : ℕ} {l j : Option ℕ} → Side a b c (Some k) l j → way e (Some k) l + way e (Some k) j ≤ hit (source e) a b
+    ways {l = None} s = let h = way-before s in omega arith
+    ways {l = Some l} {j = None} s = let h = way_next s in omega arith
+    ways {a} {b} {c} {k} {l = Some l} {j = Some j} s =
         one_more e k l (hit e k j) (hit (source e) a b)
         (λ x y. hit-no e k j (λ x' y'. edges-differ b c a s.a≢b (sym s.on-bc.2 ∙ ap E (sym y ∙ y') ∙ s.on-ca.2)))
         (way_next s) (way-before s)
 
     -- along a split edge: the halves, what joins its midpoint to the corner, and what leads from it to other midpoints
-    along : {a b c k : ℕ} {l j : Option ℕ} → Side a b c (some k) l j →
-        outer e a b (some k) + seam e (some c) (some k) + way e (some k) l + way e (some k) j ≤ hit (source e) a b
+    along : {a b c k : ℕ} {l j : Option ℕ} → Side a b c (Some k) l j →
+        outer e a b (Some k) + seam e (Some c) (Some k) + way e (Some k) l + way e (Some k) j ≤ hit (source e) a b
     along {a} {b} {c} {k} {l} {j} s = go (ltb e.from n) refl
       where
         nk : n ≤ k
         nk = s.on-ab.0
 
-        go : (t : Bool) → ltb e.from n ≡ t → outer e a b (some k) + seam e (some c) (some k) + way e (some k) l + way e (some k) j ≤ hit (source e) a b
+        go : (t : Bool) → ltb e.from n ≡ t → outer e a b (Some k) + seam e (Some c) (Some k) + way e (Some k) l + way e (Some k) j ≤ hit (source e) a b
         go true w =
             let old = ltb-true e.from n w in
             let kb = hit-no e k b (λ x y. omega arith) in
@@ -238,13 +237,13 @@ module _ (P : ℕ → Place) (E : ℕ → Edge) (n n' : ℕ) where
             let new = ltb-false e.from n w in
             let ak = hit-no e a k (λ x y. omega (arith, s.a-old)) in
             let ck = hit-no e c k (λ x y. omega (arith, s.c-old)) in
-            let some-old : (z : ℕ) → z < n → e.to ≡ z → way e (some k) l + way e (some k) j ≡ 0 =
+            let some-old : (z : ℕ) → z < n → e.to ≡ z → way e (Some k) l + way e (Some k) j ≡ 0 =
             λ z zn y. (let kl = way-none b c k l s.on-bc (λ x y'. omega arith) in let kj = way-none c a k j s.on-ca (λ x y'. omega arith) in omega arith) in
-            let three = one_more e k b (way e (some k) l + way e (some k) j) (hit (source e) a b)
+            let three = one_more e k b (way e (Some k) l + way e (Some k) j) (hit (source e) a b)
             (λ x y. some-old b s.b-old y)
             (from-source k b a b (source-second a b k s.b-old nk s.on-ab.2))
             (ways s) in
-            let four = one_more e k c (hit e k b + (way e (some k) l + way e (some k) j)) (hit (source e) a b)
+            let four = one_more e k c (hit e k b + (way e (Some k) l + way e (Some k) j)) (hit (source e) a b)
             (λ x y. (let z = some-old c s.c-old y in let kb = hit-no e k b (λ x' y'. s.b≢c (sym y' ∙ y)) in omega arith))
             (from-source k c a b (source-out a b c k s.c-old nk s.on-ab.2 s.b≢c s.c≢a s.turns))
             three in
@@ -254,18 +253,18 @@ module _ (P : ℕ → Place) (E : ℕ → Edge) (n n' : ℕ) where
     whole a b an bn = from-source a b a b (source-whole a b an bn)
 
     side : {a b c : ℕ} {k l j : Option ℕ} → Side a b c k l j → outer e a b k + way e k l + way e k j ≤ hit (source e) a b
-    side {a} {b} {k = none} s = let h = whole a b s.a-old s.b-old in omega arith
-    side {k = some k} s = let h = along s in omega arith
+    side {a} {b} {k = None} s = let h = whole a b s.a-old s.b-old in omega arith
+    side {k = Some k} s = let h = along s in omega arith
 
     pub allowed-source : {t : Tri} {o u v : Option ℕ} → Named n t → pos 0 <ℤ turn (P t.p) (P t.q) (P t.r) → Numbered E n n' t o u v →
         allowed e t o u v ≤ hits (source e) t
-    allowed-source {t} {o = none} a h k =
+    allowed-source {t} {o = None} a h k =
         let pq = whole t.p t.q a.p-below a.q-below in
         let qr = whole t.q t.r a.q-below a.r-below in
         let rp = whole t.r t.p a.r-below a.p-below in
         omega arith
-    allowed-source {t} {o = some m} {u} {v} a h k =
-        let s : Side t.p t.q t.r u (some m) v = record {
+    allowed-source {t} {o = Some m} {u} {v} a h k =
+        let s : Side t.p t.q t.r u (Some m) v = record {
           a-old = a.p-below;
           b-old = a.q-below;
           c-old = a.r-below;

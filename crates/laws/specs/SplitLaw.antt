@@ -1,15 +1,13 @@
 -- Splitting a lawful mesh, from any starting edges and by any cut that has the laws of a cut, gives a lawful mesh of the same total, if
 -- every split edge has an exact midpoint. What holds of one row's cut is summed over the rows. Assumes nothing.
-use Rattle.std.specs.Prelude.{Bool, true, false, ◌≡◌, refl, ℕ, min, max, ◌+◌, ◌-◌, ◌≤◌, ◌<◌, ltb, ℤ, ◌+ℤ◌, ◌<ℤ◌}
+use Rattle.std.specs.Prelude.{Bool, true, false, ◌≡◌, refl, ℕ, min, max, ◌+◌, ◌-◌, ◌≤◌, ◌<◌, ltb, ℤ, ◌+ℤ◌, ◌<ℤ◌, Option, None, Some}
 use mathlib.Core.List.{List, [], ◌∷◌, ◌++◌, map, Memᴰ}
-use Rattle.std.proofs.Math.Option.{Option, none, some}
 use Rattle.std.proofs.Common.{sym, subst, ap₂, ◌∙◌, ltb-true, ltb-false}
 use Rattle.std.proofs.Math.Path.{subst⁻¹, ap}
 use native.Mathlib.Omega.{arith}
 use Rattle.std.proofs.Math.IntN.{pos, +ℤ_assoc, +ℤ_idl}
 use Rattle.std.proofs.Math.ListN.{length, get_or}
 use Rattle.whole.specs.Ring.{◌:+◌, ring4}
-use Rattle.lists.specs.declared.Found.{Found}
 use Rattle.lists.specs.Lists.{all, any, count, joined, All, nil, cons}
 use Rattle.lists.specs.ListsLaw.{clash, All-head, All-tail, All-imp, All-both, All-append, All-at, All-of, All-map, All-joined, All-get_or, all_yes, any_at, any-row, WhereIs, nowhere, place_of, where-is}
 use Rattle.lists.specs.MembersLaw.{at_mem}
@@ -82,18 +80,18 @@ old-ends {n} named e r =
 pub number-there : (n : ℕ) (s : List Edge) (e : Edge) → there (number_of n s e) ≡ bit (mem_edge e s)
 number-there n s e = go (where-is (same_edge e) s e) (any (same_edge e) s) refl
   where
-    go : {o : Found} → WhereIs (same_edge e) s e o → (b : Bool) → any (same_edge e) s ≡ b → there (plus n o) ≡ bit b
+    go : {o : Option ℕ} → WhereIs (same_edge e) s e o → (b : Bool) → any (same_edge e) s ≡ b → there (plus n o) ≡ bit b
     go (nowhere w) true q = let r = any-row (same_edge e) s q in clash (sym r.2 ∙ All-at w r.1)
     go (nowhere w) false q = refl
     go (place_of i l t) true q = refl
     go (place_of i l t) false q = clash (sym (any_at (same_edge e) t (at_mem s i e l)) ∙ q)
 
-pub number-some : (n : ℕ) (s : List Edge) (e : Edge) → mem_edge e s ≡ true → (k : ℕ) × (number_of n s e ≡ some k)
+pub number-some : (n : ℕ) (s : List Edge) (e : Edge) → mem_edge e s ≡ true → (k : ℕ) × (number_of n s e ≡ Some k)
 number-some n s e h = go (number_of n s e) (number-there n s e ∙ ap bit h)
   where
-    go : (o : Option ℕ) → there o ≡ 1 → (k : ℕ) × (o ≡ some k)
-    go none w = absurd (omega arith)
-    go (some k) w = (k, refl)
+    go : (o : Option ℕ) → there o ≡ 1 → (k : ℕ) × (o ≡ Some k)
+    go None w = absurd (omega arith)
+    go (Some k) w = (k, refl)
 
 -- an edge of a row is split only with the row's refinement edge
 pub split-with-base : (m : Mesh) (start : List Edge) {t : Tri} → Memᴰ t m.tris → there (number_of (length m.nodes) (split_edges m start) (edge t.q t.r)) ≡ 0 →

@@ -2,213 +2,124 @@
 // `frames` answers each; the tables are here.
 #![tactic(auto)]
 
-ghost use Rattle.std.specs.Prelude.{◌≤◌, length};
+ghost use Rattle.std.specs.Prelude.{◌≤◌, length, IfOk};
 
 use reader::Carried;
-use std::io::{Read, Write};
+use std::io::{self, Read, Write};
 
-// What is carried from call to call: the reader's, how many bytes of the piece are taken, and whether to go on.
-#[derive(Clone, Copy)]
+// A reader with its line buffer and its tables, and the buffer that it writes into.
+#[derive(Drop)]
 struct Talk {
     carried: Carried,
-    at: usize,
-    on: bool,
+    line: [u8; 255],
+    nodes: [i32; 2048],
+    rows: [u32; 3072],
+    scratch: [u32; 6144],
+    out: [u8; 32_768],
 }
 
-// Writes the first n bytes of the buffer, if there are any; whether they went out.
-fn say(out: &[u8], n: usize, to: &mut impl Write) -> bool
-    requires { n ≤ length out.now }
-{
-    if n == 0 {
-        return true;
+impl Talk {
+    fn new() -> Talk {
+        Talk {
+            carried: Carried::new(),
+            line: [0; 255],
+            nodes: [0; 2048],
+            rows: [0; 3072],
+            scratch: [0; 6144],
+            out: [0; 32_768],
+        }
     }
-    to.write_all(&out[..n]).is_ok() && to.flush().is_ok()
-}
 
-// One call of the reader, and its answer.
-fn take(
-    piece: &[u8],
-    carried: Carried,
-    line: &mut [u8],
-    nodes: &mut [i32],
-    rows: &mut [u32],
-    scratch: &mut [u32],
-    out: &mut [u8],
-    to: &mut impl Write,
-) -> Talk
-    ensures { result.at ≤ length piece.now }
-{
-    let took = reader::take(piece, carried, line, nodes, rows, scratch, out);
-    let on = say(out, took.written, to);
-    let after = took.carried;
-    Talk {
-        carried: after,
-        at: took.taken,
-        on,
+    // Writes the first n bytes of the buffer, if there are any.
+    fn say(&self, n: usize, to: &mut impl Write) -> io::Result<()>
+        requires { n ≤ 32768 }
+    {
+        if n == 0 {
+            return Ok(());
+        }
+        to.write_all(&self.out[..n])?;
+        to.flush()
+    }
+
+    // The opening line. If it does not go out, the answers are tried all the same.
+    fn open(&mut self, to: &mut impl Write) {
+        let begun = reader::begin(
+            &mut self.line,
+            &mut self.nodes,
+            &mut self.rows,
+            &mut self.scratch,
+            &mut self.out,
+        );
+        self.carried = begun.carried;
+        let _ = self.say(begun.written, to);
+    }
+
+    // One call of the reader, and its answer: how many bytes of the piece were taken.
+    fn take(&mut self, piece: &[u8], to: &mut impl Write) -> io::Result<usize>
+        ensures { IfOk result (λ taken. taken ≤ length piece.now) }
+    {
+        let took = reader::take(
+            piece,
+            self.carried,
+            &mut self.line,
+            &mut self.nodes,
+            &mut self.rows,
+            &mut self.scratch,
+            &mut self.out,
+        );
+        self.carried = took.carried;
+        self.say(took.written, to)?;
+        Ok(took.taken)
+    }
+
+    // A piece, in no more calls than it has bytes. Once an answer does not go out, the rest is passed over.
+    fn take_piece(&mut self, piece: &[u8], to: &mut impl Write) -> io::Result<()>
+        requires { length piece.now ≤ 512 }
+    {
+        let mut at = 0;
+        for _call in 0..piece.len() {
+            if at == piece.len() {
+                break;
+            }
+            at += self.take(&piece[at..], to)?;
+        }
+        Ok(())
+    }
+
+    // All pieces, up to the first that is empty or cannot be read. A proved loop has to end, and nothing says that the input does: the turns
+    // count up to a number that no run reaches.
+    fn hear(&mut self, from: &mut impl Read, to: &mut impl Write) -> io::Result<()> {
+        for _turn in 0..u64::MAX {
+            let mut piece = [0u8; 512];
+            let n = from.read(&mut piece)?;
+            if n == 0 {
+                return Ok(());
+            }
+            self.take_piece(&piece[..n], to)?;
+        }
+        Ok(())
+    }
+
+    // The last lines.
+    fn close(&mut self, to: &mut impl Write) {
+        let ended = reader::end(
+            self.carried,
+            &mut self.line,
+            &self.nodes,
+            &self.rows,
+            &self.scratch,
+            &mut self.out,
+        );
+        let _ = self.say(ended.written, to);
     }
 }
 
-// What is left of a piece.
-fn take_rest(
-    piece: &[u8],
-    talk: Talk,
-    line: &mut [u8],
-    nodes: &mut [i32],
-    rows: &mut [u32],
-    scratch: &mut [u32],
-    out: &mut [u8],
-    to: &mut impl Write,
-) -> Talk
-    requires piece_len_bound { length piece.now ≤ 512 }
-    requires at_in_bounds { talk.at ≤ length piece.now }
-    ensures { result.at ≤ length piece.now }
-{
-    let at = talk.at;
-    let carried = talk.carried;
-    let rest = take(&piece[at..], carried, line, nodes, rows, scratch, out, to);
-    let after = rest.carried;
-    Talk {
-        carried: after,
-        at: at + rest.at,
-        on: rest.on,
-    }
-}
-
-// A piece, in no more calls than it has bytes. Once an answer does not go out, the rest is passed over.
-fn take_piece(
-    piece: &[u8],
-    carried: Carried,
-    line: &mut [u8],
-    nodes: &mut [i32],
-    rows: &mut [u32],
-    scratch: &mut [u32],
-    out: &mut [u8],
-    to: &mut impl Write,
-) -> Talk
-    requires { length piece.now ≤ 512 }
-{
-    let mut talk = Talk {
-        carried,
-        at: 0,
-        on: true,
-    };
-    let mut calls = piece.len();
-    while calls > 0 && talk.at < piece.len() && talk.on {
-        talk = take_rest(piece, talk, line, nodes, rows, scratch, out, to);
-        calls -= 1;
-    }
-    talk
-}
-
-// Reads once, and takes what came.
-fn read_piece(
-    from: &mut impl Read,
-    carried: Carried,
-    line: &mut [u8],
-    nodes: &mut [i32],
-    rows: &mut [u32],
-    scratch: &mut [u32],
-    out: &mut [u8],
-    to: &mut impl Write,
-) -> Talk {
-    let mut piece = [0u8; 512];
-    let n = from.read(&mut piece).unwrap_or(0);
-    if n == 0 {
-        return Talk {
-            carried,
-            at: 0,
-            on: false,
-        };
-    }
-    take_piece(&piece[..n], carried, line, nodes, rows, scratch, out, to)
-}
-
-// A proved loop has to end, and nothing says that the input does: the turns count down from a number that no run uses up.
-fn talk_on(
-    from: &mut impl Read,
-    carried: Carried,
-    line: &mut [u8],
-    nodes: &mut [i32],
-    rows: &mut [u32],
-    scratch: &mut [u32],
-    out: &mut [u8],
-    to: &mut impl Write,
-) -> Carried {
-    let mut talk = Talk {
-        carried,
-        at: 0,
-        on: true,
-    };
-    let mut turns = u64::MAX;
-    while turns > 0 && talk.on {
-        let before = talk.carried;
-        talk = read_piece(from, before, line, nodes, rows, scratch, out, to);
-        turns -= 1;
-    }
-    let after = talk.carried;
-    after
-}
-
-fn open(
-    line: &mut [u8],
-    nodes: &mut [i32],
-    rows: &mut [u32],
-    scratch: &mut [u32],
-    out: &mut [u8],
-    to: &mut impl Write,
-) -> Carried {
-    let begun = reader::begin(line, nodes, rows, scratch, out);
-    say(out, begun.written, to);
-    let carried = begun.carried;
-    carried
-}
-
-fn close(
-    carried: Carried,
-    line: &mut [u8],
-    nodes: &[i32],
-    rows: &[u32],
-    scratch: &[u32],
-    out: &mut [u8],
-    to: &mut impl Write,
-) {
-    let ended = reader::end(carried, line, nodes, rows, scratch, out);
-    say(out, ended.written, to);
-}
-
+// What does not go out, or cannot be read, ends the talk, and the last lines are tried all the same.
 fn main(rt: HostRuntime) {
     let mut input = rt.stdin();
     let mut output = rt.stdout();
-    let mut nodes = [0i32; 2048];
-    let mut rows = [0u32; 3072];
-    let mut scratch = [0u32; 6144];
-    let mut line = [0u8; 255];
-    let mut out = [0u8; 32_768];
-    let begun = open(
-        &mut line,
-        &mut nodes,
-        &mut rows,
-        &mut scratch,
-        &mut out,
-        &mut output,
-    );
-    let talked = talk_on(
-        &mut input,
-        begun,
-        &mut line,
-        &mut nodes,
-        &mut rows,
-        &mut scratch,
-        &mut out,
-        &mut output,
-    );
-    close(
-        talked,
-        &mut line,
-        &nodes,
-        &rows,
-        &scratch,
-        &mut out,
-        &mut output,
-    );
+    let mut talk = Talk::new();
+    talk.open(&mut output);
+    let _ = talk.hear(&mut input, &mut output);
+    talk.close(&mut output);
 }

@@ -1,9 +1,7 @@
 -- Whether any member passes: of joined lists, of the members that pass another test, of each member once. Assumes nothing.
-use Rattle.std.specs.Prelude.{◌≡◌, refl, Bool, true, false, not, ◌&&◌, ◌||◌, List, [], ◌∷◌, ◌++◌}
+use Rattle.std.specs.Prelude.{ℕ, ◌≡◌, refl, Bool, true, false, not, ◌&&◌, ◌||◌, List, [], ◌∷◌, ◌++◌, Option, Some, None, is_some}
 use Rattle.std.proofs.Common.{sym, ap, ◌∙◌}
-use Rattle.lists.specs.declared.Found.{Found}
-use Rattle.lists.specs.declared.Found.TheVariants.{At, Nothing}
-use Rattle.lists.specs.Lists.{all, any, only, cons_if, once, joined, is_found, where_first, next}
+use Rattle.lists.specs.Lists.{all, any, only, cons_if, once, joined, where_first, next}
 
 or_assoc : (a b c : Bool) → (a || b) || c ≡ a || (b || c)
 or_assoc true b c = refl
@@ -52,14 +50,14 @@ module _ {A : Type 0} where
         go true e ih = refl
         go false e ih = skipped x (once same xs) e ∙ ih
 
-  pub any_where : (f : A → Bool) (l : List A) → any f l ≡ is_found (where_first f l)
+  pub any_where : (f : A → Bool) (l : List A) → any f l ≡ is_some (where_first f l)
   any_where f [] = refl
   any_where f (x ∷ xs) = go (f x) (where_first f xs) (any_where f xs)
     where
-      go : (b : Bool) (o : Found) → any f xs ≡ is_found o → b || any f xs ≡ is_found (next b o)
+      go : (b : Bool) (o : Option ℕ) → any f xs ≡ is_some o → b || any f xs ≡ is_some (next b o)
       go true o e = refl
-      go false (At k) e = e
-      go false Nothing e = e
+      go false (Some k) e = e
+      go false None e = e
 
 module _ {A B : Type 0} where
   pub any-joined : (f : B → Bool) (k : A → List B) (l : List A) → any f (joined k l) ≡ any (λ x. any f (k x)) l

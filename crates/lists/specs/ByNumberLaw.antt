@@ -1,6 +1,6 @@
 -- Lists by number: members of `items`, parts of `items`, a search of a list, searches up to a lower end; what a counting loop has reached.
 -- Assumes nothing.
-use Rattle.std.specs.Prelude.{Bool, true, false, ◌≡◌, refl, length, get_or}
+use Rattle.std.specs.Prelude.{Bool, true, false, ◌≡◌, refl, length, get_or, Option, Some, None}
 use mathlib.Core.List.{List, ◌∷◌, ◌++◌, Memᴰ}
 use Rattle.std.proofs.Common.{sym, ap, ◌∙◌}
 use Rattle.std.proofs.Math.Path.{subst}
@@ -8,8 +8,6 @@ use Prim.Native.Nat.{ℕ, zero, suc, ◌+◌, ◌-◌, ◌≤◌, ◌<◌}
 use native.Mathlib.Omega.{arith}
 use Rattle.std.proofs.Math.Decide.{dec_lt}
 use Rattle.std.proofs.Math.Seq.{take_all}
-use Rattle.lists.specs.declared.Found.{Found}
-use Rattle.lists.specs.declared.Found.TheVariants.{At, Nothing}
 use Rattle.lists.specs.Lists.{All, where_first}
 use Rattle.lists.specs.ListsLaw.{clash, All-of}
 use Rattle.lists.specs.MembersLaw.{mem-at, at_mem}
@@ -56,32 +54,32 @@ module _ {A : Type 0} (f : A → Bool) (l : List A) (d : A) where
 -- ---- the same search, up to a lower end
 
 module _ (f : ℕ → Bool) where
-  lowest-at : (t j : ℕ) → j < t → f j ≡ true → ((k : ℕ) → k < j → f k ≡ false) → lowest f 0 t ≡ At j
+  pub lowest-at : (t j : ℕ) → j < t → f j ≡ true → ((k : ℕ) → k < j → f k ≡ false) → lowest f 0 t ≡ Some j
   lowest-at t j h e n = go (lowest f 0 t) refl
     where
-      go : (r : Found) → lowest f 0 t ≡ r → r ≡ At j
-      go Nothing q = clash (sym e ∙ lowest-nothing f t j q h)
-      go (At i) q = by (dec_lt i j) (dec_lt j i)
+      go : (r : Option ℕ) → lowest f 0 t ≡ r → r ≡ Some j
+      go None q = clash (sym e ∙ lowest-nothing f t j q h)
+      go (Some i) q = by (dec_lt i j) (dec_lt j i)
         where
-          by : Dec (i < j) → Dec (j < i) → At i ≡ At j
+          by : Dec (i < j) → Dec (j < i) → Some i ≡ Some j
           by (yes a) b = clash (sym (lowest-true f t i q) ∙ n i a)
           by (no a) (yes b) = clash (sym e ∙ lowest-lower f t i j q b)
-          by (no a) (no b) = let z : i ≡ j = omega arith in ap At z
+          by (no a) (no b) = let z : i ≡ j = omega arith in ap Some z
 
-  pub lowest-no : (t : ℕ) → ((k : ℕ) → k < t → f k ≡ false) → lowest f 0 t ≡ Nothing
+  pub lowest-no : (t : ℕ) → ((k : ℕ) → k < t → f k ≡ false) → lowest f 0 t ≡ None
   lowest-no t n = go (lowest f 0 t) refl
     where
-      go : (r : Found) → lowest f 0 t ≡ r → r ≡ Nothing
-      go Nothing q = refl
-      go (At i) q = clash (sym (lowest-true f t i q) ∙ n i (lowest-below f t i q))
+      go : (r : Option ℕ) → lowest f 0 t ≡ r → r ≡ None
+      go None q = refl
+      go (Some i) q = clash (sym (lowest-true f t i q) ∙ n i (lowest-below f t i q))
 
-  pub lowest-cut : (t i j : ℕ) → lowest f 0 t ≡ At j → j < i → lowest f 0 i ≡ At j
+  pub lowest-cut : (t i j : ℕ) → lowest f 0 t ≡ Some j → j < i → lowest f 0 i ≡ Some j
   lowest-cut t i j e h = lowest-at i j h (lowest-true f t j e) (λ k b. lowest-lower f t j k e b)
 
-  pub lowest-past : (t i j : ℕ) → lowest f 0 t ≡ At j → i ≤ j → lowest f 0 i ≡ Nothing
+  pub lowest-past : (t i j : ℕ) → lowest f 0 t ≡ Some j → i ≤ j → lowest f 0 i ≡ None
   lowest-past t i j e h = lowest-no i (λ k b. lowest-lower f t j k e (omega arith))
 
-  pub lowest-none-below : (t i : ℕ) → lowest f 0 t ≡ Nothing → i ≤ t → lowest f 0 i ≡ Nothing
+  pub lowest-none-below : (t i : ℕ) → lowest f 0 t ≡ None → i ≤ t → lowest f 0 i ≡ None
   lowest-none-below t i e h = lowest-no i (λ k b. lowest-nothing f t k e (omega arith))
 
 -- ---- a loop that has reached i

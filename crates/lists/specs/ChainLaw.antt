@@ -1,13 +1,11 @@
 -- Chains in a list of numbers: for each key a head, for each item the next with the same key; numbers are one too large, and 0 ends a
 -- chain. Items are linked from the last to the first, so that a chain is in order. Assumes nothing.
-use Rattle.std.specs.Prelude.{◌≡◌, refl, ◌≢◌, Bool, true, false, List, [], ◌∷◌, ℕ, zero, suc, ◌+◌, ◌-◌, ◌≤◌, ◌<◌, length, set, drop}
+use Rattle.std.specs.Prelude.{◌≡◌, refl, ◌≢◌, Bool, true, false, List, [], ◌∷◌, ℕ, zero, suc, ◌+◌, ◌-◌, ◌≤◌, ◌<◌, length, set, drop, Option, Some, None}
 use Rattle.std.proofs.Common.{sym, ap₂, ◌∙◌, arith, eq-eqb, ne_eqb, length-set, get_or-set_same, get_or-set_other, drop-set-lt}
 use Rattle.std.proofs.Math.Path.{ap}
 use Rattle.std.proofs.Math.Decide.{ℕ_discrete}
 use Rattle.std.proofs.Math.Dec.{eqb}
 use Rattle.std.proofs.Math.ListN.{get_or}
-use Rattle.lists.specs.declared.Found.{Found}
-use Rattle.lists.specs.declared.Found.TheVariants.{At, Nothing}
 use Rattle.lists.specs.Lists.{cases, only, cons_if}
 use Rattle.lists.specs.ListsLaw.{clash}
 use Rattle.lists.specs.PartsLaw.{not_so}
@@ -18,26 +16,26 @@ use Rattle.lists.specs.Loops.{code}
 
 -- ---- searches from i on
 
-pub from-yes : (f : ℕ → Bool) (i t : ℕ) → i < t → f i ≡ true → lowest f i t ≡ At i
+pub from-yes : (f : ℕ → Bool) (i t : ℕ) → i < t → f i ≡ true → lowest f i t ≡ Some i
 from-yes f i t h e = sym (lowest-here f i t (lowest f i t) true h (sym e) refl refl)
 
 from-no : (f : ℕ → Bool) (i t : ℕ) → i < t → f i ≡ false → lowest f i t ≡ lowest f (i + 1) t
 from-no f i t h e = sym (lowest-on f i t (lowest f i t) false h (sym e) refl refl)
 
-none_from : (f : ℕ → Bool) (i t : ℕ) → t ≤ i → lowest f i t ≡ Nothing
+none_from : (f : ℕ → Bool) (i t : ℕ) → t ≤ i → lowest f i t ≡ None
 none_from f i t h = sym (lowest-none f i t (lowest f i t) h refl)
 
 -- what a search from i on tells
-pub data From (f : ℕ → Bool) (i t : ℕ) : Found → Type 0 where
-  nowhere : ((j : ℕ) → i ≤ j → j < t → f j ≡ false) → From f i t Nothing
-  there : (j : ℕ) → i ≤ j → j < t → f j ≡ true → ((k : ℕ) → i ≤ k → k < j → f k ≡ false) → From f i t (At j)
+pub data From (f : ℕ → Bool) (i t : ℕ) : Option ℕ → Type 0 where
+  nowhere : ((j : ℕ) → i ≤ j → j < t → f j ≡ false) → From f i t None
+  there : (j : ℕ) → i ≤ j → j < t → f j ≡ true → ((k : ℕ) → i ≤ k → k < j → f k ≡ false) → From f i t (Some j)
 
 from_is : (f : ℕ → Bool) (i k t : ℕ) → t ≡ i + k → From f i t (lowest_from f i k)
 unfolding lowest_from
 from_is f i zero t e = nowhere (λ j a b. absurd (omega arith))
 from_is f i (suc k) t e = step (f i) refl (from_is f (i + 1) k t (omega arith))
   where
-    step : (b : Bool) → f i ≡ b → {r : Found} → From f (i + 1) t r → From f i t (cases b (At i) r)
+    step : (b : Bool) → f i ≡ b → {r : Option ℕ} → From f (i + 1) t r → From f i t (cases b (Some i) r)
     step true q r = there i (omega arith) (omega arith) q (λ k a b. absurd (omega arith))
     step false q (nowhere n) = nowhere (λ j a b. here j a b (ℕ_discrete j i))
       where
@@ -75,19 +73,19 @@ module _ {A : Type 0} (f : A → Bool) (a : ℕ → A) where
           ∙ ap (λ b. cons_if b (a i) (only f (items a (i + 1) t))) (h i (omega arith) (omega arith))
           ∙ go d (i + 1) (omega arith) (omega arith) (λ k l u. h k (omega arith) u)
 
-  pub only-there : (t i j : ℕ) → i ≤ t → lowest (λ k. f (a k)) i t ≡ At j → only f (items a i t) ≡ a j ∷ only f (items a (j + 1) t)
+  pub only-there : (t i j : ℕ) → i ≤ t → lowest (λ k. f (a k)) i t ≡ Some j → only f (items a i t) ≡ a j ∷ only f (items a (j + 1) t)
   only-there t i j x e = go (search_is (λ k. f (a k)) i t x) e
     where
-      go : {r : Found} → From (λ k. f (a k)) i t r → r ≡ At j → only f (items a i t) ≡ a j ∷ only f (items a (j + 1) t)
+      go : {r : Option ℕ} → From (λ k. f (a k)) i t r → r ≡ Some j → only f (items a i t) ≡ a j ∷ only f (items a (j + 1) t)
       go (nowhere n) e = at_some j (sym e)
       go (there k l u y n) e =
           let q : k ≡ j = cc in
           rw (← q) (only-skip t i k l (omega arith) n ∙ ap (only f) (items-cons a k t u) ∙ ap (λ b. cons_if b (a k) (only f (items a (k + 1) t))) y)
 
-  pub only-nowhere : (t i : ℕ) → i ≤ t → lowest (λ k. f (a k)) i t ≡ Nothing → only f (items a i t) ≡ []
+  pub only-nowhere : (t i : ℕ) → i ≤ t → lowest (λ k. f (a k)) i t ≡ None → only f (items a i t) ≡ []
   only-nowhere t i x e = go (search_is (λ k. f (a k)) i t x) e
     where
-      go : {r : Found} → From (λ k. f (a k)) i t r → r ≡ Nothing → only f (items a i t) ≡ []
+      go : {r : Option ℕ} → From (λ k. f (a k)) i t r → r ≡ None → only f (items a i t) ≡ []
       go (nowhere n) e = only-skip t i t x (omega arith) n ∙ ap (only f) (items-none a t t (omega arith))
       go (there k l u y n) e = at_some k e
 
@@ -201,7 +199,7 @@ module _ (key key' : ℕ → ℕ) (top h x t : ℕ) (s s' : List ℕ) (e : (j : 
 -- ---- a walk along a chain: f is looked for, and passes only where g does; k is the number of the item the walk stands at
 
 pub data On (f g : ℕ → Bool) (t : ℕ) : ℕ → Type 0 where
-  over : lowest f 0 t ≡ Nothing → On f g t 0
+  over : lowest f 0 t ≡ None → On f g t 0
   at : (j : ℕ) → j < t → g j ≡ true → lowest f 0 t ≡ lowest f j t → On f g t (j + 1)
 
 module _ (f g : ℕ → Bool) (t : ℕ) (fg : (j : ℕ) → f j ≡ true → g j ≡ true) where
@@ -211,7 +209,7 @@ module _ (f g : ℕ → Bool) (t : ℕ) (fg : (j : ℕ) → f j ≡ true → g j
   on-from : (i : ℕ) → i ≤ t → lowest f 0 t ≡ lowest f i t → On f g t (code (lowest g i t))
   on-from i h e = go (search_is g i t h)
     where
-      go : {r : Found} → From g i t r → On f g t (code r)
+      go : {r : Option ℕ} → From g i t r → On f g t (code r)
       go (nowhere n) = over (e ∙ from-later f t i t h (omega arith) (λ k a b. no-f k (n k a b)) ∙ none_from f t t (omega arith))
       go (there j a b y n) = at j b y (e ∙ from-later f t i j a (omega arith) (λ k c d. no-f k (n k c d)))
 
@@ -229,6 +227,6 @@ ahead t (suc j) = t - j
 pub ahead-less : (g : ℕ → Bool) (t j : ℕ) → j < t → ahead t (code (lowest g (j + 1) t)) < t - j
 ahead-less g t j h = go (search_is g (j + 1) t (omega arith))
   where
-    go : {r : Found} → From g (j + 1) t r → ahead t (code r) < t - j
+    go : {r : Option ℕ} → From g (j + 1) t r → ahead t (code r) < t - j
     go (nowhere n) = omega arith
     go (there k a b y n) = let e : k + 1 ≡ suc k = omega arith in rw e (omega arith)

@@ -11,6 +11,7 @@ pub mod FillLaw
 pub mod AllLaw
 pub mod ItemsLaw
 pub mod ByNumberLaw
+pub mod RangeLaw
 pub mod PartsLaw
 pub mod AnyLaw
 pub mod Loops

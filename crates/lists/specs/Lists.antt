@@ -1,33 +1,30 @@
 -- Functions on lists: tests of all members, the members that pass, where the first of them stands. Nothing here knows of meshes.
 -- Assumes nothing.
-use Rattle.std.specs.Prelude.{Bool, true, false, not, ◌&&◌, ◌||◌, List, [], ◌∷◌, ◌++◌, ℕ, zero, suc}
-use Rattle.std.proofs.Math.Option.{Option, none, some}
-use Rattle.lists.specs.declared.Found.{Found}
-use Rattle.lists.specs.declared.Found.TheVariants.{At, Nothing}
+use Rattle.std.specs.Prelude.{Bool, true, false, not, ◌&&◌, ◌||◌, List, [], ◌∷◌, ◌++◌, ℕ, zero, suc, Option, Some, None}
 
 -- the first if the test says yes, else the second
 abbrev pub cases : {A : Type 0} → Bool → A → A → A
 cases true a b = a
 cases false a b = b
 
-abbrev pub is_found : Found → Bool
-is_found (At i) = true
-is_found Nothing = false
+abbrev pub is_some : Option ℕ → Bool
+is_some (Some i) = true
+is_some None = false
 
 -- what is said of what was found, or else
-abbrev pub on_found : {A : Type 0} → Found → (ℕ → A) → A → A
-on_found (At i) f a = f i
-on_found Nothing f a = a
+abbrev pub on_found : {A : Type 0} → Option ℕ → (ℕ → A) → A → A
+on_found (Some i) f a = f i
+on_found None f a = a
 
 abbrev pub suc_if : Bool → ℕ → ℕ
 suc_if true k = suc k
 suc_if false k = k
 
 -- the place in a list that begins one member earlier, of which a test said b
-abbrev pub next : Bool → Found → Found
-next true o = At zero
-next false Nothing = Nothing
-next false (At k) = At (suc k)
+abbrev pub next : Bool → Option ℕ → Option ℕ
+next true o = Some zero
+next false None = None
+next false (Some k) = Some (suc k)
 
 -- 0, 1, .. below n
 abbrev pub up_to : ℕ → List ℕ
@@ -68,17 +65,17 @@ module _ {A : Type 0} where
   count f (x ∷ xs) = suc_if (f x) (count f xs)
 
   abbrev pub first_or : Bool → A → Option A → Option A
-  first_or true x o = some x
+  first_or true x o = Some x
   first_or false x o = o
 
   -- the first member that passes
   abbrev pub first : (A → Bool) → List A → Option A
-  first f [] = none
+  first f [] = None
   first f (x ∷ xs) = first_or (f x) x (first f xs)
 
   -- the place of the first member that passes, counted from 0
-  abbrev pub where_first : (A → Bool) → List A → Found
-  where_first f [] = Nothing
+  abbrev pub where_first : (A → Bool) → List A → Option ℕ
+  where_first f [] = None
   where_first f (x ∷ xs) = next (f x) (where_first f xs)
 
 module _ {A B : Type 0} where

@@ -1,11 +1,8 @@
 -- Laws of lists. A test's outcome is an equation, `f x ≡ true`, so that `rw` can use it. Assumes nothing.
-use Rattle.std.specs.Prelude.{Bool, true, false, ◌&&◌, ◌||◌, ◌≡◌, refl, ℕ, zero, suc, ◌+◌, ◌≤◌, ◌<◌, length, get_or}
+use Rattle.std.specs.Prelude.{Bool, true, false, ◌&&◌, ◌||◌, ◌≡◌, refl, ℕ, zero, suc, ◌+◌, ◌≤◌, ◌<◌, length, get_or, Option, Some, None}
 use Rattle.std.proofs.Common.{true≢false, sym, ap, ◌∙◌, arith}
 use mathlib.Core.List.{List, [], ◌∷◌, ◌++◌, map, Memᴰ}
-use Rattle.std.proofs.Math.Option.{Option, none, some}
 use Rattle.std.proofs.Math.Path.{subst⁻¹}
-use Rattle.lists.specs.declared.Found.{Found}
-use Rattle.lists.specs.declared.Found.TheVariants.{At, Nothing}
 use Rattle.lists.specs.Lists.{all, any, count, suc_if, first, first_or, where_first, next, joined, All, nil, cons}
 
 -- ---- tests
@@ -109,8 +106,8 @@ module _ {A : Type 0} where
   -- ---- the first row that passes
 
   pub data FirstIs (f : A → Bool) (l : List A) : Option A → Type 0 where
-    no_row : All (λ x. f x ≡ false) l → FirstIs f l none
-    row : {x : A} → Memᴰ x l → f x ≡ true → FirstIs f l (some x)
+    no_row : All (λ x. f x ≡ false) l → FirstIs f l None
+    row : {x : A} → Memᴰ x l → f x ≡ true → FirstIs f l (Some x)
 
   first_step : (f : A → Bool) (x : A) (xs : List A) (b : Bool) → f x ≡ b → {o : Option A} → FirstIs f xs o → FirstIs f (x ∷ xs) (first_or b x o)
   first_step f x xs true e r = row (Memᴰ.head refl) e
@@ -123,11 +120,11 @@ module _ {A : Type 0} where
 
   -- ---- the place of the first row that passes
 
-  pub data WhereIs (f : A → Bool) (l : List A) (d : A) : Found → Type 0 where
-    nowhere : All (λ x. f x ≡ false) l → WhereIs f l d Nothing
-    place_of : (i : ℕ) → i < length l → f (get_or l i d) ≡ true → WhereIs f l d (At i)
+  pub data WhereIs (f : A → Bool) (l : List A) (d : A) : Option ℕ → Type 0 where
+    nowhere : All (λ x. f x ≡ false) l → WhereIs f l d None
+    place_of : (i : ℕ) → i < length l → f (get_or l i d) ≡ true → WhereIs f l d (Some i)
 
-  where-step : (f : A → Bool) (x : A) (xs : List A) (d : A) (b : Bool) → f x ≡ b → {o : Found} → WhereIs f xs d o → WhereIs f (x ∷ xs) d (next b o)
+  where-step : (f : A → Bool) (x : A) (xs : List A) (d : A) (b : Bool) → f x ≡ b → {o : Option ℕ} → WhereIs f xs d o → WhereIs f (x ∷ xs) d (next b o)
   where-step f x xs d true e r = place_of 0 (omega arith) e
   where-step f x xs d false e (nowhere h) = nowhere (cons e h)
   where-step f x xs d false e (place_of i h t) = place_of (suc i) (omega arith) t
@@ -136,14 +133,14 @@ module _ {A : Type 0} where
   where-is f [] d = nowhere nil
   where-is f (x ∷ xs) d = where-step f x xs d (f x) refl (where-is f xs d)
 
-  pub where-none : (f : A → Bool) (l : List A) → where_first f l ≡ Nothing → All (λ x. f x ≡ false) l
+  pub where-none : (f : A → Bool) (l : List A) → where_first f l ≡ None → All (λ x. f x ≡ false) l
   where-none f [] e = nil
   where-none f (x ∷ xs) e = go (f x) refl (where_first f xs) e (where-none f xs)
     where
-      go : (b : Bool) → f x ≡ b → (o : Found) → next b o ≡ Nothing → (o ≡ Nothing → All (λ y. f y ≡ false) xs) → All (λ y. f y ≡ false) (x ∷ xs)
+      go : (b : Bool) → f x ≡ b → (o : Option ℕ) → next b o ≡ None → (o ≡ None → All (λ y. f y ≡ false) xs) → All (λ y. f y ≡ false) (x ∷ xs)
       go true q o e below = let z : ◌≡◌ {A = ℕ} 0 1 = cc in absurd (omega arith)
-      go false q Nothing e below = cons q (below refl)
-      go false q (At k) e below = let z : ◌≡◌ {A = ℕ} 0 1 = cc in absurd (omega arith)
+      go false q None e below = cons q (below refl)
+      go false q (Some k) e below = let z : ◌≡◌ {A = ℕ} 0 1 = cc in absurd (omega arith)
 
   pub All-get_or : {P : A → Type 0} {l : List A} → All P l → (i : ℕ) (d : A) → i < length l → P (get_or l i d)
   All-get_or nil i d h = absurd (omega arith)

@@ -1,8 +1,6 @@
 -- What loops leave: notes put one after the other, a count downwards, a table that closes up; and a search's answer as one number.
 -- Assumes nothing.
-use Rattle.std.specs.Prelude.{Bool, List, [], ◌∷◌, ℕ, zero, suc, ◌+◌, ◌-◌, set}
-use Rattle.lists.specs.declared.Found.{Found}
-use Rattle.lists.specs.declared.Found.TheVariants.{At, Nothing}
+use Rattle.std.specs.Prelude.{Bool, List, [], ◌∷◌, ℕ, zero, suc, ◌+◌, ◌-◌, set, Option, Some, None}
 use Rattle.lists.specs.Lists.{cases}
 
 -- a loop that counts down: step (t - 1), .., step 0
@@ -24,6 +22,6 @@ unfoldable pub remaining : {R : Type 0} → (ℕ → Bool) → (ℕ → R) → �
 remaining f a i t = remaining_from f a i (t - i)
 
 -- where a search ended, as one number: 0 nowhere
-abbrev pub code : Found → ℕ
-code Nothing = 0
-code (At i) = i + 1
+abbrev pub code : Option ℕ → ℕ
+code None = 0
+code (Some i) = i + 1

@@ -1,8 +1,8 @@
 -- Members of lists that are filtered, thinned out, joined or counted up; members by number. Assumes nothing.
-use Rattle.std.specs.Prelude.{Bool, true, false, not, ◌||◌, ◌≢◌, ◌≡◌, refl, ℕ, zero, suc, ◌+◌, ◌≤◌, ◌<◌, eqb, length, get_or}
+use Rattle.std.proofs.lemmas.Option.{none-some}
+use Rattle.std.specs.Prelude.{Bool, true, false, not, ◌||◌, ◌≢◌, ◌≡◌, refl, ℕ, zero, suc, ◌+◌, ◌≤◌, ◌<◌, eqb, length, get_or, Option, None, Some}
 use mathlib.Core.List.Memᴰ
 use mathlib.Core.List.{List, [], ◌∷◌, ◌++◌, Memᴰ}
-use Rattle.std.proofs.Math.Option.{Option, none, some, none-ne-some, some-injective}
 use Rattle.std.proofs.Common.{sym, subst, ap, ap₂, ◌∙◌, arith, eqb-true}
 use Rattle.std.proofs.lemmas.Bool.{eqb-false}
 use Rattle.lists.specs.Lists.{any, only, once, cons_if, suc_if, count, first, first_or, joined, up_to, All, nil, cons}
@@ -47,8 +47,8 @@ module _ {A : Type 0} where
   -- ---- the first that passes is the first of those that pass
 
   abbrev pub head_of : List A → Option A
-  head_of [] = none
-  head_of (x ∷ xs) = some x
+  head_of [] = None
+  head_of (x ∷ xs) = Some x
 
   pub first_head : (f : A → Bool) (l : List A) → first f l ≡ head_of (only f l)
   first_head f [] = refl
@@ -62,16 +62,16 @@ module _ {A : Type 0} where
   first_cong f g nil = refl
   first_cong f g (cons {x = x} {xs = xs} e h) = ap₂ (λ b o. first_or b x o) e (first_cong f g h)
 
-  pub head-is : (l : List A) {x : A} → head_of l ≡ some x → (xs : List A) × (l ≡ x ∷ xs)
-  head-is [] {x} e = absurd (none-ne-some x e)
-  head-is (y ∷ ys) {x} e = (ys, ap (λ w. w ∷ ys) (some-injective y x e))
+  pub head-is : (l : List A) {x : A} → head_of l ≡ Some x → (xs : List A) × (l ≡ x ∷ xs)
+  head-is [] {x} e = absurd (none-some x e)
+  head-is (y ∷ ys) {x} e = (ys, ap (λ w. w ∷ ys) (let w : y ≡ x = cc in w))
 
-  pub first_found : (f : A → Bool) (l : List A) {x : A} → first f l ≡ some x → Memᴰ x l × (f x ≡ true)
+  pub first_found : (f : A → Bool) (l : List A) {x : A} → first f l ≡ Some x → Memᴰ x l × (f x ≡ true)
   first_found f l {x} e = go (first-is f l) e
     where
-      go : {o : Option A} → FirstIs f l o → o ≡ some x → Memᴰ x l × (f x ≡ true)
-      go (no_row h) e = absurd (none-ne-some x e)
-      go (row {x = y} i t) e = let w = some-injective y x e in (subst (λ v. Memᴰ v l) w i, subst (λ v. f v ≡ true) w t)
+      go : {o : Option A} → FirstIs f l o → o ≡ Some x → Memᴰ x l × (f x ≡ true)
+      go (no_row h) e = absurd (none-some x e)
+      go (row {x = y} i t) e = let w : y ≡ x = cc in (subst (λ v. Memᴰ v l) w i, subst (λ v. f v ≡ true) w t)
 
   pub once-keeps : {P : A → Type 0} (same : A → A → Bool) {l : List A} → All P l → All P (once same l)
   once-keeps same nil = nil

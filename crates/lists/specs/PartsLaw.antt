@@ -1,8 +1,7 @@
 -- Lists in two parts: filtered, searched, joined; members of lists that are filtered or joined. Assumes nothing.
-use Rattle.std.specs.Prelude.{Bool, true, false, ◌≡◌, refl, length}
+use Rattle.std.specs.Prelude.{Bool, true, false, ◌≡◌, refl, length, Some, None}
 use mathlib.Core.List.{List, [], ◌∷◌, ◌++◌, Memᴰ}
 use Rattle.std.proofs.Common.{sym, subst, ap, ◌∙◌}
-use Rattle.lists.specs.declared.Found.TheVariants.{At, Nothing}
 use Rattle.lists.specs.Lists.{any, only, cons_if, where_first, joined}
 use Rattle.lists.specs.ListsLaw.{or_no}
 
@@ -29,13 +28,13 @@ module _ {A : Type 0} (f : A → Bool) where
       go false q j below = let r = below j in (Memᴰ.tail r.0, r.1)
 
   -- the place of the first that passes, where those before do not
-  pub where-here : (xs : List A) (y : A) (ys : List A) → any f xs ≡ false → f y ≡ true → where_first f (xs ++ (y ∷ ys)) ≡ At (length xs)
+  pub where-here : (xs : List A) (y : A) (ys : List A) → any f xs ≡ false → f y ≡ true → where_first f (xs ++ (y ∷ ys)) ≡ Some (length xs)
   where-here [] y ys n t = rw t
   where-here (x ∷ xs) y ys n t =
       let h = or_no (f x) (any f xs) n in
       rw (h.0, where-here xs y ys h.1 t)
 
-  pub where-nowhere : (xs : List A) → any f xs ≡ false → where_first f xs ≡ Nothing
+  pub where-nowhere : (xs : List A) → any f xs ≡ false → where_first f xs ≡ None
   where-nowhere [] n = refl
   where-nowhere (x ∷ xs) n = let h = or_no (f x) (any f xs) n in rw (h.0, where-nowhere xs h.1)
 

@@ -1,15 +1,13 @@
 -- Searches and lists by number: from i up to, not including, t. Assumes nothing.
-use Rattle.std.specs.Prelude.{Bool, List, [], ◌∷◌, ℕ, zero, suc, ◌+◌, ◌-◌}
-use Rattle.lists.specs.declared.Found.{Found}
-use Rattle.lists.specs.declared.Found.TheVariants.{At, Nothing}
+use Rattle.std.specs.Prelude.{Bool, List, [], ◌∷◌, ℕ, zero, suc, ◌+◌, ◌-◌, Option, Some, None}
 use Rattle.lists.specs.Lists.{cases}
 
-unfoldable pub lowest_from : (ℕ → Bool) → ℕ → ℕ → Found
-lowest_from f i zero = Nothing
-lowest_from f i (suc k) = cases (f i) (At i) (lowest_from f (i + 1) k)
+unfoldable pub lowest_from : (ℕ → Bool) → ℕ → ℕ → Option ℕ
+lowest_from f i zero = None
+lowest_from f i (suc k) = cases (f i) (Some i) (lowest_from f (i + 1) k)
 
 -- the lowest number of which a test says yes
-unfoldable pub lowest : (ℕ → Bool) → ℕ → ℕ → Found
+unfoldable pub lowest : (ℕ → Bool) → ℕ → ℕ → Option ℕ
 lowest f i t = lowest_from f i (t - i)
 
 unfoldable pub items_from : {R : Type 0} → (ℕ → R) → ℕ → ℕ → List R

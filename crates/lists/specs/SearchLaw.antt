@@ -1,15 +1,13 @@
 -- Laws of `lowest`: the turns of a search loop in the form of its needs, what an answer says, and that a search by number is a search
 -- of the list. Assumes nothing.
-use Rattle.std.specs.Prelude.{◌≡◌, ◌≢◌, Bool, ◌||◌}
+use Rattle.std.specs.Prelude.{◌≡◌, ◌≢◌, Bool, ◌||◌, Option, Some, None, is_some}
 use Rattle.std.proofs.Math.Path.{refl}
 use Rattle.std.proofs.Common.{sym, ap, ◌∙◌}
 use Rattle.std.proofs.Math.Bool.{true, false}
 use Prim.Native.Nat.{ℕ, zero, suc, ◌+◌, ◌-◌, ◌≤◌, ◌<◌}
 use native.Mathlib.Omega.{arith}
 use Rattle.std.proofs.Math.Decide.{ℕ_discrete}
-use Rattle.lists.specs.declared.Found.{Found}
-use Rattle.lists.specs.declared.Found.TheVariants.{At, Nothing}
-use Rattle.lists.specs.Lists.{cases, is_found, any, next, where_first}
+use Rattle.lists.specs.Lists.{cases, any, next, where_first}
 use Rattle.lists.specs.ListsLaw.{clash}
 use Rattle.lists.specs.Search.{lowest, lowest_from, items, items_from}
 
@@ -22,20 +20,20 @@ or-three false false false = refl
 
 -- ---- the turns: w is the whole answer, b what the test said of i
 
-lowest-cons : (f : ℕ → Bool) (i t : ℕ) → i < t → lowest f i t ≡ cases (f i) (At i) (lowest f (i + 1) t)
+lowest-cons : (f : ℕ → Bool) (i t : ℕ) → i < t → lowest f i t ≡ cases (f i) (Some i) (lowest f (i + 1) t)
 unfolding lowest lowest_from
 lowest-cons f i t h =
     let e : t - i ≡ suc (t - (i + 1)) = omega arith in
     rw e
 
-module _ (f : ℕ → Bool) (i t : ℕ) (w : Found) (b : Bool) where
-  pub lowest-here : i < t → b ≡ f i → b ≡ true → lowest f i t ≡ w → At i ≡ w
+module _ (f : ℕ → Bool) (i t : ℕ) (w : Option ℕ) (b : Bool) where
+  pub lowest-here : i < t → b ≡ f i → b ≡ true → lowest f i t ≡ w → Some i ≡ w
   lowest-here h e g inv = rw (lowest-cons f i t, ← e, g) at inv
 
   pub lowest-on : i < t → b ≡ f i → b ≡ false → lowest f i t ≡ w → lowest f (i + 1) t ≡ w
   lowest-on h e g inv = rw (lowest-cons f i t, ← e, g) at inv
 
-pub lowest-none : (f : ℕ → Bool) (i t : ℕ) (w : Found) → t ≤ i → lowest f i t ≡ w → Nothing ≡ w
+pub lowest-none : (f : ℕ → Bool) (i t : ℕ) (w : Option ℕ) → t ≤ i → lowest f i t ≡ w → None ≡ w
 unfolding lowest lowest_from
 lowest-none f i t w h inv =
     let e : t - i ≡ 0 = omega arith in
@@ -45,20 +43,20 @@ pub ruleset searching = (lowest-here, lowest-on, lowest-none)
 
 -- ---- a match on an answer
 
-pub found_at : (r : Found) (i : ℕ) → r ≡ At i → true ≡ is_found r
-found_at r i a = sym (ap is_found a)
+pub found_at : (r : Option ℕ) (i : ℕ) → r ≡ Some i → true ≡ is_some r
+found_at r i a = sym (ap is_some a)
 
-pub found_nothing : (r : Found) → r ≡ Nothing → false ≡ is_found r
-found_nothing r a = sym (ap is_found a)
+pub found_nothing : (r : Option ℕ) → r ≡ None → false ≡ is_some r
+found_nothing r a = sym (ap is_some a)
 
 pub ruleset told = (found_at, found_nothing)
 
-pub at_some : {X : Type 0} (i : ℕ) → At i ≡ Nothing → X
-at_some i e = clash (ap is_found e)
+pub at_some : {X : Type 0} (i : ℕ) → Some i ≡ None → X
+at_some i e = clash (ap is_some e)
 
-pub not_found : (r : Found) → is_found r ≡ false → r ≡ Nothing
-not_found (At i) e = clash e
-not_found Nothing e = refl
+pub not_found : (r : Option ℕ) → is_some r ≡ false → r ≡ None
+not_found (Some i) e = clash e
+not_found None e = refl
 
 -- ---- what an answer says
 
@@ -69,14 +67,14 @@ record Lowest (f : ℕ → Bool) (i k j : ℕ) : Type 0 where
   passes : f j ≡ true
   none-lower : (m : ℕ) → i ≤ m → m < j → f m ≡ false
 
-from_at : (f : ℕ → Bool) (i k j : ℕ) → lowest_from f i k ≡ At j → Lowest f i k j
+from_at : (f : ℕ → Bool) (i k j : ℕ) → lowest_from f i k ≡ Some j → Lowest f i k j
 unfolding lowest_from
 from_at f i zero j e = at_some j (sym e)
 from_at f i (suc k) j e = go (f i) refl (from_at f (i + 1) k j)
   where
-    go : (b : Bool) → f i ≡ b → (lowest_from f (i + 1) k ≡ At j → Lowest f (i + 1) k j) → Lowest f i (suc k) j
+    go : (b : Bool) → f i ≡ b → (lowest_from f (i + 1) k ≡ Some j → Lowest f (i + 1) k j) → Lowest f i (suc k) j
     go true g ih =
-        let a : At i ≡ At j = rw g at e in
+        let a : Some i ≡ Some j = rw g at e in
         let q : i ≡ j = cc in
         record { from = omega arith; below = omega arith; passes = rw (← q) g; none-lower = λ m l h. absurd (omega arith) }
     go false g ih = let h = ih (rw g at e) in record { from = omega (arith, h.from); below = omega (arith, h.below); passes = h.passes; none-lower = λ m l b. lower h m l b (ℕ_discrete i m) }
@@ -86,40 +84,40 @@ from_at f i (suc k) j e = go (f i) refl (from_at f (i + 1) k j)
         lower h m l b (no d) = h.none-lower m (omega arith) b
 
 -- what is found is below the end, and passes, and none below it does
-pub lowest-below : (f : ℕ → Bool) (t j : ℕ) → lowest f 0 t ≡ At j → j < t
+pub lowest-below : (f : ℕ → Bool) (t j : ℕ) → lowest f 0 t ≡ Some j → j < t
 unfolding lowest
 lowest-below f t j e = let h = (from_at f 0 (t - 0) j e).below in omega arith
 
-pub lowest-true : (f : ℕ → Bool) (t j : ℕ) → lowest f 0 t ≡ At j → f j ≡ true
+pub lowest-true : (f : ℕ → Bool) (t j : ℕ) → lowest f 0 t ≡ Some j → f j ≡ true
 unfolding lowest
 lowest-true f t j e = (from_at f 0 (t - 0) j e).passes
 
-pub lowest-lower : (f : ℕ → Bool) (t j m : ℕ) → lowest f 0 t ≡ At j → m < j → f m ≡ false
+pub lowest-lower : (f : ℕ → Bool) (t j m : ℕ) → lowest f 0 t ≡ Some j → m < j → f m ≡ false
 unfolding lowest
 lowest-lower f t j m e h = (from_at f 0 (t - 0) j e).none-lower m (omega arith) h
 
-from_nothing : (f : ℕ → Bool) (i k j : ℕ) → lowest_from f i k ≡ Nothing → i ≤ j → j < i + k → f j ≡ false
+from_nothing : (f : ℕ → Bool) (i k j : ℕ) → lowest_from f i k ≡ None → i ≤ j → j < i + k → f j ≡ false
 unfolding lowest_from
 from_nothing f i zero j e a b = absurd (omega arith)
 from_nothing f i (suc k) j e a b = go (f i) refl (ℕ_discrete i j) (from_nothing f (i + 1) k j)
   where
-    go : (b : Bool) → f i ≡ b → Dec (i ≡ j) → (lowest_from f (i + 1) k ≡ Nothing → i + 1 ≤ j → j < i + 1 + k → f j ≡ false) → f j ≡ false
+    go : (b : Bool) → f i ≡ b → Dec (i ≡ j) → (lowest_from f (i + 1) k ≡ None → i + 1 ≤ j → j < i + 1 + k → f j ≡ false) → f j ≡ false
     go true g d ih = at_some i (rw g at e)
     go false g (yes d) ih = rw (← d) g
     go false g (no d) ih = ih (rw g at e) (omega arith) (omega arith)
 
 -- where nothing is found, the test says no of each number below the end
-pub lowest-nothing : (f : ℕ → Bool) (t j : ℕ) → lowest f 0 t ≡ Nothing → j < t → f j ≡ false
+pub lowest-nothing : (f : ℕ → Bool) (t j : ℕ) → lowest f 0 t ≡ None → j < t → f j ≡ false
 unfolding lowest
 lowest-nothing f t j e h = from_nothing f 0 (t - 0) j e (omega arith) (omega arith)
 
 -- a number that passes is found, or a lower one
-pub lowest-some : (f : ℕ → Bool) (t j : ℕ) → j < t → f j ≡ true → is_found (lowest f 0 t) ≡ true
+pub lowest-some : (f : ℕ → Bool) (t j : ℕ) → j < t → f j ≡ true → is_some (lowest f 0 t) ≡ true
 lowest-some f t j h e = go (lowest f 0 t) refl
   where
-    go : (r : Found) → lowest f 0 t ≡ r → is_found (lowest f 0 t) ≡ true
-    go (At i) g = ap is_found g
-    go Nothing g = clash (sym e ∙ lowest-nothing f t j g h)
+    go : (r : Option ℕ) → lowest f 0 t ≡ r → is_some (lowest f 0 t) ≡ true
+    go (Some i) g = ap is_some g
+    go None g = clash (sym e ∙ lowest-nothing f t j g h)
 
 lowest-from-agree : (f g : ℕ → Bool) (i k : ℕ) → ((j : ℕ) → i ≤ j → j < i + k → f j ≡ g j) → lowest_from f i k ≡ lowest_from g i k
 unfolding lowest_from
@@ -139,14 +137,14 @@ lowest-agree-from f g i t h = lowest-from-agree f g i (t - i) (λ j a b. h j a (
 -- ---- by number and by list
 
 module _ {A : Type 0} (f : A → Bool) (a : ℕ → A) (g : ℕ → Bool) where
-  shift : ℕ → Found → Found
-  shift i (At k) = At (i + k)
-  shift i Nothing = Nothing
+  shift : ℕ → Option ℕ → Option ℕ
+  shift i (Some k) = Some (i + k)
+  shift i None = None
 
-  shift-next : (i : ℕ) (o : Found) → shift (i + 1) o ≡ shift i (next false o)
+  shift-next : (i : ℕ) (o : Option ℕ) → shift (i + 1) o ≡ shift i (next false o)
   unfolding shift
-  shift-next i (At k) = let e : i + 1 + k ≡ i + suc k = omega arith in rw e
-  shift-next i Nothing = refl
+  shift-next i (Some k) = let e : i + 1 + k ≡ i + suc k = omega arith in rw e
+  shift-next i None = refl
 
   from-where : (i k : ℕ) → ((j : ℕ) → i ≤ j → j < i + k → g j ≡ f (a j)) → lowest_from g i k ≡ shift i (where_first f (items_from a i k))
   unfolding lowest_from items_from shift
@@ -154,32 +152,32 @@ module _ {A : Type 0} (f : A → Bool) (a : ℕ → A) (g : ℕ → Bool) where
   from-where i (suc k) h = rw (h i (omega arith) (omega arith)) (go (f (a i)) (from-where (i + 1) k (λ j l u. h j (omega arith) (omega arith))))
     where
       go : (b : Bool) → lowest_from g (i + 1) k ≡ shift (i + 1) (where_first f (items_from a (i + 1) k)) →
-          cases b (At i) (lowest_from g (i + 1) k) ≡ shift i (next b (where_first f (items_from a (i + 1) k)))
+          cases b (Some i) (lowest_from g (i + 1) k) ≡ shift i (next b (where_first f (items_from a (i + 1) k)))
       go true ih = let e : i + 0 ≡ i = omega arith in rw e
       go false ih = ih ∙ shift-next i (where_first f (items_from a (i + 1) k))
 
-  shift_none : (o : Found) → shift 0 o ≡ o
+  shift_none : (o : Option ℕ) → shift 0 o ≡ o
   unfolding shift
-  shift_none (At k) = let e : 0 + k ≡ k = omega arith in rw e
-  shift_none Nothing = refl
+  shift_none (Some k) = let e : 0 + k ≡ k = omega arith in rw e
+  shift_none None = refl
 
   -- a search by number is a search of the list
   pub lowest-where : (t : ℕ) → ((j : ℕ) → j < t → g j ≡ f (a j)) → lowest g 0 t ≡ where_first f (items a 0 t)
   unfolding lowest items
   lowest-where t h = from-where 0 (t - 0) (λ j l u. h j (omega arith)) ∙ shift_none (where_first f (items_from a 0 (t - 0)))
 
-  from-any : (i k : ℕ) → ((j : ℕ) → i ≤ j → j < i + k → g j ≡ f (a j)) → is_found (lowest_from g i k) ≡ any f (items_from a i k)
+  from-any : (i k : ℕ) → ((j : ℕ) → i ≤ j → j < i + k → g j ≡ f (a j)) → is_some (lowest_from g i k) ≡ any f (items_from a i k)
   unfolding lowest_from items_from
   from-any i zero h = refl
   from-any i (suc k) h = rw (h i (omega arith) (omega arith)) (go (f (a i)) (from-any (i + 1) k (λ j l u. h j (omega arith) (omega arith))))
     where
-      go : (b : Bool) → is_found (lowest_from g (i + 1) k) ≡ any f (items_from a (i + 1) k) →
-          is_found (cases b (At i) (lowest_from g (i + 1) k)) ≡ b || any f (items_from a (i + 1) k)
+      go : (b : Bool) → is_some (lowest_from g (i + 1) k) ≡ any f (items_from a (i + 1) k) →
+          is_some (cases b (Some i) (lowest_from g (i + 1) k)) ≡ b || any f (items_from a (i + 1) k)
       go true ih = refl
       go false ih = ih
 
   -- whether anything is found
-  pub lowest-any : (t : ℕ) → ((j : ℕ) → j < t → g j ≡ f (a j)) → is_found (lowest g 0 t) ≡ any f (items a 0 t)
+  pub lowest-any : (t : ℕ) → ((j : ℕ) → j < t → g j ≡ f (a j)) → is_some (lowest g 0 t) ≡ any f (items a 0 t)
   unfolding lowest items
   lowest-any t h = from-any 0 (t - 0) (λ j l u. h j (omega arith))
 

@@ -1,8 +1,2 @@
-// Where a search ended: at a number, or nowhere. The functions and laws on lists are in specs/.
+// Lists, searches and loops by number, as definitions and laws in specs/. There is no code here.
 #![tactic(auto)]
-
-#[derive(Clone, Copy)]
-pub enum Found {
-    At(usize),
-    Nothing,
-}

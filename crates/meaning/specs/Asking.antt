@@ -1,9 +1,7 @@
 -- W6: "The raster side asks for the correction at a given point." The row that holds the point, its three weights, their mean; as named facts and as
 -- what is computed. dx and dy are two values of a node, f : ℕ → ℤ (node number to value): each part of the answer is made of one alone. Assumes nothing.
-use Rattle.std.specs.Prelude.{Bool, ◌&&◌, ℕ, ◌<◌, ℤ, pos, ◌+ℤ◌, ◌*ℤ◌, ◌≤ℤ◌, length}
+use Rattle.std.specs.Prelude.{Bool, ◌&&◌, ℕ, ◌<◌, ℤ, pos, ◌+ℤ◌, ◌*ℤ◌, ◌≤ℤ◌, length, Option, Some, None}
 use Rattle.std.specs.Int.Signed.{le_z}
-use Rattle.lists.specs.declared.Found.{Found}
-use Rattle.lists.specs.declared.Found.TheVariants.{At, Nothing}
 use Rattle.lists.specs.Lists.{where_first}
 use Rattle.meaning.specs.Rounding.{floor}
 use Rattle.meaning.specs.Mesh.{Place, Correction, Tri, Mesh, correction, node_of, at, turn}
@@ -55,7 +53,7 @@ pub record Covered (m : Mesh) (P : Place) : Type 0 where
   pub row-holds : RowHolds m P row
 
 -- "the lowest row whose closed triangle holds it"
-unfoldable pub row_holding : Mesh → Place → Found
+unfoldable pub row_holding : Mesh → Place → Option ℕ
 row_holding m P = where_first (holds_point m P) m.tris
 
 -- what a node carries
@@ -70,9 +68,9 @@ abbrev pub correction_in : Mesh → Place → Tri → Correction
 correction_in m P t = correction (mean_in (dx_of m) m P t) (mean_in (dy_of m) m P t)
 
 -- by the row that was found
-abbrev pub correction_by : Mesh → Place → Found → Correction
-correction_by m P (At i) = correction_in m P (row_of m.tris i)
-correction_by m P Nothing = correction (pos 0) (pos 0)
+abbrev pub correction_by : Mesh → Place → Option ℕ → Correction
+correction_by m P (Some i) = correction_in m P (row_of m.tris i)
+correction_by m P None = correction (pos 0) (pos 0)
 
 unfoldable pub correction_at : Mesh → Place → Correction
 correction_at m P = correction_by m P (row_holding m P)

@@ -1,8 +1,6 @@
 -- W6 by hand: points inside, on a side, on a corner and outside, negative corrections, the far ends, and every reason to refuse. Rows of three lists,
 -- each under one claim; what is expected was worked out from the words of 02. Assumes nothing.
-use Rattle.std.specs.Prelude.{true, false, ◌≡◌, refl, List, [], ◌∷◌, ◌++◌, map, ℕ, ℤ, pos, negsuc}
-use Rattle.lists.specs.declared.Found.{Found}
-use Rattle.lists.specs.declared.Found.TheVariants.{At, Nothing}
+use Rattle.std.specs.Prelude.{true, false, ◌≡◌, refl, List, [], ◌∷◌, ◌++◌, map, ℕ, ℤ, pos, negsuc, Option, Some, None}
 use Rattle.lists.specs.Search.{lowest, lowest_from}
 use Rattle.meaning.specs.declared.Told.{Told}
 use Rattle.meaning.specs.Mesh.{Place, Node, Mesh, place, correction, node, tri, mesh, twice_area}
@@ -65,17 +63,17 @@ loner = mesh (C.nodes ++ at 9 9 ∷ []) C.tris
 pub record AskCase : Type 0 where
   pub given : Mesh
   pub point : Place
-  pub row : Found
+  pub row : Option ℕ
   pub says : Told
 
-abbrev asked : Mesh → ℤ → ℤ → Found → Told → AskCase
+abbrev asked : Mesh → ℤ → ℤ → Option ℕ → Told → AskCase
 asked m x y i k = record { given = m; point = place x y; row = i; says = k }
 
 -- what the definitions give, and what must come out
-abbrev computed : AskCase → Found × Told
+abbrev computed : AskCase → Option ℕ × Told
 computed c = (row_holding c.given c.point, asks c.given c.point)
 
-abbrev expected : AskCase → Found × Told
+abbrev expected : AskCase → Option ℕ × Told
 expected c = (c.row, c.says)
 
 -- number 0 and the correction; or number k and the culprit
@@ -88,49 +86,49 @@ refuses k z = told k z (correction (pos 0) (pos 0))
 abbrev pub ask_cases : List AskCase
 ask_cases =
     -- inside: weights 32, 16, 16: −16/64 and −32/64; weights 32, 16, 16 in row 1: 368/64 and −32/64
-    asked C (pos 6) (pos 2) (At 0) (tells (negsuc 0) (negsuc 0)) ∷
-    asked C (pos 2) (pos 6) (At 1) (tells (pos 5) (negsuc 0)) ∷
+    asked C (pos 6) (pos 2) (Some 0) (tells (negsuc 0) (negsuc 0)) ∷
+    asked C (pos 2) (pos 6) (Some 1) (tells (pos 5) (negsuc 0)) ∷
     -- on a side of one row: −4/2 and −1/2; on the side of both: 13/2 and 65,534/2
-    asked C (pos 8) (pos 4) (At 0) (tells (negsuc 1) (negsuc 0)) ∷
-    asked C (pos 4) (pos 4) (At 0) (tells (pos 6) (pos 32_767)) ∷
+    asked C (pos 8) (pos 4) (Some 0) (tells (negsuc 1) (negsuc 0)) ∷
+    asked C (pos 4) (pos 4) (Some 0) (tells (pos 6) (pos 32_767)) ∷
     -- on a corner, of one row, of both, of the other: what the node carries
-    asked C (pos 8) (pos 0) (At 0) (tells (negsuc 6) (negsuc 32_767)) ∷
-    asked C (pos 8) (pos 8) (At 0) (tells (pos 3) (pos 32_767)) ∷
-    asked C (pos 0) (pos 8) (At 1) (tells (pos 5) (negsuc 32_767)) ∷
+    asked C (pos 8) (pos 0) (Some 0) (tells (negsuc 6) (negsuc 32_767)) ∷
+    asked C (pos 8) (pos 8) (Some 0) (tells (pos 3) (pos 32_767)) ∷
+    asked C (pos 0) (pos 8) (Some 1) (tells (pos 5) (negsuc 32_767)) ∷
     -- outside, by one
-    asked C (pos 9) (pos 4) Nothing (refuses 14 0) ∷
-    asked C (negsuc 0) (pos 0) Nothing (refuses 14 0) ∷
-    asked C (pos 4) (pos 9) Nothing (refuses 14 0) ∷
+    asked C (pos 9) (pos 4) None (refuses 14 0) ∷
+    asked C (negsuc 0) (pos 0) None (refuses 14 0) ∷
+    asked C (pos 4) (pos 9) None (refuses 14 0) ∷
     -- −3/2 is rounded down, to −2; 3/2 to 1; −9/4 and −3/4
-    asked across (negsuc 0) (pos 0) (At 0) (tells (negsuc 1) (pos 1)) ∷
-    asked across (negsuc 1) (pos 0) (At 0) (tells (negsuc 2) (pos 2)) ∷
-    asked across (pos 0) (pos 0) (At 0) (tells (negsuc 0) (pos 0)) ∷
+    asked across (negsuc 0) (pos 0) (Some 0) (tells (negsuc 1) (pos 1)) ∷
+    asked across (negsuc 1) (pos 0) (Some 0) (tells (negsuc 2) (pos 2)) ∷
+    asked across (pos 0) (pos 0) (Some 0) (tells (negsuc 0) (pos 0)) ∷
     -- "the lowest row"
-    asked crossing (pos 3) (pos 2) (At 0) (tells (pos 0) (pos 0)) ∷
+    asked crossing (pos 3) (pos 2) (Some 0) (tells (pos 0) (pos 0)) ∷
     []
 
 -- as far as a point can be, and the longest side: its middle, a step beside that, the middle of a short one, one step outside
 abbrev pub far_cases : List AskCase
 far_cases =
-    asked C (negsuc 2_147_483_647) (pos 2_147_483_647) Nothing (refuses 14 0) ∷
-    asked C (pos 2_147_483_647) (negsuc 2_147_483_647) Nothing (refuses 14 0) ∷
-    asked widest (pos 0) (pos 0) (At 0) (tells (negsuc 32_767) (pos 0)) ∷
-    asked widest (pos 1) (negsuc 0) (At 0) (tells (negsuc 32_767) (pos 0)) ∷
-    asked widest (negsuc 1_048_575) (pos 0) (At 0) (tells (negsuc 0) (pos 0)) ∷
-    asked widest (pos 1) (pos 0) Nothing (refuses 14 0) ∷
+    asked C (negsuc 2_147_483_647) (pos 2_147_483_647) None (refuses 14 0) ∷
+    asked C (pos 2_147_483_647) (negsuc 2_147_483_647) None (refuses 14 0) ∷
+    asked widest (pos 0) (pos 0) (Some 0) (tells (negsuc 32_767) (pos 0)) ∷
+    asked widest (pos 1) (negsuc 0) (Some 0) (tells (negsuc 32_767) (pos 0)) ∷
+    asked widest (negsuc 1_048_575) (pos 0) (Some 0) (tells (negsuc 0) (pos 0)) ∷
+    asked widest (pos 1) (pos 0) None (refuses 14 0) ∷
     []
 
 abbrev pub refused_cases : List AskCase
 refused_cases =
     -- no triangle holds a point
-    asked (mesh [] []) (pos 0) (pos 0) Nothing (refuses 14 0) ∷
+    asked (mesh [] []) (pos 0) (pos 0) None (refuses 14 0) ∷
     -- 3 to 7 come first, whether a row holds the point or none does
-    asked heavy (pos 6) (pos 2) (At 0) (refuses 3 2) ∷
-    asked misnamed (pos 9) (pos 9) Nothing (refuses 4 1) ∷
-    asked repeated (pos 6) (pos 2) (At 0) (refuses 5 1) ∷
-    asked flat (pos 4) (pos 4) (At 0) (refuses 6 0) ∷
-    asked flat (pos 4) (pos 5) Nothing (refuses 6 0) ∷
-    asked loner (pos 9) (pos 9) Nothing (refuses 7 4) ∷
+    asked heavy (pos 6) (pos 2) (Some 0) (refuses 3 2) ∷
+    asked misnamed (pos 9) (pos 9) None (refuses 4 1) ∷
+    asked repeated (pos 6) (pos 2) (Some 0) (refuses 5 1) ∷
+    asked flat (pos 4) (pos 4) (Some 0) (refuses 6 0) ∷
+    asked flat (pos 4) (pos 5) None (refuses 6 0) ∷
+    asked loner (pos 9) (pos 9) None (refuses 7 4) ∷
     []
 
 pub asking-meshes : map computed ask_cases ≡ map expected ask_cases

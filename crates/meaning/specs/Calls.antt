@@ -1,6 +1,6 @@
 -- Document 01, 'What a call says', W2, W5, W6 and W7: for each call, what it says of a mesh, and one outcome for any tables. Assumes nothing.
-use Rattle.std.specs.Prelude.{Bool, true, false, ◌&&◌, List, ℕ, zero, suc, ◌+◌, ◌*◌, ◌%◌, eqb, leb, ℤ, pos, length}
-use Rattle.lists.specs.Lists.{all, cases, is_found}
+use Rattle.std.specs.Prelude.{Bool, true, false, ◌&&◌, List, ℕ, zero, suc, ◌+◌, ◌*◌, ◌%◌, eqb, leb, ℤ, pos, length, is_some}
+use Rattle.lists.specs.Lists.{all, cases}
 use Rattle.meaning.specs.declared.Told.{Told}
 use Rattle.meaning.specs.Mesh.{Place, Correction, Tri, Mesh, correction}
 use Rattle.meaning.specs.Lawful.{fault_of, refusal, compatible}
@@ -100,7 +100,7 @@ sets n0 m z c = says_of (set_fault n0 m z c).number (set_fault n0 m z c).at m (c
 
 -- "After 1 and 3 to 7, refuse as 14 exactly if no triangle holds the point"
 unfoldable pub ask_no : Mesh → Place → ℕ
-ask_no m P = or_else (refusal m) (unless (is_found (row_holding m P)) 14 0)
+ask_no m P = or_else (refusal m) (unless (is_some (row_holding m P)) 14 0)
 
 -- what is told, part by part
 abbrev pub told_as : ℕ → ℤ → ℤ → ℕ → Told

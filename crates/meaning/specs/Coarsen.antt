@@ -1,6 +1,5 @@
 -- Document 01, 'Good nodes': what coarsen, a full pass and restore make of a mesh. Assumes nothing.
-use Rattle.std.specs.Prelude.{Bool, true, false, not, ◌&&◌, List, [], ◌∷◌, map, ℕ, zero, suc, eqb, length, get_or}
-use Rattle.std.proofs.Math.Option.{Option, none, some}
+use Rattle.std.specs.Prelude.{Bool, true, false, not, ◌&&◌, List, [], ◌∷◌, map, ℕ, zero, suc, eqb, length, get_or, Option, None, Some}
 use Rattle.lists.specs.Lists.{any, only, first, cons_if, suc_if, joined, up_to}
 use Rattle.meaning.specs.Mesh.{Tri, Mesh, tri, same_tri, mesh}
 use Rattle.meaning.specs.Good.{Brothers, father, pairs, good}
@@ -15,9 +14,9 @@ unfoldable pub taken : ℕ → Mesh → List ℕ → List ℕ
 taken n0 m marks = only (λ z. marked marks z && good n0 m z) (up_to (length m.nodes))
 
 abbrev pub becomes : Tri → Option Brothers → Bool → List Tri
-becomes t (some b) gone = father b ∷ []
-becomes t none true = []
-becomes t none false = t ∷ []
+becomes t (Some b) gone = father b ∷ []
+becomes t None true = []
+becomes t None false = t ∷ []
 
 -- "The left row becomes (a, b, c), and with 4 the other becomes (d, c, b); the brothers' rows go."
 abbrev pub fate : List Brothers → Tri → List Tri

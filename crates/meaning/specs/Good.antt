@@ -1,6 +1,5 @@
 -- Document 01, 'Good nodes': G1 to G5, as named facts and as tests. Assumes nothing.
-use Rattle.std.specs.Prelude.{Bool, true, false, not, ◌&&◌, ◌||◌, List, [], ◌∷◌, ◌≡◌, ℕ, zero, suc, ◌≤◌, ◌<◌, eqb, leb, ltb, ℤ, ◌+ℤ◌, length}
-use Rattle.std.proofs.Math.Option.{Option, none, some}
+use Rattle.std.specs.Prelude.{Bool, true, false, not, ◌&&◌, ◌||◌, List, [], ◌∷◌, ◌≡◌, ℕ, zero, suc, ◌≤◌, ◌<◌, eqb, leb, ltb, ℤ, ◌+ℤ◌, length, Option, None, Some}
 use Rattle.std.specs.Int.Signed.{le_z}
 use Rattle.lists.specs.Lists.{all, any, only, first, up_to, All}
 use Rattle.meaning.specs.Mesh.{Place, Tri, Mesh, Edge, tri, edge, arrow, same_edge, same_tri, holds_node, holds_arrow, holds_edge, at}
@@ -24,10 +23,10 @@ lowest_left m z t u = first (λ v. not (same_tri t v) && not (same_tri u v)) (ro
 -- row not yet used is (z, d, c), and the row holding d→z is (z, b, d)."
 pub data Paired (m : Mesh) (z b c : ℕ) : Type 0 where
   two : (a : ℕ) → length (rows_of m z) ≡ 2 →
-      first (holds_node z) m.tris ≡ some (tri z a b) → first (holds_arrow (arrow a z)) m.tris ≡ some (tri z c a) → Paired m z b c
+      first (holds_node z) m.tris ≡ Some (tri z a b) → first (holds_arrow (arrow a z)) m.tris ≡ Some (tri z c a) → Paired m z b c
   four : (a d : ℕ) → length (rows_of m z) ≡ 4 →
-      first (holds_node z) m.tris ≡ some (tri z a b) → first (holds_arrow (arrow a z)) m.tris ≡ some (tri z c a) →
-      lowest_left m z (tri z a b) (tri z c a) ≡ some (tri z d c) → first (holds_arrow (arrow d z)) m.tris ≡ some (tri z b d) → Paired m z b c
+      first (holds_node z) m.tris ≡ Some (tri z a b) → first (holds_arrow (arrow a z)) m.tris ≡ Some (tri z c a) →
+      lowest_left m z (tri z a b) (tri z c a) ≡ Some (tri z d c) → first (holds_arrow (arrow d z)) m.tris ≡ Some (tri z b d) → Paired m z b c
 
 -- z meets G1 to G4 with the pair b, c
 pub record Meets (m : Mesh) (z b c : ℕ) : Type 0 where
@@ -64,8 +63,8 @@ abbrev pub father : Brothers → Tri
 father b = tri b.left.q b.left.r b.right.q
 
 abbrev pub add_pair : Tri → Option Tri → (Tri → List Brothers) → List Brothers
-add_pair t none rest = []
-add_pair t (some u) rest = brothers t u ∷ rest u
+add_pair t None rest = []
+add_pair t (Some u) rest = brothers t u ∷ rest u
 
 -- the lowest row (z, a, b) with the row that holds a→z; then again, of the rows not yet used; at most k times
 abbrev pub pair_off : ℕ → ℕ → List Tri → List Brothers

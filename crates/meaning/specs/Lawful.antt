@@ -1,13 +1,11 @@
 -- Document 01, 'What a call says', W2 and W5: lawful meshes and compatible labellings, as named facts, and as what is computed: the number
 -- of the refusal and the lowest node or row at fault. Assumes nothing.
-use Rattle.std.specs.Prelude.{Bool, true, not, ◌&&◌, ◌||◌, ◌≡◌, ◌≢◌, ◌⊎◌, ℕ, ◌≤◌, ◌<◌, leb, eqb, ℤ, pos, negsuc, nat_abs, ◌<ℤ◌, ◌≤ℤ◌, length, get_or, take}
+use Rattle.std.specs.Prelude.{Bool, true, not, ◌&&◌, ◌||◌, ◌≡◌, ◌≢◌, ◌⊎◌, ℕ, ◌≤◌, ◌<◌, leb, eqb, ℤ, pos, negsuc, nat_abs, ◌<ℤ◌, ◌≤ℤ◌, length, get_or, take, Option, Some, None, is_some}
 use mathlib.Core.List.{List, Memᴰ}
 use Rattle.std.specs.Int.Signed.{lt_z}
-use Rattle.lists.specs.declared.Found.{Found}
-use Rattle.lists.specs.declared.Found.TheVariants.{At, Nothing}
-use Rattle.lists.specs.Lists.{any, count, joined, where_first, is_found, All}
+use Rattle.lists.specs.Lists.{any, count, joined, where_first, All}
 use Rattle.lists.specs.Search.{lowest}
-use Rattle.meaning.specs.declared.Fault.{Fault}
+use Rattle.meaning.specs.Fault.{Fault}
 use Rattle.meaning.specs.Mesh.{Place, Correction, Node, Tri, Mesh, Arrow, tri, arrows, base, same_arrow, same_edge, holds_node, holds_arrow, holds_edge, node_of, twice_area}
 
 -- ---- as facts
@@ -153,31 +151,31 @@ clashes ts t = any (λ u. holds_edge (base t) u && not (same_edge (base t) (base
 
 -- ---- as the lowest node or row at fault, and the number
 
-unfoldable pub first_outside : Mesh → Found
+unfoldable pub first_outside : Mesh → Option ℕ
 first_outside m = where_first node_outside m.nodes
 
-unfoldable pub first_misnamed : Mesh → Found
+unfoldable pub first_misnamed : Mesh → Option ℕ
 first_misnamed m = where_first (misnamed (length m.nodes)) m.tris
 
-unfoldable pub first_repeat : Mesh → Found
+unfoldable pub first_repeat : Mesh → Option ℕ
 first_repeat m = lowest (repeats m.tris) 0 (length m.tris)
 
-unfoldable pub first_flat : Mesh → Found
+unfoldable pub first_flat : Mesh → Option ℕ
 first_flat m = where_first (flat m) m.tris
 
-unfoldable pub first_unused : Mesh → Found
+unfoldable pub first_unused : Mesh → Option ℕ
 first_unused m = lowest (unused m.tris) 0 (length m.nodes)
 
-unfoldable pub first_clash : Mesh → Found
+unfoldable pub first_clash : Mesh → Option ℕ
 first_clash m = where_first (clashes m.tris) m.tris
 
 abbrev pub fault : ℕ → ℕ → Fault
 fault k i = record { number = k; at = i }
 
 -- number k, if something is found; else the rest
-abbrev pub or_later : ℕ → Found → Fault → Fault
-or_later k (At i) rest = fault k i
-or_later k Nothing rest = rest
+abbrev pub or_later : ℕ → Option ℕ → Fault → Fault
+or_later k (Some i) rest = fault k i
+or_later k None rest = rest
 
 -- 4 to 7, else the rest
 abbrev pub from4 : Mesh → Fault → Fault
@@ -196,4 +194,4 @@ unfoldable pub refusal : Mesh → ℕ
 refusal m = (fault_of m).number
 
 unfoldable pub compatible : Mesh → Bool
-compatible m = not (is_found (first_clash m))
+compatible m = not (is_some (first_clash m))

@@ -1,4 +1,5 @@
 -- Document 01 as definitions. Read Mesh, Lawful, Rounding, Split, Good, Coarsen, Setting, Proper, Asking, Tables, Calls in this order; then the hand meshes.
+pub mod Fault
 pub mod Mesh
 pub mod Lawful
 pub mod Rounding

@@ -1,10 +1,9 @@
 -- W7: "A supplier sent a base where one side of an edge had a middle node and the other had none." What the base check refuses as 11 and as 12, as
 -- named facts, and as what is computed: tests of one node or one row, and the lowest at fault. Assumes nothing.
-use Rattle.std.specs.Prelude.{Bool, not, ◌&&◌, ◌||◌, ◌≢◌, ◌≡◌, ℕ, ◌<◌, ℤ, pos, ◌+ℤ◌, ◌-ℤ◌, ◌*ℤ◌, ◌<ℤ◌, length, take}
+use Rattle.std.specs.Prelude.{Bool, not, ◌&&◌, ◌||◌, ◌≢◌, ◌≡◌, ℕ, ◌<◌, ℤ, pos, ◌+ℤ◌, ◌-ℤ◌, ◌*ℤ◌, ◌<ℤ◌, length, take, Option, is_some}
 use mathlib.Core.List.{Memᴰ}
 use Rattle.std.specs.Int.Signed.{le_z, lt_z}
-use Rattle.lists.specs.declared.Found.{Found}
-use Rattle.lists.specs.Lists.{any, is_found, up_to, All}
+use Rattle.lists.specs.Lists.{any, up_to, All}
 use Rattle.lists.specs.Search.{lowest}
 use Rattle.meaning.specs.Mesh.{Place, Tri, Mesh, Arrow, arrows, at, turn}
 use Rattle.meaning.specs.Lawful.{row_of}
@@ -112,16 +111,16 @@ overlaps m i = any (λ t. not (apart (shape m t) (shape m (row_of m.tris i)))) (
 
 -- ---- as the lowest node or row at fault
 
-unfoldable pub first_crowded : Mesh → Found
+unfoldable pub first_crowded : Mesh → Option ℕ
 first_crowded m = lowest (crowded m) 0 (length m.nodes)
 
-unfoldable pub first_overlap : Mesh → Found
+unfoldable pub first_overlap : Mesh → Option ℕ
 first_overlap m = lowest (overlaps m) 0 (length m.tris)
 
 -- not 11
 unfoldable pub uncrowded : Mesh → Bool
-uncrowded m = not (is_found (first_crowded m))
+uncrowded m = not (is_some (first_crowded m))
 
 -- not 12
 unfoldable pub disjoint : Mesh → Bool
-disjoint m = not (is_found (first_overlap m))
+disjoint m = not (is_some (first_overlap m))

@@ -1,8 +1,6 @@
 -- W7 by hand: the supplier's mesh, nodes at one place, triangles that overlap, and every order of the numbers. Rows of six lists, each under one
 -- claim; what is expected was worked out from the words of 02. Assumes nothing.
-use Rattle.std.specs.Prelude.{◌≡◌, refl, List, [], ◌∷◌, ◌++◌, map, ℕ, pos, negsuc}
-use Rattle.lists.specs.declared.Found.{Found}
-use Rattle.lists.specs.declared.Found.TheVariants.{At, Nothing}
+use Rattle.std.specs.Prelude.{◌≡◌, refl, List, [], ◌∷◌, ◌++◌, map, ℕ, pos, negsuc, Option, Some, None}
 use Rattle.lists.specs.Search.{lowest, lowest_from}
 use Rattle.meaning.specs.Mesh.{Node, Mesh, tri, mesh, total, twice_area}
 use Rattle.meaning.specs.Lawful.{refusal, compatible, fault_of, first_outside, first_misnamed, first_repeat, first_flat, first_unused, first_clash}
@@ -73,59 +71,59 @@ covered_r = mesh (at 0 0 ∷ at 16 0 ∷ at 0 16 ∷ at 4 4 ∷ at 5 1 ∷ at 7 
 
 pub record Case : Type 0 where
   pub given : Mesh
-  pub node : Found
-  pub row : Found
+  pub node : Option ℕ
+  pub row : Option ℕ
   pub number : ℕ
 
-abbrev case : Mesh → Found → Found → ℕ → Case
+abbrev case : Mesh → Option ℕ → Option ℕ → ℕ → Case
 case m f g k = record { given = m; node = f; row = g; number = k }
 
 -- what the definitions give, and what must come out
-abbrev computed : Case → Found × Found × ℕ
+abbrev computed : Case → Option ℕ × Option ℕ × ℕ
 computed c = (first_crowded c.given, first_overlap c.given, check_no c.given)
 
-abbrev expected : Case → Found × Found × ℕ
+abbrev expected : Case → Option ℕ × Option ℕ × ℕ
 expected c = (c.node, c.row, c.number)
 
 abbrev sound_cases : List Case
 sound_cases =
-    case (mesh [] []) Nothing Nothing 0 ∷
-    case S Nothing Nothing 0 ∷
-    case pinched Nothing Nothing 0 ∷
-    case after4 Nothing Nothing 10 ∷
-    case R Nothing Nothing 10 ∷
+    case (mesh [] []) None None 0 ∷
+    case S None None 0 ∷
+    case pinched None None 0 ∷
+    case after4 None None 10 ∷
+    case R None None 10 ∷
     []
 
 abbrev crowded_cases : List Case
 crowded_cases =
-    case cracked (At 4) Nothing 11 ∷
-    case mended (At 5) Nothing 11 ∷
-    case doubled (At 4) Nothing 11 ∷
-    case leaning (At 4) Nothing 11 ∷
+    case cracked (Some 4) None 11 ∷
+    case mended (Some 5) None 11 ∷
+    case doubled (Some 4) None 11 ∷
+    case leaning (Some 4) None 11 ∷
     []
 
 abbrev overlapping_cases : List Case
 overlapping_cases =
-    case across Nothing (At 2) 12 ∷
-    case starred Nothing (At 1) 12 ∷
-    case nested Nothing (At 1) 12 ∷
+    case across None (Some 2) 12 ∷
+    case starred None (Some 1) 12 ∷
+    case nested None (Some 1) 12 ∷
     []
 
 -- at the ends of the range
 abbrev widest_cases : List Case
 widest_cases =
-    case (widest (spot (pos 0) (pos 0))) (At 4) Nothing 11 ∷
-    case (widest (spot (negsuc 0) (pos 0))) Nothing Nothing 0 ∷
-    case (widest (spot (pos 1) (pos 0))) Nothing (At 1) 12 ∷
+    case (widest (spot (pos 0) (pos 0))) (Some 4) None 11 ∷
+    case (widest (spot (negsuc 0) (pos 0))) None None 0 ∷
+    case (widest (spot (pos 1) (pos 0))) None (Some 1) 12 ∷
     []
 
 -- "in the order 7, 11, 12, 10"
 abbrev order_cases : List Case
 order_cases =
-    case lonely (At 4) Nothing 7 ∷
-    case crossed (At 4) (At 3) 11 ∷
-    case cracked_r (At 4) Nothing 11 ∷
-    case covered_r Nothing (At 3) 12 ∷
+    case lonely (Some 4) None 7 ∷
+    case crossed (Some 4) (Some 3) 11 ∷
+    case cracked_r (Some 4) None 11 ∷
+    case covered_r None (Some 3) 12 ∷
     []
 
 abbrev pub proper_cases : List Case

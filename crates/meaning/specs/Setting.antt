@@ -1,10 +1,8 @@
 -- W5: setting the correction of one node: the mesh after it, and when each number is given, as named facts and as what is computed.
 -- Assumes nothing.
-use Rattle.std.specs.Prelude.{Bool, true, false, ℕ, ◌≤◌, ◌<◌, leb, ltb, length, set}
-use Rattle.lists.specs.declared.Found.{Found}
-use Rattle.lists.specs.declared.Found.TheVariants.{At, Nothing}
+use Rattle.std.specs.Prelude.{Bool, true, false, ℕ, ◌≤◌, ◌<◌, leb, ltb, length, set, Option, Some, None}
 use Rattle.lists.specs.Lists.{All}
-use Rattle.meaning.specs.declared.Fault.{Fault}
+use Rattle.meaning.specs.Fault.{Fault}
 use Rattle.meaning.specs.Mesh.{Correction, Mesh, node, at, mesh}
 use Rattle.meaning.specs.Lawful.{InBounds, NodeInRange, Applies, LowestOf, Names, beyond, first_outside, fault, or_later, from4}
 
@@ -37,13 +35,13 @@ pub data SetNames (m : Mesh) (z : ℕ) (c : Correction) : ℕ → ℕ → Type 0
 -- ---- as the number and the node or row named
 
 -- i, if a test says yes
-abbrev pub found_if : Bool → ℕ → Found
-found_if true i = At i
-found_if false i = Nothing
+abbrev pub found_if : Bool → ℕ → Option ℕ
+found_if true i = Some i
+found_if false i = None
 
-abbrev pub or_found : Found → Found → Found
-or_found (At i) g = At i
-or_found Nothing g = g
+abbrev pub or_found : Option ℕ → Option ℕ → Option ℕ
+or_found (Some i) g = Some i
+or_found None g = g
 
 -- "a value out of range, stored or to be set, is refused as 3 (.. the lowest node at fault in the table, else the node given)";
 -- "a base node is refused as 13, a number not below n as 15, after 1 and 3 to 7"

@@ -1,10 +1,7 @@
 -- Document 01, 'Splitting': the split edges, the numbers of the new nodes, the rows of one triangle, the refined mesh.
 -- A way to refine says which edges of a marked triangle start the split set, and how one triangle is cut. Assumes nothing.
-use Rattle.std.specs.Prelude.{Bool, true, false, not, ◌&&◌, List, [], ◌∷◌, ◌++◌, map, ℕ, zero, suc, ◌+◌, ◌%◌, eqb, ℤ, pos, ◌+ℤ◌, nat_abs, length}
-use Rattle.std.proofs.Math.Option.{Option, none, some}
+use Rattle.std.specs.Prelude.{Bool, true, false, not, ◌&&◌, List, [], ◌∷◌, ◌++◌, map, ℕ, zero, suc, ◌+◌, ◌%◌, eqb, ℤ, pos, ◌+ℤ◌, nat_abs, length, Option, Some, None}
 use Rattle.std.specs.Int.Signed.{quot_z}
-use Rattle.lists.specs.declared.Found.{Found}
-use Rattle.lists.specs.declared.Found.TheVariants.{At, Nothing}
 use Rattle.lists.specs.Lists.{all, any, cases, only, once, first, where_first, joined, All}
 use Rattle.meaning.specs.declared.Manner.{Manner}
 use Rattle.meaning.specs.declared.Manner.TheVariants.{Newest, AllThree}
@@ -28,8 +25,8 @@ abbrev pub pulls : List Edge → Tri → Bool
 pulls s t = any (λ e. mem_edge e s) (edges t) && not (mem_edge (base t) s)
 
 abbrev pub add_base : Option Tri → List Edge → (List Edge → List Edge) → List Edge
-add_base none s more = s
-add_base (some t) s more = more (base t ∷ s)
+add_base None s more = s
+add_base (Some t) s more = more (base t ∷ s)
 
 -- while a row pulls: the lowest such row's refinement edge is added; at most k times
 abbrev pub grow : ℕ → List Tri → List Edge → List Edge
@@ -49,9 +46,9 @@ split_edges m start =
 
 -- ---- numbers and places
 
-abbrev pub plus : ℕ → Found → Option ℕ
-plus n Nothing = none
-plus n (At k) = some (n + k)
+abbrev pub plus : ℕ → Option ℕ → Option ℕ
+plus n None = None
+plus n (Some k) = Some (n + k)
 
 -- "Number new nodes from n upward"
 abbrev pub number_of : ℕ → List Edge → Edge → Option ℕ
@@ -98,19 +95,19 @@ Cutting = Tri → Option ℕ → Option ℕ → Option ℕ → Cut
 -- "The left child, or its own left child, keeps the father's row. Appended ..: the right child or its left; then (u,q,m) if
 -- made; then (v,p,m) if made."
 abbrev pub bisected : Cutting
-bisected t none u v = cut t []
-bisected t (some m) none none = cut (tri m t.p t.q) (tri m t.r t.p ∷ [])
-bisected t (some m) (some u) none = cut (tri u m t.p) (tri m t.r t.p ∷ tri u t.q m ∷ [])
-bisected t (some m) none (some v) = cut (tri m t.p t.q) (tri v m t.r ∷ tri v t.p m ∷ [])
-bisected t (some m) (some u) (some v) = cut (tri u m t.p) (tri v m t.r ∷ tri u t.q m ∷ tri v t.p m ∷ [])
+bisected t None u v = cut t []
+bisected t (Some m) None None = cut (tri m t.p t.q) (tri m t.r t.p ∷ [])
+bisected t (Some m) (Some u) None = cut (tri u m t.p) (tri m t.r t.p ∷ tri u t.q m ∷ [])
+bisected t (Some m) None (Some v) = cut (tri m t.p t.q) (tri v m t.r ∷ tri v t.p m ∷ [])
+bisected t (Some m) (Some u) (Some v) = cut (tri u m t.p) (tri v m t.r ∷ tri u t.q m ∷ tri v t.p m ∷ [])
 
 -- W8: "a triangle with all three edges split becomes (p,u,v) on the father's row and then (u,q,m), (v,m,r), (m,v,u) appended. One or two split
 -- edges are cut as in 01."
 abbrev pub red : Cutting
-red t none u v = bisected t none u v
-red t (some m) none v = bisected t (some m) none v
-red t (some m) (some u) none = bisected t (some m) (some u) none
-red t (some m) (some u) (some v) = cut (tri t.p u v) (tri u t.q m ∷ tri v m t.r ∷ tri m v u ∷ [])
+red t None u v = bisected t None u v
+red t (Some m) None v = bisected t (Some m) None v
+red t (Some m) (Some u) None = bisected t (Some m) (Some u) None
+red t (Some m) (Some u) (Some v) = cut (tri t.p u v) (tri u t.q m ∷ tri v m t.r ∷ tri m v u ∷ [])
 
 abbrev pub cutting_of : Quarters → Cutting
 cutting_of Bisected = bisected

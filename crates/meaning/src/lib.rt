@@ -59,13 +59,6 @@ pub enum Quarters {
     Red,
 }
 
-// What stands in the way of a mesh: the number of a refusal, with the lowest node or row at fault. 0 at 0: nothing does.
-#[derive(Clone, Copy)]
-pub struct Fault {
-    pub number: u32,
-    pub at: usize,
-}
-
 // What a call says: its number, the counts after it, the passes it made, and the culprit: with 3 and 7 the lowest node at fault, with 4, 5
 // and 6 the lowest row at fault, with every other number 0.
 #[derive(Clone, Copy)]

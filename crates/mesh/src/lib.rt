@@ -8,15 +8,16 @@ ghost use Rattle.meaning.specs.declared.Quarters.TheVariants.{Bisected};
 ghost use Rattle.meaning.specs.Calls.{check_out, refine_out, tinted, refine_by_out, red_out, coarsen_out, set_out, heard, ask_out};
 
 use meaning::{Answer, Correction, Manner, Place, Quarters, Tinted, Told};
+use refusals::Counts;
 
 // The base check. It writes no table but scratch, which is all zero after.
 pub fn check(nodes: &mut [i32], rows: &mut [u32], scratch: &mut [u32], n: usize, t: usize) -> Answer
     ensures { outcome result nodes.new rows.new scratch.new ≡ check_out (given nodes.old rows.old scratch.old n t) }
 {
     tables::clear(scratch);
-    let f = checking::work(nodes, rows, scratch, n, t);
+    let judged = checking::work(nodes, rows, scratch, n, t);
     tables::clear(scratch);
-    judging::said(f, n, t)
+    refusals::answer(judged.and(Ok(Counts { n, t })), n, t)
 }
 
 // Refine, in any manner, and by any way that a triangle with all three edges split becomes four: the marked triangles are split, and as many
@@ -57,6 +58,7 @@ fn bisect_by(
     refine_by(nodes, rows, scratch, marks, n0, n, t, manner, quarters).answer
 }
 
+// Stays: this call, quarter and refine_red are those of 01, W1 and W8, which README names.
 // Refine by 01: a marked triangle is cut at its refinement edge, and at others if the mesh is to stay whole.
 pub fn refine(
     nodes: &mut [i32],

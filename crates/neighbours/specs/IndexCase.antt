@@ -1,6 +1,5 @@
 -- The index, computed: document 01's S, rows (1,2,0) (3,0,2), in tables with room for four nodes and two rows. Assumes nothing.
-use Rattle.std.specs.Prelude.{◌≡◌, refl, List, [], ◌∷◌, ℕ, replicate}
-use Rattle.lists.specs.declared.Found.TheVariants.{At, Nothing}
+use Rattle.std.specs.Prelude.{◌≡◌, refl, List, [], ◌∷◌, ℕ, replicate, Some, None}
 use Rattle.lists.specs.Search.{lowest, lowest_from, iter, iter_from}
 use Rattle.meaning.specs.Tables.{row_at}
 use Rattle.tables.specs.Arrow.{arrow_at}
@@ -31,6 +30,6 @@ unfolding after rows iter iter_from join_slot
 fewer-name-3 = refl
 
 -- among the slots that name 3: 3→0 is in row 1, and past the limit of one row; 0→3 in none
-walked : row_of (lowest (passes rows 2 3 0 (named_at rows) 3) 0 6) ∷ row_of (lowest (passes rows 1 3 0 (named_at rows) 3) 0 6) ∷ row_of (lowest (passes rows 2 0 3 (named_at rows) 3) 0 6) ∷ [] ≡ At 1 ∷ Nothing ∷ Nothing ∷ []
+walked : row_of (lowest (passes rows 2 3 0 (named_at rows) 3) 0 6) ∷ row_of (lowest (passes rows 1 3 0 (named_at rows) 3) 0 6) ∷ row_of (lowest (passes rows 2 0 3 (named_at rows) 3) 0 6) ∷ [] ≡ Some 1 ∷ None ∷ None ∷ []
 unfolding rows hits arrow_at row_at lowest lowest_from
 walked = refl

@@ -63,6 +63,10 @@ pub ready-rows : (scratch rows : List ℕ) (nc t : ℕ) → Ready scratch nc row
 unfolding Ready
 ready-rows scratch rows nc t r = let a = r.enough in let b = r.holds.in_table in omega arith
 
+-- what a search carries
+pub searched : (scratch rows : List ℕ) (nc t : ℕ) → Ready scratch nc rows t → record { sized : Sized nc (length rows) (length scratch); in_table : 3 * t ≤ length rows; ready : ∥ Ready scratch nc rows t ∥₁ }
+searched s l nc t r = record { sized = ready-sized s l nc t r; in_table = ready-rows s l nc t r; ready = ∣ r ∣₁ }
+
 -- the notes do not matter
 pub ready-kept : (scratch scratch' rows : List ℕ) (nc t : ℕ) → length scratch' ≡ length scratch → drop (index_at nc (length rows)) scratch' ≡ drop (index_at nc (length rows)) scratch →
     Ready scratch nc rows t → Ready scratch' nc rows t

@@ -1,7 +1,7 @@
 -- Lists of slots in a list of numbers: for each key its highest slot and how many there are; for each slot the next higher one with the same
 -- key, and for the highest the lowest. A slot's number is one too large, and 0 is none. A slot joins at the end, so that a list rises.
 -- Assumes nothing.
-use Rattle.std.specs.Prelude.{◌≡◌, Bool, List, get_or, set}
+use Rattle.std.specs.Prelude.{◌≡◌, Bool, List, get_or, set, Option, Some, None}
 use Rattle.std.proofs.Math.Path.{refl}
 use Rattle.std.proofs.Common.{sym, ap, ◌∙◌, eqb-true, eq-eqb, ne_eqb}
 use Rattle.std.proofs.Math.Bool.{true, false}
@@ -9,8 +9,6 @@ use Prim.Native.Nat.{ℕ, zero, suc, ◌+◌, ◌-◌, ◌*◌, ◌≤◌, ◌<�
 use native.Mathlib.Omega.{arith}
 use Rattle.std.proofs.Math.Decide.{ℕ_discrete}
 use Rattle.std.proofs.Math.Dec.{eqb}
-use Rattle.lists.specs.declared.Found.{Found}
-use Rattle.lists.specs.declared.Found.TheVariants.{At, Nothing}
 use Rattle.lists.specs.Lists.{cases, suc_if, on_found}
 use Rattle.lists.specs.ListsLaw.{clash}
 use Rattle.lists.specs.Loops.{code}
@@ -30,7 +28,7 @@ many key v zero = 0
 many key v (suc n) = suc_if (eqb (key n) v) (many key v n)
 
 -- the lowest slot from i on and below n with the key v
-abbrev pub seek : (ℕ → ℕ) → ℕ → ℕ → ℕ → Found
+abbrev pub seek : (ℕ → ℕ) → ℕ → ℕ → ℕ → Option ℕ
 seek key v i n = lowest (λ j. eqb (key j) v) i n
 
 -- the next slot after k with its key, of those below n; after the highest comes the lowest
@@ -153,12 +151,12 @@ following-agree key key' k n h a =
 
 module _ (key : ℕ → ℕ) where
   -- a higher one
-  pub following-higher : (k n j : ℕ) → seek key (key k) (k + 1) n ≡ At j → following key k n ≡ j + 1
+  pub following-higher : (k n j : ℕ) → seek key (key k) (k + 1) n ≡ Some j → following key k n ≡ j + 1
   unfolding following
   following-higher k n j e = rw e
 
   -- the highest goes round
-  pub following-round : (k n : ℕ) → seek key (key k) (k + 1) n ≡ Nothing → following key k n ≡ code (seek key (key k) 0 n)
+  pub following-round : (k n : ℕ) → seek key (key k) (k + 1) n ≡ None → following key k n ≡ code (seek key (key k) 0 n)
   unfolding following
   following-round k n e = rw e
 
@@ -166,11 +164,11 @@ module _ (key : ℕ → ℕ) where
   pub following-some : (k n : ℕ) → k < n → 0 < following key k n
   following-some k n h = go (search_is (λ j. eqb (key j) (key k)) (k + 1) n (omega arith)) refl
     where
-      lowest-some : {a : Found} → From (λ j. eqb (key j) (key k)) 0 n a → 0 < code a
+      lowest-some : {a : Option ℕ} → From (λ j. eqb (key j) (key k)) 0 n a → 0 < code a
       lowest-some (nowhere m) = clash (sym (eq-eqb (key k) (key k) refl) ∙ m k (omega arith) h)
       lowest-some (there j a b y m) = omega arith
 
-      go : {a : Found} → From (λ j. eqb (key j) (key k)) (k + 1) n a → seek key (key k) (k + 1) n ≡ a → 0 < following key k n
+      go : {a : Option ℕ} → From (λ j. eqb (key j) (key k)) (k + 1) n a → seek key (key k) (k + 1) n ≡ a → 0 < following key k n
       go (nowhere m) q = rw (following-round k n q) (lowest-some (search_is (λ j. eqb (key j) (key k)) 0 n (omega arith)))
       go (there j a b y m) q = rw (following-higher k n j q) (omega arith)
 
@@ -183,7 +181,7 @@ module _ (key : ℕ → ℕ) where
   pub stays-lower : (k n t : ℕ) → k < t → t < n → key t ≡ key k → following key k (suc n) ≡ following key k n
   stays-lower k n t h l e = go (search_is (λ j. eqb (key j) (key k)) (k + 1) n (omega arith)) refl
     where
-      go : {a : Found} → From (λ j. eqb (key j) (key k)) (k + 1) n a → seek key (key k) (k + 1) n ≡ a → following key k (suc n) ≡ following key k n
+      go : {a : Option ℕ} → From (λ j. eqb (key j) (key k)) (k + 1) n a → seek key (key k) (k + 1) n ≡ a → following key k (suc n) ≡ following key k n
       go (nowhere m) q = clash (sym (eq-eqb (key t) (key k) e) ∙ m t (omega arith) l)
       go (there j a b y m) q =
           following-higher k (suc n) j (found-more (λ j. eqb (key j) (key k)) (k + 1) n j (omega arith) q) ∙ sym (following-higher k n j q)
@@ -200,7 +198,7 @@ module _ (key : ℕ → ℕ) where
       ∙ rw e (lowest-same (search_is (λ j. eqb (key j) (key t)) 0 n (omega arith)) refl)
       ∙ sym (following-round t n (none_found (λ j. eqb (key j) (key t)) (t + 1) n (omega arith) (λ j a b. none j (omega arith) b)))
     where
-      lowest-same : {a : Found} → From (λ j. eqb (key j) (key t)) 0 n a → seek key (key t) 0 n ≡ a → code (seek key (key t) 0 (suc n)) ≡ code (seek key (key t) 0 n)
+      lowest-same : {a : Option ℕ} → From (λ j. eqb (key j) (key t)) 0 n a → seek key (key t) 0 n ≡ a → code (seek key (key t) 0 (suc n)) ≡ code (seek key (key t) 0 n)
       lowest-same (nowhere m) q = clash (sym (eq-eqb (key t) (key t) refl) ∙ m t (omega arith) h)
       lowest-same (there j a b y m) q = ap code (found-more (λ j. eqb (key j) (key t)) 0 n j (omega arith) q ∙ sym q)
 

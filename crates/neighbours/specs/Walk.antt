@@ -1,7 +1,7 @@
 -- The search walks the list of one end of x→y, the rarer: its slots rise, so that the first hit is the lowest row. What is kept from turn to
 -- turn (`Walk`): the slots ahead are as many as were counted, the next of where the walk stands is the lowest of them, and the first of them
 -- that passes is the answer. Assumes nothing.
-use Rattle.std.specs.Prelude.{◌≡◌, ◌≢◌, Bool, ◌&&◌, ◌||◌, List, leb, length, get_or}
+use Rattle.std.specs.Prelude.{◌≡◌, ◌≢◌, Bool, ◌&&◌, ◌||◌, List, leb, length, get_or, Option, Some, None}
 use Rattle.std.proofs.Math.Path.{refl, ap}
 use Rattle.std.proofs.Common.{sym, ◌∙◌}
 use Rattle.std.proofs.Math.Bool.{true, false}
@@ -10,8 +10,6 @@ use native.Mathlib.Omega.{arith}
 use Rattle.std.proofs.Math.Decide.{ℕ_discrete}
 use borrow.Author.Tests.{eqb-true, eq-eqb, ltb-true, ltb-false, lt-ltb, le-ltb, le-leb, lt-leb}
 use Rattle.std.proofs.Math.Dec.{eqb, ltb}
-use Rattle.lists.specs.declared.Found.{Found}
-use Rattle.lists.specs.declared.Found.TheVariants.{At, Nothing}
 use Rattle.lists.specs.Lists.{cases}
 use Rattle.lists.specs.ListsLaw.{clash, and_left, and_right}
 use Rattle.lists.specs.PartsLaw.{not_so}
@@ -43,9 +41,9 @@ abbrev pub passes : List ℕ → ℕ → ℕ → ℕ → (ℕ → ℕ) → ℕ �
 passes rows t x y names v k = hits rows t x y k && eqb (names k) v
 
 -- the row of a slot that was found
-abbrev pub row_of : Found → Found
-row_of (At k) = At (k / 3)
-row_of Nothing = Nothing
+abbrev pub row_of : Option ℕ → Option ℕ
+row_of (Some k) = Some (k / 3)
+row_of None = None
 
 -- the walk along the list of v stands at the slot of number m, whose next is the lowest of those ahead; `ahead` says how many these are, from
 -- slot `behind` on
@@ -115,7 +113,7 @@ module _ (s : List ℕ) (nc : ℕ) (rows : List ℕ) (t x y v : ℕ) (r : Indexe
       slot-in : (j : ℕ) → j < t → arrow_at rows x y j ≡ true → (z : Slot rows j v) → z.at < r.held
       slot-in j h a z = let i = z.in_row in let e = r.enough in omega arith
 
-      go : {a : Found} → From (passes rows t x y r.names v) 0 r.held a → From (arrow_at rows x y) 0 t (row_of a)
+      go : {a : Option ℕ} → From (passes rows t x y r.names v) 0 r.held a → From (arrow_at rows x y) 0 t (row_of a)
       go (nowhere n) = nowhere (λ j l h. not_so (arrow_at rows x y j) (λ q. let z = slot_of rows x y j v w q in clash (sym (pass-slot j h q z) ∙ n z.at (omega arith) (slot-in j h q z))))
       go (there k l h here n) =
           let p = pass-row k here in
@@ -158,11 +156,11 @@ module _ (s : List ℕ) (z m a n : ℕ) (e : a ≡ m - 1) (f : n ≡ get_or s (z
 
 -- no row of the index names a node out of range
 module _ (s : List ℕ) (nc : ℕ) (rows : List ℕ) (t x y : ℕ) (r : Ready s nc rows t) where
-  outside : (v : ℕ) → EndOf x y v → nc ≤ v → Nothing ≡ lowest (arrow_at rows x y) 0 t
+  outside : (v : ℕ) → EndOf x y v → nc ≤ v → None ≡ lowest (arrow_at rows x y) 0 t
   unfolding Ready
   outside v w h = go (search_is (arrow_at rows x y) 0 t (omega arith))
     where
-      go : {g : Found} → From (arrow_at rows x y) 0 t g → Nothing ≡ g
+      go : {g : Option ℕ} → From (arrow_at rows x y) 0 t g → None ≡ g
       go (nowhere n) = refl
       go (there j a b here n) =
           let z = slot_of rows x y j v w here in
@@ -172,10 +170,10 @@ module _ (s : List ℕ) (nc : ℕ) (rows : List ℕ) (t x y : ℕ) (r : Ready s 
           let d = r.holds.in-range z.at (omega arith) in
           absurd (omega arith)
 
-  pub outside-x : nc ≤ x → Nothing ≡ lowest (arrow_at rows x y) 0 t
+  pub outside-x : nc ≤ x → None ≡ lowest (arrow_at rows x y) 0 t
   outside-x = outside x from-x
 
-  pub outside-y : nc ≤ y → Nothing ≡ lowest (arrow_at rows x y) 0 t
+  pub outside-y : nc ≤ y → None ≡ lowest (arrow_at rows x y) 0 t
   outside-y = outside y from-y
 
 pub walk_start : (s : List ℕ) (nc : ℕ) (rows : List ℕ) (t x y v o m ahead : ℕ) → Ready s nc rows t → EndOf x y v → v < nc → o ≡ index_at nc (length rows) → m ≡ get_or s (o + v) 0 →
@@ -221,7 +219,7 @@ module _ (s : List ℕ) (nc : ℕ) (rows : List ℕ) (t x y v m ahead : ℕ) (w 
   pub walk_rows : 3 * t ≤ length rows
   walk_rows = let a = w.ready.holds.in_table in let b = w.ready.enough in omega arith
 
-  pub walk_end : ahead ≡ 0 → Nothing ≡ lowest (arrow_at rows x y) 0 t
+  pub walk_end : ahead ≡ 0 → None ≡ lowest (arrow_at rows x y) 0 t
   walk_end e = ap row_of (sym (none_found (passes rows t x y w.ready.names v) w.behind w.ready.held w.within none)) ∙ w.rest
     where
       none : (j : ℕ) → w.behind ≤ j → j < w.ready.held → passes rows t x y w.ready.names v j ≡ false
@@ -240,11 +238,11 @@ module _ (s : List ℕ) (nc : ℕ) (rows : List ℕ) (t x y v m ahead : ℕ) (w 
       meets : (k : ℕ) → k ≡ get_or s (o + 2 * nc + (m - 1)) 0 - 1 → (get_or s (o + 2 * nc + (m - 1)) 0 ≢ 0) × Meets w.ready.names v w.behind w.ready.held k
       meets k h = go (search_is (λ j. eqb (w.ready.names j) v) w.behind w.ready.held w.within) refl
         where
-          go : {g : Found} → From (λ j. eqb (w.ready.names j) v) w.behind w.ready.held g → seek w.ready.names v w.behind w.ready.held ≡ g →
+          go : {g : Option ℕ} → From (λ j. eqb (w.ready.names j) v) w.behind w.ready.held g → seek w.ready.names v w.behind w.ready.held ≡ g →
               (get_or s (o + 2 * nc + (m - 1)) 0 ≢ 0) × Meets w.ready.names v w.behind w.ready.held k
           go (nowhere n) r = let c = many-stays w.ready.names v w.behind w.ready.held w.within n in let d = w.counted in absurd (u (omega arith))
           go (there j b c y n) r =
-              let d : get_or s (o + 2 * nc + (m - 1)) 0 ≡ code (At j) = rw z (w.next u ∙ ap code r) in
+              let d : get_or s (o + 2 * nc + (m - 1)) 0 ≡ code (Some j) = rw z (w.next u ∙ ap code r) in
               let i : k ≡ j = omega arith in
               (omega arith, rw i (record { from = b; below = c; has_key = y; none-lower = n }))
 
@@ -256,7 +254,7 @@ module _ (s : List ℕ) (nc : ℕ) (rows : List ℕ) (t x y v m ahead : ℕ) (w 
         met = (meets k h).1
 
         -- past the limit, as are all ahead
-        pub met-past : 3 * t ≤ k → Nothing ≡ lowest (arrow_at rows x y) 0 t
+        pub met-past : 3 * t ≤ k → None ≡ lowest (arrow_at rows x y) 0 t
         unfolding hits
         met-past l = ap row_of (sym (none_found (passes rows t x y w.ready.names v) w.behind w.ready.held w.within (λ j b c. none j b (ltb j k) refl))) ∙ w.rest
           where
@@ -265,7 +263,7 @@ module _ (s : List ℕ) (nc : ℕ) (rows : List ℕ) (t x y v m ahead : ℕ) (w 
             none j b false i = let c = ltb-false j k i in rw (le-ltb j (3 * t) (omega arith))
 
         module _ (b : Bool) (l : k < 3 * t) (g : b ≡ arrow_at rows x y (k / 3)) where
-          pub met-hit : b ≡ true → At (k / 3) ≡ lowest (arrow_at rows x y) 0 t
+          pub met-hit : b ≡ true → Some (k / 3) ≡ lowest (arrow_at rows x y) 0 t
           unfolding hits
           met-hit c =
               let n : ℕ → ℕ = w.ready.names in
@@ -303,7 +301,7 @@ module _ (s : List ℕ) (nc : ℕ) (rows : List ℕ) (t x y v m ahead : ℕ) (w 
                   let i = w.counted in
                   omega arith
 
-              next-on : ahead' ≢ 0 → {g : Found} → From (λ j. eqb (w.ready.names j) v) (k + 1) w.ready.held g → seek w.ready.names v (k + 1) w.ready.held ≡ g →
+              next-on : ahead' ≢ 0 → {g : Option ℕ} → From (λ j. eqb (w.ready.names j) v) (k + 1) w.ready.held g → seek w.ready.names v (k + 1) w.ready.held ≡ g →
                   get_or s (index_at nc (length rows) + 2 * nc + (m' - 1)) 0 ≡ code (seek w.ready.names v (suc k) w.ready.held)
               next-on d (nowhere n) r =
                   let i = counted-on in

@@ -13,7 +13,7 @@ ghost use Rattle.neighbours.specs.Ready.{Ready, named_at};
 ghost use Rattle.neighbours.specs.Walk.{rarer, EndOf};
 ghost use Rattle.neighbours.specs.Join.{InRange, Exact, is_free};
 
-use lists::Found;
+use crate::Search;
 
 // Where it begins.
 fn index_at(rows: &[u32], nc: usize) -> usize
@@ -25,18 +25,41 @@ fn index_at(rows: &[u32], nc: usize) -> usize
 
 // ---- a search
 
-// Of two nodes the one that fewer slots name.
-pub fn rarer(rows: &[u32], scratch: &[u32], nc: usize, x: u32, y: u32) -> u32
-    requires sized { Sized nc (length rows.now) (length scratch.now) }
-    requires x_lt_nc { x < nc }
-    requires y_lt_nc { y < nc }
-    ensures { result ≡ rarer scratch.now nc rows.now x y }
-{
-    let o = index_at(rows, nc);
-    if scratch[o + nc + x as usize] <= scratch[o + nc + y as usize] {
-        return x;
+impl Search<'_> {
+    // Of two nodes the one that fewer slots name.
+    pub(crate) fn rarer(self, x: u32, y: u32) -> u32
+        requires x_lt_nc { x < self.nc }
+        requires y_lt_nc { y < self.nc }
+        ensures { result ≡ rarer self.entry.scratch.now self.entry.nc self.entry.rows.now x y }
+    {
+        let many = index_at(self.rows, self.nc) + self.nc;
+        if self.scratch[many + x as usize] <= self.scratch[many + y as usize] {
+            return x;
+        }
+        y
     }
-    y
+
+    // Along the slots that name v, one end of x→y: as many turns as there are, at most. They rise, so that the first hit is the lowest row.
+    pub(crate) fn walk(self, x: u32, y: u32, v: u32) -> Option<usize>
+        requires v_lt_nc { v < self.nc }
+        requires end_of { EndOf x y v }
+        ensures { result ≡ lowest (arrow_at self.entry.rows.now x y) 0 self.entry.t }
+    {
+        let o = index_at(self.rows, self.nc);
+        let mut m = tables::note_at(self.scratch, o + v as usize);
+        let many = tables::note_at(self.scratch, o + self.nc + v as usize);
+        for _turn in 0..many {
+            let k = after(self.scratch, o + 2 * self.nc, m);
+            if k >= 3 * self.t {
+                return None;
+            }
+            if tables::edge_at(self.rows, x, y, k / 3) {
+                return Some(k / 3);
+            }
+            m = k as u32 + 1;
+        }
+        None
+    }
 }
 
 // The slot of number m.
@@ -55,30 +78,6 @@ fn after(scratch: &[u32], z: usize, m: u32) -> usize
     ensures { result ≡ get_or scratch.now (z + (m - 1)) 0 - 1 }
 {
     slot(tables::note_at(scratch, z + slot(m)))
-}
-
-// Along the slots that name v, one end of x→y: as many turns as there are, at most. They rise, so that the first hit is the lowest row.
-pub fn walk(rows: &[u32], scratch: &[u32], nc: usize, t: usize, x: u32, y: u32, v: u32) -> Found
-    requires ready { Ready scratch.now nc rows.now t }
-    requires v_lt_nc { v < nc }
-    requires end_of { EndOf x y v }
-    ensures { result ≡ lowest (arrow_at rows.now x y) 0 t }
-{
-    let o = index_at(rows, nc);
-    let mut m = tables::note_at(scratch, o + v as usize);
-    let mut ahead = tables::note_at(scratch, o + nc + v as usize);
-    while ahead != 0 {
-        let k = after(scratch, o + 2 * nc, m);
-        if k >= 3 * t {
-            return Found::Nothing;
-        }
-        if tables::edge_at(rows, x, y, k / 3) {
-            return Found::At(k / 3);
-        }
-        m = k as u32 + 1;
-        ahead -= 1;
-    }
-    Found::Nothing
 }
 
 // ---- rows join
@@ -140,10 +139,8 @@ pub fn join_slots(rows: &[u32], scratch: &mut [u32], nc: usize, from: usize, n: 
     ensures notes { take (index_at nc (length rows.now)) scratch.new ≡ take (index_at nc (length rows.now)) scratch.old }
     ensures exact { Exact scratch.new nc rows.now n }
 {
-    let mut k = from;
-    while k < n {
+    for k in from..n {
         join_slot(rows, scratch, nc, k);
-        k += 1;
     }
 }
 

@@ -6,26 +6,34 @@ ghost use Rattle.std.specs.Prelude.{◌≡◌, ◌+◌, ◌*◌, ◌≤◌, leng
 ghost use Rattle.lists.specs.Search.{lowest};
 ghost use Rattle.meaning.specs.Tables.{row_at};
 ghost use Rattle.tables.specs.Arrow.{arrow_at};
-ghost use Rattle.neighbours.specs.Sized.{index_at, Corners};
+ghost use Rattle.neighbours.specs.Sized.{Sized, index_at, Corners};
 ghost use Rattle.neighbours.specs.Ready.{Ready};
-
-use lists::Found;
 
 mod index; // index.rt: the index
 
-// The lowest of the first t rows that holds x→y. The index of these rows stands in scratch.
-pub fn find_edge(rows: &[u32], scratch: &[u32], nc: usize, t: usize, x: u32, y: u32) -> Found
-    requires { Ready scratch.now nc rows.now t }
-    ensures { result ≡ lowest (arrow_at rows.now x y) 0 t }
-{
-    if x as usize >= nc {
-        return Found::Nothing;
+// The first t rows of a table, and the index of these rows, which stands in scratch. nc is the room of nodes.
+#[derive(Clone, Copy)]
+pub struct Search<'a> {
+    pub rows: &'a [u32],
+    pub scratch: &'a [u32],
+    pub nc: usize,
+    pub t: usize,
+    ghost sized: { Sized nc (length rows.now) (length scratch.now) },
+    ghost in_table: { 3 * t ≤ length rows.now },
+    ghost ready: { ∥ Ready scratch.now nc rows.now t ∥₁ },
+}
+
+impl Search<'_> {
+    // The lowest row that holds x→y.
+    pub fn find_edge(self, x: u32, y: u32) -> Option<usize>
+        ensures { result ≡ lowest (arrow_at self.entry.rows.now x y) 0 self.entry.t }
+    {
+        if (x as usize >= self.nc) || (y as usize >= self.nc) {
+            return None;
+        }
+        let v = self.rarer(x, y);
+        self.walk(x, y, v)
     }
-    if y as usize >= nc {
-        return Found::Nothing;
-    }
-    let v = index::rarer(rows, scratch, nc, x, y);
-    index::walk(rows, scratch, nc, t, x, y, v)
 }
 
 // Row i joins the index, which holds the rows below it. No note changes. Where rows that were cut off are still in, it is made anew.

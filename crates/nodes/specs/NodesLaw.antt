@@ -1,21 +1,14 @@
 -- The code's turns, in the form of their needs. Assumes nothing.
-use Rattle.std.specs.Prelude.{◌≡◌, refl, Bool, true, false, not, ◌&&◌, ◌||◌, List, ℕ, suc, ◌+◌, ◌*◌, ◌≤◌, ◌/◌, eqb, length, ℤ, pos, negsuc, nat_abs, ◌+ℤ◌, ◌-ℤ◌, ◌≤ℤ◌}
-use Rattle.std.proofs.Common.{sym, ap, ◌∙◌, subst, arith, eq-eqb, ne_eqb}
+use Rattle.std.specs.Prelude.{◌≡◌, refl, Bool, true, false, not, ◌&&◌, List, ℕ, suc, ◌+◌, ◌*◌, ◌≤◌, ◌/◌, eqb, length, ℤ, pos, negsuc, nat_abs, ◌+ℤ◌}
+use Rattle.std.proofs.Common.{sym, ap, ◌∙◌, subst, arith}
 use Rattle.std.proofs.Math.Decide.{ℕ_discrete}
-use Rattle.std.specs.Int.Signed.{lt_z, quot_z}
-use Rattle.whole.specs.Bound.{abs-add, abs_neg, absℤ}
-use Rattle.whole.specs.Diff.{onℤ}
-use Rattle.whole.specs.Half.{half-below}
-use Rattle.whole.specs.Tests.{tests}
+use Rattle.whole.specs.Bound.{abs-add, abs_neg}
 use Rattle.lists.specs.Lists.{cases}
-use Rattle.meaning.specs.declared.Correction.{Correction}
 use Rattle.meaning.specs.declared.Node.{Node}
 use Rattle.meaning.specs.declared.Place.{Place}
 use Rattle.meaning.specs.declared.Tri.{Tri}
-use Rattle.meaning.specs.Mesh.{place, correction, node}
-use Rattle.meaning.specs.Lawful.{InRange, InBounds, NodeInRange}
-use Rattle.meaning.specs.Rounding.{floor}
-use Rattle.meaning.specs.Split.{even, half, mean}
+use Rattle.meaning.specs.Lawful.{InRange, NodeInRange}
+use Rattle.meaning.specs.Split.{even, half}
 use Rattle.meaning.specs.Tables.{node_at, place_at, row_at}
 use Rattle.laws.specs.Mean.{mean-bounds}
 use Rattle.laws.specs.Meshes.{Stands, Standing}
@@ -24,17 +17,13 @@ use Rattle.tables.specs.PutLaw.{nodes-table}
 use Rattle.notes.specs.declared.Note.{Note}
 use Rattle.notes.specs.Notes.{note_at, own_m, own_u, own_v}
 use Rattle.notes.specs.Met.{after}
-use Rattle.nodes.specs.Nodes.{Near, even_between, middle_of, between, odd_split, odd_row, odd_at, place_edge, place_three, place_row}
+use Rattle.nodes.specs.Nodes.{Near, even_between, middle_of, between, odd_split, place_edge, place_three, place_row}
 
 -- ---- midpoints
 
 pub even_is : (a b : Place) (r s : Bool) → r ≡ even (a.x +ℤ b.x) → s ≡ even (a.y +ℤ b.y) → r && s ≡ even_between a b
 unfolding even_between
 even_is a b r s p q = rw (p, q)
-
-pub middle-made : (a b : Place) (x y : ℤ) → x ≡ half (a.x +ℤ b.x) → y ≡ half (a.y +ℤ b.y) → place x y ≡ middle_of a b
-unfolding middle_of
-middle-made a b x y p q = rw (p, q)
 
 -- the midpoint of two places in range is in range
 half-near : (z : ℤ) → nat_abs z ≤ 2_097_152 → nat_abs (half z) ≤ 1_048_576
@@ -50,34 +39,8 @@ middle-range a b p q = record {
 
 -- ---- means
 
--- the code's two ways to a half
-pub half-down-below : (z : ℤ) → lt_z z (pos 0) ≡ true → quot_z (z -ℤ pos 1) (pos 2) ≡ floor z (pos 2)
-half-down-below (pos n) e = absurd (omega (arith, onℤ, tests))
-half-down-below (negsuc n) e = half-below n
-
-pub half-down-from : (z : ℤ) → lt_z z (pos 0) ≡ false → quot_z z (pos 2) ≡ floor z (pos 2)
-half-down-from (pos n) e = refl
-half-down-from (negsuc n) e = absurd (omega (arith, onℤ, tests))
-
--- the parts of a correction in its range
-bounded-near : (z : ℤ) → negsuc 32_767 ≤ℤ z → z ≤ℤ pos 32_767 → Near 32_768 z
-bounded-near z a b = record { near = omega (arith, onℤ, absℤ z) }
-
-pub dx-near : (c : Correction) → InBounds c → Near 32_768 c.dx
-dx-near c b = bounded-near c.dx b.dx-from b.dx-to
-
-pub dy-near : (c : Correction) → InBounds c → Near 32_768 c.dy
-dy-near c b = bounded-near c.dy b.dy-from b.dy-to
-
 pub sum_near : (x y : ℤ) → Near 32_768 x → Near 32_768 y → Near 65_536 (x +ℤ y)
 sum_near x y a b = record { near = abs-add x y a.near b.near }
-
-pub mean-made : (c d : Correction) (x y : ℤ) → x ≡ floor (c.dx +ℤ d.dx) (pos 2) → y ≡ floor (c.dy +ℤ d.dy) (pos 2) → correction x y ≡ mean c d
-mean-made c d x y p q = rw (p, q)
-
-pub between-made : (a b : Node) (p : Place) (c : Correction) → p ≡ middle_of a.place b.place → c ≡ mean a.correction b.correction → node p c ≡ between a b
-unfolding between
-between-made a b p c e d = rw (e, d)
 
 -- the node between two nodes in range is in range
 between-range : (a b : Node) → NodeInRange a → NodeInRange b → NodeInRange (between a b)
@@ -88,9 +51,6 @@ between-range a b p q = record {
 }
 
 -- ---- corners
-
-pub node-range-of : (nodes : List ℤ) (x : ℕ) (a : Node) → a ≡ node_at nodes x → Stands nodes x → NodeInRange a
-node-range-of nodes x a e c = subst NodeInRange (sym e) c.range
 
 -- a node in range that is put keeps every corner
 stands-put : (nodes : List ℤ) (k j : ℕ) (a : Node) → NodeInRange a → Stands nodes j → Stands (set_node nodes k a) j
@@ -139,21 +99,7 @@ pub odd_is : (nodes : List ℤ) (on x y : ℕ) (a b : Place) (r : Bool) → a �
 unfolding odd_split
 odd_is nodes on x y a b r p q e = rw (← p, ← q, e)
 
-pub odd-row-is : (nodes : List ℤ) (l s : List ℕ) (i : ℕ) (w : Tri) (c : Note) (a b d : Bool) → w ≡ row_at l i → c ≡ note_at s i →
-    a ≡ odd_split nodes c.m w.q w.r → b ≡ odd_split nodes c.u w.p w.q → d ≡ odd_split nodes c.v w.r w.p → a || b || d ≡ odd_at nodes l s i
-unfolding odd_at odd_row
-odd-row-is nodes l s i w c a b d p q x y z = rw (← p, ← q, x, y, z)
-
 -- ---- the new nodes
-
-pub place-yes : (nodes nodes' : List ℤ) (fst k x y : ℕ) (a b m : Node) → fst ≡ 1 → a ≡ node_at nodes x → b ≡ node_at nodes y → m ≡ between a b → nodes' ≡ set_node nodes k m →
-    nodes' ≡ place_edge fst k x y nodes
-unfolding place_edge
-place-yes nodes nodes' fst k x y a b m e p q r f = rw (eq-eqb fst 1 e, ← p, ← q, ← r) f
-
-pub place-no : (nodes : List ℤ) (fst k x y : ℕ) → (fst ≡ 1 → ⊥) → nodes ≡ place_edge fst k x y nodes
-unfolding place_edge
-place-no nodes fst k x y e = rw (ne_eqb fst 1 e)
 
 pub three-is : (n : ℕ) (w : Tri) (c : Note) (nodes m₁ m₂ m : List ℤ) (a b d : ℕ) →
     a ≡ own_m n c → m₁ ≡ place_edge c.fm a w.q w.r nodes →

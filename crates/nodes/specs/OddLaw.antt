@@ -1,10 +1,10 @@
 -- A row with an odd split edge is found exactly where a split edge has no exact midpoint: document 01's number 8. Assumes nothing.
-use Rattle.std.specs.Prelude.{◌≡◌, refl, Bool, true, false, ◌&&◌, ℕ, ◌<◌, eqb, ℤ}
+use Rattle.std.specs.Prelude.{◌≡◌, refl, Bool, true, false, ◌&&◌, ℕ, ◌<◌, eqb, ℤ, is_some}
 use Rattle.std.proofs.Math.Path.{sym}
 use Rattle.std.proofs.Common.{◌∙◌, eqb-true}
 use Rattle.std.proofs.Math.Bool.{not}
 use mathlib.Core.List.{List}
-use Rattle.lists.specs.Lists.{is_found, all, any, only, once, joined}
+use Rattle.lists.specs.Lists.{all, any, only, once, joined}
 use Rattle.lists.specs.ListsLaw.{and_left, and_right}
 use Rattle.lists.specs.Search.{lowest, items}
 use Rattle.lists.specs.SearchLaw.{or-three, lowest-any}
@@ -47,7 +47,7 @@ module _ (nodes : List ℤ) (n : ℕ) (m : Mesh) (same : (k : ℕ) → k < n →
       rw (a, b)
 
   pub odd-found : (l s : List ℕ) (t : ℕ) → ((i : ℕ) → i < t → Corners n (row_at l i)) → ((i : ℕ) → i < t → Says f (row_at l i) (note_at s i)) →
-      is_found (lowest (odd_at nodes l s) 0 t) ≡ not (all (halves m) (once same_edge (only f (joined edges (items (row_at l) 0 t)))))
+      is_some (lowest (odd_at nodes l s) 0 t) ≡ not (all (halves m) (once same_edge (only f (joined edges (items (row_at l) 0 t)))))
   unfolding odd_at
   odd-found l s t corners says =
       let ts : List Tri = items (row_at l) 0 t in

@@ -12,9 +12,9 @@ ghost use Rattle.notes.specs.Notes.{Short, note_at};
 ghost use Rattle.notes.specs.Met.{after};
 ghost use Rattle.nodes.specs.Nodes.{Near, even_between, middle_of, between, odd_split, odd_at, place_edge, place_three, place_row};
 
-use lists::Found;
 use meaning::{Correction, Node, Place, Tri};
 use notes::Note;
+use tables::Mesh;
 
 // ---- midpoints
 
@@ -23,10 +23,7 @@ fn even_sum(a: i32, b: i32) -> bool
     requires { Near 1_048_576 a × Near 1_048_576 b }
     ensures { result ≡ even (a +ℤ b) }
 {
-    if (a + b) % 2 == 0 {
-        return true;
-    }
-    false
+    (a + b) % 2 == 0
 }
 
 fn half_sum(a: i32, b: i32) -> i32
@@ -41,7 +38,7 @@ fn even_between(a: Place, b: Place) -> bool
     requires { InRange a × InRange b }
     ensures { result ≡ even_between a b }
 {
-    even_sum(a.x, b.x) & even_sum(a.y, b.y)
+    even_sum(a.x, b.x) && even_sum(a.y, b.y)
 }
 
 // It is exact where there is one.
@@ -49,29 +46,20 @@ fn middle(a: Place, b: Place) -> Place
     requires { InRange a × InRange b }
     ensures { result ≡ middle_of a b }
 {
-    let x = half_sum(a.x, b.x);
-    let y = half_sum(a.y, b.y);
-    Place { x: x, y: y }
+    Place {
+        x: half_sum(a.x, b.x),
+        y: half_sum(a.y, b.y),
+    }
 }
 
 // ---- means
 
-// Half, rounded down: a quotient is rounded toward 0.
-fn half_down(s: i32) -> i32
-    requires { Near 65_536 s }
-    ensures { result ≡ floor s (pos 2) }
-{
-    if s < 0 {
-        return (s - 1) / 2;
-    }
-    s / 2
-}
-
+// Rounded down.
 fn mean_of(a: i32, b: i32) -> i32
     requires { Near 32_768 a × Near 32_768 b }
     ensures { result ≡ floor (a +ℤ b) (pos 2) }
 {
-    half_down(a + b)
+    (a + b).div_euclid(2)
 }
 
 // W5: the mean of two corrections, rounded down.
@@ -79,9 +67,10 @@ fn mean(c: Correction, d: Correction) -> Correction
     requires { InBounds c × InBounds d }
     ensures { result ≡ mean c d }
 {
-    let dx = mean_of(c.dx, d.dx);
-    let dy = mean_of(c.dy, d.dy);
-    Correction { dx: dx, dy: dy }
+    Correction {
+        dx: mean_of(c.dx, d.dx),
+        dy: mean_of(c.dy, d.dy),
+    }
 }
 
 // The node of a split edge: in the middle of its ends, with the mean of their corrections.
@@ -89,9 +78,10 @@ fn between(a: Node, b: Node) -> Node
     requires { NodeInRange a × NodeInRange b }
     ensures { result ≡ between a b }
 {
-    let place = middle(a.place, b.place);
-    let correction = mean(a.correction, b.correction);
-    Node { place, correction }
+    Node {
+        place: middle(a.place, b.place),
+        correction: mean(a.correction, b.correction),
+    }
 }
 
 // ---- 8: an edge to be split has an odd sum of x or of y
@@ -101,39 +91,29 @@ fn odd_split(nodes: &[i32], on: u32, x: u32, y: u32) -> bool
     requires { Stands nodes.now x × Stands nodes.now y }
     ensures { result ≡ odd_split nodes.now on x y }
 {
-    let a = tables::corner(nodes, x);
-    let b = tables::corner(nodes, y);
-    (on != 0) & !even_between(a, b)
+    on != 0 && !even_between(tables::corner(nodes, x), tables::corner(nodes, y))
 }
 
-fn odd_at(nodes: &[i32], rows: &[u32], scratch: &[u32], i: usize) -> bool
-    requires i_in_bounds { 3 * i + 3 ≤ length rows.now }
-    requires i_in_bounds_2 { i < length scratch.now }
-    requires standing { Standing nodes.now (row_at rows.now i) }
-    ensures { result ≡ odd_at nodes.now rows.now scratch.now i }
+fn odd_at(mesh: Mesh, scratch: &[u32], i: usize) -> bool
+    requires i_lt_t { i < mesh.t }
+    requires i_in_bounds { i < length scratch.now }
+    requires standing { Standing mesh.nodes.now (row_at mesh.rows.now i) }
+    ensures { result ≡ odd_at mesh.entry.nodes.now mesh.entry.rows.now scratch.now i }
 {
-    let w = tables::row_at(rows, i);
+    let w = mesh.row(i);
     let c = notes::note_at(scratch, i);
-    odd_split(nodes, c.m, w.q, w.r)
-        | odd_split(nodes, c.u, w.p, w.q)
-        | odd_split(nodes, c.v, w.r, w.p)
+    odd_split(mesh.nodes, c.m, w.q, w.r)
+        || odd_split(mesh.nodes, c.u, w.p, w.q)
+        || odd_split(mesh.nodes, c.v, w.r, w.p)
 }
 
 // The lowest row with a split edge that has no exact midpoint.
-pub fn find_odd(nodes: &[i32], rows: &[u32], scratch: &[u32], t: usize) -> Found
-    requires t_in_bounds { 3 * t ≤ length rows.now }
-    requires t_in_bounds_2 { t ≤ length scratch.now }
-    requires by_index { (i : ℕ) → i < t → Standing nodes.now (row_at rows.now i) }
-    ensures { result ≡ lowest (odd_at nodes.now rows.now scratch.now) 0 t }
+pub fn find_odd(mesh: Mesh, scratch: &[u32]) -> Option<usize>
+    requires t_in_bounds { mesh.t ≤ length scratch.now }
+    requires by_index { (i : ℕ) → i < mesh.t → Standing mesh.nodes.now (row_at mesh.rows.now i) }
+    ensures { result ≡ lowest (odd_at mesh.entry.nodes.now mesh.entry.rows.now scratch.now) 0 mesh.entry.t }
 {
-    let mut i = 0;
-    while i < t {
-        if odd_at(nodes, rows, scratch, i) {
-            return Found::At(i);
-        }
-        i += 1;
-    }
-    Found::Nothing
+    (0..mesh.t).find(|&i| odd_at(mesh, scratch, i))
 }
 
 // ---- the new nodes
@@ -144,12 +124,11 @@ fn place_edge(nodes: &mut [i32], first: u32, at: u32, x: u32, y: u32)
     requires first_in_bounds { 4 * (at + first) ≤ length nodes.old }
     ensures { nodes.new ≡ place_edge first at x y nodes.old }
 {
-    if first != 1 {
-        return;
+    if first == 1 {
+        let a = tables::node_at(nodes, x as usize);
+        let b = tables::node_at(nodes, y as usize);
+        tables::put_node(nodes, at as usize, between(a, b));
     }
-    let a = tables::node_at(nodes, x as usize);
-    let b = tables::node_at(nodes, y as usize);
-    tables::put_node(nodes, at as usize, between(a, b));
 }
 
 fn place_three(nodes: &mut [i32], w: Tri, c: Note, n: u32)
@@ -159,9 +138,9 @@ fn place_three(nodes: &mut [i32], w: Tri, c: Note, n: u32)
     requires c_in_bounds { 4 * after n c ≤ length nodes.old }
     ensures { nodes.new ≡ place_three n w c nodes.old }
 {
-    place_edge(nodes, c.fm, notes::own_m(n, c), w.q, w.r);
-    place_edge(nodes, c.fu, notes::own_u(n, c), w.p, w.q);
-    place_edge(nodes, c.fv, notes::own_v(n, c), w.r, w.p);
+    place_edge(nodes, c.fm, c.own_m(n), w.q, w.r);
+    place_edge(nodes, c.fu, c.own_u(n), w.p, w.q);
+    place_edge(nodes, c.fv, c.own_v(n), w.r, w.p);
 }
 
 fn place_row(nodes: &mut [i32], rows: &[u32], scratch: &[u32], n: u32, i: usize)
@@ -186,9 +165,7 @@ pub fn place_nodes(nodes: &mut [i32], rows: &[u32], scratch: &[u32], n: u32, t: 
     requires by_index_2 { (i : ℕ) → i < t → 4 * after n (note_at scratch.now i) ≤ length nodes.old }
     ensures { nodes.new ≡ iter (place_row n rows.now scratch.now) 0 t nodes.old }
 {
-    let mut i = 0;
-    while i < t {
+    for i in 0..t {
         place_row(nodes, rows, scratch, n, i);
-        i += 1;
     }
 }

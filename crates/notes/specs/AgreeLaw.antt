@@ -1,9 +1,7 @@
 -- The numbers of row i are read from the rows up to it: tables that agree there say the same. Assumes nothing.
-use Rattle.std.specs.Prelude.{◌≡◌, List, ℕ, ◌<◌, eqb}
+use Rattle.std.specs.Prelude.{◌≡◌, List, ℕ, ◌<◌, eqb, Option, Some, None}
 use Rattle.std.proofs.Math.Path.{refl, ap}
 use Rattle.std.proofs.Common.{◌∙◌}
-use Rattle.lists.specs.declared.Found.{Found}
-use Rattle.lists.specs.declared.Found.TheVariants.{At, Nothing}
 use Rattle.lists.specs.Lists.{cases}
 use Rattle.lists.specs.Search.{lowest}
 use Rattle.lists.specs.SearchLaw.{lowest-below, lowest-agree}
@@ -25,10 +23,10 @@ module _ (n : ℕ) (l l' s : List ℕ) (i : ℕ) (h : (j : ℕ) → j < i → ro
       ap (λ f. on_found f (λ j. own_on n (row_at l j) (note_at s j) y x) 0) (lowest-agree (arrow_at l y x) (arrow_at l' y x) i (arrows-agree y x))
       ∙ go (lowest (arrow_at l' y x) 0 i) refl
     where
-      go : (f : Found) → lowest (arrow_at l' y x) 0 i ≡ f →
+      go : (f : Option ℕ) → lowest (arrow_at l' y x) 0 i ≡ f →
           on_found f (λ j. own_on n (row_at l j) (note_at s j) y x) 0 ≡ on_found f (λ j. own_on n (row_at l' j) (note_at s j) y x) 0
-      go (At j) g = ap (λ r. own_on n r (note_at s j) y x) (h j (lowest-below (arrow_at l' y x) i j g))
-      go Nothing g = refl
+      go (Some j) g = ap (λ r. own_on n r (note_at s j) y x) (h j (lowest-below (arrow_at l' y x) i j g))
+      go None g = refl
 
   for-agree : (x y on fst own : ℕ) → mid_for n l s i on fst own x y ≡ mid_for n l' s i on fst own x y
   unfolding mid_for

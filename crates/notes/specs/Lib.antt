@@ -3,3 +3,4 @@ pub mod NotesLaw
 pub mod AgreeLaw
 pub mod Met
 pub mod MetLaw
+pub mod Steps

@@ -1,6 +1,5 @@
 -- The notes of refine, one number a row, and the numbers of the new nodes that they say. Assumes nothing.
-use Rattle.std.specs.Prelude.{◌&&◌, List, ℕ, ◌+◌, ◌*◌, ◌/◌, ◌%◌, ◌≤◌, eqb, get_or}
-use Rattle.std.proofs.Math.Option.{Option, none, some}
+use Rattle.std.specs.Prelude.{◌&&◌, List, ℕ, ◌+◌, ◌*◌, ◌/◌, ◌%◌, ◌≤◌, eqb, get_or, Option, None, Some}
 use Rattle.lists.specs.Lists.{cases}
 use Rattle.lists.specs.Search.{lowest}
 use Rattle.meaning.specs.declared.Tri.{Tri}
@@ -94,8 +93,8 @@ mids_at n l s i = mids_by n l s i (row_at l i) (note_at s i)
 -- ---- the same by document 01's numbers: 0 for an edge that is not split
 
 abbrev pub or_zero : Option ℕ → ℕ
-or_zero none = 0
-or_zero (some k) = k
+or_zero None = 0
+or_zero (Some k) = k
 
 abbrev pub num : ℕ → List Edge → Edge → ℕ
 num n es e = or_zero (number_of n es e)

@@ -1,15 +1,13 @@
 -- What is packed is read back; the parts in the form of needs. Assumes nothing.
-use Rattle.std.specs.Prelude.{◌≡◌, true, false, ◌&&◌, List, ℕ, ◌+◌, ◌*◌, ◌≤◌, ◌<◌, eqb, length, get_or}
-use Rattle.std.proofs.Common.{sym, ap, ◌∙◌, arith}
+use Rattle.std.specs.Prelude.{◌≡◌, ◌⊎◌, false, ◌&&◌, List, ℕ, ◌+◌, ◌*◌, ◌≤◌, ◌<◌, eqb, length, get_or, Option, Some, None}
+use Rattle.std.proofs.Common.{sym, ap, ◌∙◌, inl, inr, arith}
 use borrow.Author.Tests.{eq-eqb, ne_eqb}
-use Rattle.lists.specs.declared.Found.{Found}
-use Rattle.lists.specs.declared.Found.TheVariants.{At, Nothing}
 use Rattle.lists.specs.Search.{lowest}
 use Rattle.lists.specs.SearchLaw.{lowest-below}
 use Rattle.meaning.specs.declared.Tri.{Tri}
 use Rattle.meaning.specs.Tables.{row_at}
 use Rattle.tables.specs.Arrow.{arrow_at}
-use Rattle.neighbours.specs.Ready.{Ready, ready-sized, ready-rows}
+use Rattle.neighbours.specs.Sized.{Sized}
 use Rattle.notes.specs.Notes.{Note, note, packed, unpacked, Bits, Tight, note_at, own_m, own_u, own_v, on_arrow, own_on, across, mid_for, mids, mids_at}
 
 note-path : (x : Note) (a b c d e f k : ℕ) → a ≡ x.m → b ≡ x.u → c ≡ x.v → d ≡ x.fm → e ≡ x.fu → f ≡ x.fv → k ≡ x.before → note a b c d e f k ≡ x
@@ -26,41 +24,46 @@ pub note-read : (s : List ℕ) (i v : ℕ) (r : Note) → v ≡ get_or s i 0 →
 unfolding note_at
 note-read s i v r e f = f ∙ ap unpacked e
 
+-- one of two pairs differs
+abbrev Differ : ℕ → ℕ → ℕ → ℕ → Type 0
+Differ a x b y = ((a ≡ x) × (b ≡ y → ⊥)) ⊎ (a ≡ x → ⊥)
+
+not-arrow : (a x b y : ℕ) → Differ a x b y → eqb a x && eqb b y ≡ false
+not-arrow a x b y (inl (e, f)) = rw (eq-eqb a x e, ne_eqb b y f)
+not-arrow a x b y (inr f) = rw (ne_eqb a x f)
+
 module _ (w : Tri) (x y a b c : ℕ) where
-  pub on-m : eqb w.q x && eqb w.r y ≡ true → a ≡ on_arrow w x y a b c
+  pub on-m : w.q ≡ x → w.r ≡ y → a ≡ on_arrow w x y a b c
   unfolding on_arrow
-  on-m e = rw e
+  on-m e f = rw (eq-eqb w.q x e, eq-eqb w.r y f)
 
-  pub on-u : eqb w.q x && eqb w.r y ≡ false → eqb w.p x && eqb w.q y ≡ true → b ≡ on_arrow w x y a b c
+  pub on-u : Differ w.q x w.r y → w.p ≡ x → w.q ≡ y → b ≡ on_arrow w x y a b c
   unfolding on_arrow
-  on-u e f = rw (e, f)
+  on-u d e f = rw (not-arrow w.q x w.r y d, eq-eqb w.p x e, eq-eqb w.q y f)
 
-  pub on-v : eqb w.q x && eqb w.r y ≡ false → eqb w.p x && eqb w.q y ≡ false → c ≡ on_arrow w x y a b c
+  pub on-v : Differ w.q x w.r y → Differ w.p x w.q y → c ≡ on_arrow w x y a b c
   unfolding on_arrow
-  on-v e f = rw (e, f)
+  on-v d e = rw (not-arrow w.q x w.r y d, not-arrow w.p x w.q y e)
 
 pub ruleset picked = (on-m, on-u, on-v)
 
-pub own-on-is : (n : ℕ) (w : Tri) (c : Note) (x y a b d r : ℕ) → a ≡ own_m n c → b ≡ own_u n c → d ≡ own_v n c → r ≡ on_arrow w x y a b d → r ≡ own_on n w c x y
-own-on-is n w c x y a b d r e f g h = rw (← g, ← f, ← e) h
-
 -- a row that was found among the rows in the index is in the table, and its note in scratch
-module _ (s l : List ℕ) (nc t j : ℕ) (f : Found) (x y : ℕ) (a : Ready s nc l t) (e : f ≡ lowest (arrow_at l x y) 0 t) (g : f ≡ At j) where
+module _ (s l : List ℕ) (nc t j : ℕ) (f : Option ℕ) (x y : ℕ) (z : Sized nc (length l) (length s)) (k : 3 * t ≤ length l) (e : f ≡ lowest (arrow_at l x y) 0 t) (g : f ≡ Some j) where
   pub row-found : 3 * j + 3 ≤ length l
-  row-found = let h = lowest-below (arrow_at l x y) t j (sym e ∙ g) in let k = ready-rows s l nc t a in omega arith
+  row-found = let h = lowest-below (arrow_at l x y) t j (sym e ∙ g) in omega arith
 
   pub note-found : j < length s
-  note-found = let h = row-found in let z = ready-sized s l nc t a in omega arith
+  note-found = let h = row-found in omega (arith, z.scratch)
 
-pub row-note : (s l : List ℕ) (nc i : ℕ) → Ready s nc l i → 3 * i + 3 ≤ length l → i < length s
-row-note s l nc i a b = let z = ready-sized s l nc i a in omega arith
+pub row-note : (s l : List ℕ) (nc i : ℕ) → Sized nc (length l) (length s) → 3 * i + 3 ≤ length l → i < length s
+row-note s l nc i z b = omega (arith, z.scratch)
 
-module _ (n : ℕ) (l s : List ℕ) (i x y : ℕ) (f : Found) (e : f ≡ lowest (arrow_at l y x) 0 i) where
-  pub across-at : (j r : ℕ) (w : Tri) (c : Note) → f ≡ At j → w ≡ row_at l j → c ≡ note_at s j → r ≡ own_on n w c y x → r ≡ across n l s i x y
+module _ (n : ℕ) (l s : List ℕ) (i x y : ℕ) (f : Option ℕ) (e : f ≡ lowest (arrow_at l y x) 0 i) where
+  pub across-at : (j r : ℕ) (w : Tri) (c : Note) → f ≡ Some j → w ≡ row_at l j → c ≡ note_at s j → r ≡ own_on n w c y x → r ≡ across n l s i x y
   unfolding across
   across-at j r w c g p q h = h ∙ rw (p, q, ← e, g)
 
-  pub across-none : f ≡ Nothing → 0 ≡ across n l s i x y
+  pub across-none : f ≡ None → 0 ≡ across n l s i x y
   unfolding across
   across-none g = rw (← e, g)
 

@@ -6,12 +6,13 @@ ghost use Rattle.std.specs.Prelude.{◌≡◌, ◌+◌, ◌*◌, ◌≤◌, ◌<
 ghost use Rattle.neighbours.specs.Ready.{Ready};
 ghost use Rattle.notes.specs.Notes.{Tight, Short, packed, unpacked, note_at, own_m, own_u, own_v, on_arrow, own_on, split_on, across, mid_for, mids_at};
 
-use lists::Found;
 use meaning::{Mids, Tri};
+use neighbours::Search;
 
 // 1 where q-r, p-q, r-p is split, and 1 where it is split and first met in this row; before: how many new nodes are first met in lower
 // rows.
-#[derive(Clone, Copy)]
+// Stays: numbers of 0 and 1 and no bools, since `packed` and `own_v` add them up.
+#[derive(Clone, Copy, Default)]
 pub struct Note {
     pub m: u32,
     pub u: u32,
@@ -22,11 +23,70 @@ pub struct Note {
     pub before: u32,
 }
 
-pub fn pack(x: Note) -> u32
-    requires { Tight x }
-    ensures { result ≡ packed x }
+impl Note {
+    pub fn pack(self) -> u32
+        requires { Tight self }
+        ensures { result ≡ packed self }
+    {
+        let split = self.m + 2 * self.u + 4 * self.v;
+        let first = self.fm + 2 * self.fu + 4 * self.fv;
+        split + 8 * first + 64 * self.before
+    }
+
+    // ---- the numbers of the nodes that the row numbers itself, from n on
+
+    pub fn own_m(self, n: u32) -> u32
+        requires n_bound { n ≤ 65_536 }
+        requires short { Short self }
+        ensures { result ≡ own_m n self }
+    {
+        n + self.before
+    }
+
+    pub fn own_u(self, n: u32) -> u32
+        requires n_bound { n ≤ 65_536 }
+        requires short { Short self }
+        ensures { result ≡ own_u n self }
+    {
+        self.own_m(n) + self.fm
+    }
+
+    pub fn own_v(self, n: u32) -> u32
+        requires n_bound { n ≤ 65_536 }
+        requires short { Short self }
+        ensures { result ≡ own_v n self }
+    {
+        self.own_u(n) + self.fu
+    }
+
+    // The node that row w with this note numbered on its own arrow x→y.
+    fn own_on(self, n: u32, w: Tri, x: u32, y: u32) -> u32
+        requires n_bound { n ≤ 65_536 }
+        requires short { Short self }
+        ensures { result ≡ own_on n w self x y }
+    {
+        on_arrow(w, x, y, self.own_m(n), self.own_u(n), self.own_v(n))
+    }
+
+    // 1 where this note of row w says that its arrow x→y is split.
+    pub fn split_on(self, w: Tri, x: u32, y: u32) -> u32
+        ensures { result ≡ split_on w self x y }
+    {
+        on_arrow(w, x, y, self.m, self.u, self.v)
+    }
+}
+
+// Of three numbers, for q-r, p-q and r-p of row w, the one for its arrow x→y.
+fn on_arrow(w: Tri, x: u32, y: u32, a: u32, b: u32, c: u32) -> u32
+    ensures { result ≡ on_arrow w x y a b c }
 {
-    (((((x.before * 2 + x.fv) * 2 + x.fu) * 2 + x.fm) * 2 + x.v) * 2 + x.u) * 2 + x.m
+    if w.q == x && w.r == y {
+        a
+    } else if w.p == x && w.q == y {
+        b
+    } else {
+        c
+    }
 }
 
 fn unpack(c: u32) -> Note
@@ -53,113 +113,46 @@ pub fn note_at(scratch: &[u32], i: usize) -> Note
     unpack(tables::note_at(scratch, i))
 }
 
-// ---- the numbers of the nodes that a row numbers itself, from n on
+// ---- the numbers of all new nodes of a row, which comes after those of the search
 
-pub fn own_m(n: u32, c: Note) -> u32
+// The node on the edge x-y that a lower row numbered; 0 if there is no such row.
+fn across(search: Search, n: u32, x: u32, y: u32) -> u32
     requires n_bound { n ≤ 65_536 }
-    requires short { Short c }
-    ensures { result ≡ own_m n c }
+    requires t_in_bounds { 3 * search.t + 3 ≤ length search.rows.now }
+    ensures { result ≡ across n search.entry.rows.now search.entry.scratch.now search.entry.t x y }
 {
-    n + c.before
+    let Some(j) = search.find_edge(y, x) else {
+        return 0;
+    };
+    let w = tables::row_at(search.rows, j);
+    let c = note_at(search.scratch, j);
+    c.own_on(n, w, y, x)
 }
 
-pub fn own_u(n: u32, c: Note) -> u32
+fn mid_for(search: Search, n: u32, on: u32, first: u32, own: u32, x: u32, y: u32) -> u32
     requires n_bound { n ≤ 65_536 }
-    requires short { Short c }
-    ensures { result ≡ own_u n c }
-{
-    n + c.before + c.fm
-}
-
-pub fn own_v(n: u32, c: Note) -> u32
-    requires n_bound { n ≤ 65_536 }
-    requires short { Short c }
-    ensures { result ≡ own_v n c }
-{
-    n + c.before + c.fm + c.fu
-}
-
-// Of three numbers, for q-r, p-q and r-p of row w, the one for its arrow x→y.
-fn on_arrow(w: Tri, x: u32, y: u32, a: u32, b: u32, c: u32) -> u32
-    ensures { result ≡ on_arrow w x y a b c }
-{
-    if (w.q == x) & (w.r == y) {
-        return a;
-    }
-    if (w.p == x) & (w.q == y) {
-        return b;
-    }
-    c
-}
-
-// The node that row w with note c numbered on its own arrow x→y.
-fn own_on(n: u32, w: Tri, c: Note, x: u32, y: u32) -> u32
-    requires n_bound { n ≤ 65_536 }
-    requires short { Short c }
-    ensures { result ≡ own_on n w c x y }
-{
-    on_arrow(w, x, y, own_m(n, c), own_u(n, c), own_v(n, c))
-}
-
-// 1 where the note c of row w says that its arrow x→y is split.
-pub fn split_on(w: Tri, c: Note, x: u32, y: u32) -> u32
-    ensures { result ≡ split_on w c x y }
-{
-    on_arrow(w, x, y, c.m, c.u, c.v)
-}
-
-// ---- the numbers of all new nodes of a row
-
-// The node on the edge x-y of row i that a lower row numbered; 0 if there is no such row.
-fn across(rows: &[u32], scratch: &[u32], nc: usize, n: u32, i: usize, x: u32, y: u32) -> u32
-    requires n_bound { n ≤ 65_536 }
-    requires ready { Ready scratch.now nc rows.now i }
-    requires i_in_bounds { 3 * i + 3 ≤ length rows.now }
-    ensures { result ≡ across n rows.now scratch.now i x y }
-{
-    match neighbours::find_edge(rows, scratch, nc, i, y, x) {
-        Found::At(j) => own_on(n, tables::row_at(rows, j), note_at(scratch, j), y, x),
-        Found::Nothing => 0,
-    }
-}
-
-fn mid_for(
-    rows: &[u32],
-    scratch: &[u32],
-    nc: usize,
-    n: u32,
-    i: usize,
-    on: u32,
-    first: u32,
-    own: u32,
-    x: u32,
-    y: u32,
-) -> u32
-    requires n_bound { n ≤ 65_536 }
-    requires ready { Ready scratch.now nc rows.now i }
-    requires i_in_bounds { 3 * i + 3 ≤ length rows.now }
-    ensures { result ≡ mid_for n rows.now scratch.now i on first own x y }
+    requires t_in_bounds { 3 * search.t + 3 ≤ length search.rows.now }
+    ensures { result ≡ mid_for n search.entry.rows.now search.entry.scratch.now search.entry.t on first own x y }
 {
     if on == 0 {
-        return 0;
+        0
+    } else if first == 1 {
+        own
+    } else {
+        across(search, n, x, y)
     }
-    if first == 1 {
-        return own;
-    }
-    across(rows, scratch, nc, n, i, x, y)
 }
 
-// The numbers of the new nodes of row i. The index of the rows below it stands in scratch.
-pub fn mids_of(rows: &[u32], scratch: &[u32], nc: usize, n: u32, i: usize) -> Mids
+// The numbers of the new nodes of the row after those of the search.
+pub fn mids_of(search: Search, n: u32) -> Mids
     requires n_bound { n ≤ 65_536 }
-    requires ready { Ready scratch.now nc rows.now i }
-    requires i_in_bounds { 3 * i + 3 ≤ length rows.now }
-    ensures { result ≡ mids_at n rows.now scratch.now i }
+    requires t_in_bounds { 3 * search.t + 3 ≤ length search.rows.now }
+    ensures { result ≡ mids_at n search.entry.rows.now search.entry.scratch.now search.entry.t }
 {
-    let w = tables::row_at(rows, i);
-    let c = note_at(scratch, i);
-    let m = mid_for(rows, scratch, nc, n, i, c.m, c.fm, own_m(n, c), w.q, w.r);
-    let u = mid_for(rows, scratch, nc, n, i, c.u, c.fu, own_u(n, c), w.p, w.q);
-    let v = mid_for(rows, scratch, nc, n, i, c.v, c.fv, own_v(n, c), w.r, w.p);
+    let w = tables::row_at(search.rows, search.t);
+    let c = note_at(search.scratch, search.t);
+    let m = mid_for(search, n, c.m, c.fm, c.own_m(n), w.q, w.r);
+    let u = mid_for(search, n, c.u, c.fu, c.own_u(n), w.p, w.q);
+    let v = mid_for(search, n, c.v, c.fv, c.own_v(n), w.r, w.p);
     Mids { m, u, v }
 }

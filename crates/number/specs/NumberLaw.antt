@@ -1,7 +1,7 @@
 -- The sweep of number, row by row upward: how the notes come to say which edges of a row are in a set and which of these the scan meets
 -- first in it. At first each edge of the set has its bit in one of its rows; an edge is in the set where one of its two rows says so.
 -- Assumes nothing.
-use Rattle.std.specs.Prelude.{◌≡◌, ◌⊎◌, Bool, ◌&&◌, ℕ, ◌+◌, ◌*◌, ◌≤◌, ◌<◌, eqb, ltb, get_or, set}
+use Rattle.std.specs.Prelude.{◌≡◌, ◌⊎◌, Bool, ◌&&◌, ℕ, ◌+◌, ◌*◌, ◌≤◌, ◌<◌, eqb, ltb, get_or, set, Option, Some, None}
 use Rattle.std.proofs.Math.Path.{refl, ap}
 use Rattle.std.proofs.Common.{sym, ◌∙◌, subst, inl, inr, ⊎_elim, lt-ltb, le-ltb, get_or-set_same, get_or-set_other}
 use Rattle.std.proofs.Math.Logic.{⊎_map}
@@ -10,8 +10,6 @@ use mathlib.Core.List.{List, [], Memᴰ}
 use native.Mathlib.Omega.{arith}
 use Rattle.std.proofs.Math.Decide.{ℕ_discrete, dec_lt}
 use Rattle.std.proofs.Math.ListN.{length, length-set}
-use Rattle.lists.specs.declared.Found.{Found}
-use Rattle.lists.specs.declared.Found.TheVariants.{At, Nothing}
 use Rattle.lists.specs.Lists.{any, once, cases}
 use Rattle.lists.specs.ListsLaw.{clash}
 use Rattle.lists.specs.Tally.{bit, bit-one}
@@ -66,7 +64,7 @@ module _ (l : List ℕ) (t n : ℕ) (only_one : OnceAt l t) (named : (i : ℕ) �
   -- ---- the parts of a note: each edge is judged by the row across
 
   -- the row across is j
-  by-is : (i j x y : ℕ) → i < t → Side (row_at l i) x y → lowest (arrow_at l y x) 0 t ≡ At j →
+  by-is : (i j x y : ℕ) → i < t → Side (row_at l i) x y → lowest (arrow_at l y x) 0 t ≡ Some j →
       met_by (bit (mem (edge x y))) j i ≡ met (bit (mem (edge x y))) (bit (news i (edge x y)))
   unfolding met_by
   by-is i j x y h s e = go (dec_lt j i) (mem (edge x y)) refl
@@ -119,25 +117,25 @@ module _ (l : List ℕ) (t n : ℕ) (only_one : OnceAt l t) (named : (i : ℕ) �
 
     -- an edge of row i and of the set has its bit in row i, or in the row across
     two-rows : {x y : ℕ} → Side (row_at l i) x y → mem (edge x y) ≡ true →
-        (said_at l s i x y ≡ 1) ⊎ ((j : ℕ) × (lowest (arrow_at l y x) 0 t ≡ At j) × (said_at l s j y x ≡ 1))
+        (said_at l s i x y ≡ 1) ⊎ ((j : ℕ) × (lowest (arrow_at l y x) 0 t ≡ Some j) × (said_at l s j y x ≡ 1))
     two-rows {x} {y} side m = by (tells.told (edge x y) m)
       where
         by : (j : ℕ) × (j < t) × (a : ℕ) × (b : ℕ) × Side (row_at l j) a b × (edge x y ≡ edge a b) × (said_at l G j a b ≡ 1) →
-            (said_at l s i x y ≡ 1) ⊎ ((j : ℕ) × (lowest (arrow_at l y x) 0 t ≡ At j) × (said_at l s j y x ≡ 1))
+            (said_at l s i x y ≡ 1) ⊎ ((j : ℕ) × (lowest (arrow_at l y x) 0 t ≡ Some j) × (said_at l s j y x ≡ 1))
         by (j, g, a, b, o, e, one) = ends (edge-ends x y a b e)
           where
             up : said_at l s j a b ≡ 1
             up = bit-stays j g o one
 
             ends : ((x ≡ a) × (y ≡ b)) ⊎ ((x ≡ b) × (y ≡ a)) →
-                (said_at l s i x y ≡ 1) ⊎ ((j : ℕ) × (lowest (arrow_at l y x) 0 t ≡ At j) × (said_at l s j y x ≡ 1))
+                (said_at l s i x y ≡ 1) ⊎ ((j : ℕ) × (lowest (arrow_at l y x) 0 t ≡ Some j) × (said_at l s j y x ≡ 1))
             ends (inl (c, d)) =
                 let q : i ≡ j = only_one i j x y h g (side-at l i side) (rw (c, d) (side-at l j o)) in
                 inl (rw (q, c, d) up)
             ends (inr (c, d)) = inr (j, rw (c, d) (found-is l t only_one j a b g o), rw (c, d) up)
 
     -- so what the two rows of an edge say is whether it is in the set
-    either_is : {x y : ℕ} → Side (row_at l i) x y → (j : ℕ) → lowest (arrow_at l y x) 0 t ≡ At j →
+    either_is : {x y : ℕ} → Side (row_at l i) x y → (j : ℕ) → lowest (arrow_at l y x) 0 t ≡ Some j →
         either (said_at l s i x y) (said_at l s j y x) ≡ bit (mem (edge x y))
     either_is {x} {y} side j e = go (mem (edge x y)) refl
       where
@@ -147,7 +145,7 @@ module _ (l : List ℕ) (t n : ℕ) (only_one : OnceAt l t) (named : (i : ℕ) �
         go : (b : Bool) → mem (edge x y) ≡ b → either (said_at l s i x y) (said_at l s j y x) ≡ bit b
         go true m = either-one _ _ (⊎_map (λ a. a) (λ (k, q, a). same k (sym q ∙ e) a) (two-rows side m))
           where
-            same : (k : ℕ) → At k ≡ At j → said_at l s k y x ≡ 1 → said_at l s j y x ≡ 1
+            same : (k : ℕ) → Some k ≡ Some j → said_at l s k y x ≡ 1 → said_at l s j y x ≡ 1
             same k g a = let z : k ≡ j = cc in subst (λ (n : ℕ). said_at l s n y x ≡ 1) z a
         go false m =
             either-none _ _
@@ -155,11 +153,11 @@ module _ (l : List ℕ) (t n : ℕ) (only_one : OnceAt l t) (named : (i : ℕ) �
             (no-bit _ (split-le (row_at l j) s j y x) (λ a. clash (sym (bit-sound j f.0 f.1 a) ∙ ap mem (edge-comm y x) ∙ m)))
 
     -- and where there is no row across, row i says it alone
-    alone-is : {x y : ℕ} → Side (row_at l i) x y → lowest (arrow_at l y x) 0 t ≡ Nothing → said_at l s i x y ≡ bit (mem (edge x y))
+    alone-is : {x y : ℕ} → Side (row_at l i) x y → lowest (arrow_at l y x) 0 t ≡ None → said_at l s i x y ≡ bit (mem (edge x y))
     alone-is {x} {y} side e = go (mem (edge x y)) refl
       where
         go : (b : Bool) → mem (edge x y) ≡ b → said_at l s i x y ≡ bit b
-        go true m = ⊎_elim (λ a. a) (λ (k, q, a). (let c : At k ≡ Nothing = sym q ∙ e in let z : ◌≡◌ {A = ℕ} 0 1 = cc in absurd (omega arith))) (two-rows side m)
+        go true m = ⊎_elim (λ a. a) (λ (k, q, a). (let c : Some k ≡ None = sym q ∙ e in let z : ◌≡◌ {A = ℕ} 0 1 = cc in absurd (omega arith))) (two-rows side m)
         go false m = no-bit _ (split-le (row_at l i) s i x y) (λ a. clash (sym (bit-sound i h side a) ∙ m))
 
     met-is : {x y : ℕ} (side : Side (row_at l i) x y) →
@@ -167,11 +165,11 @@ module _ (l : List ℕ) (t n : ℕ) (only_one : OnceAt l t) (named : (i : ℕ) �
     unfolding met_on
     met-is {x} {y} side = ap (λ (k : ℕ). met_on l t s i k x y) (sym (on-side (row_at l i) (named i h) side _ _ _)) ∙ go (lowest (arrow_at l y x) 0 t) refl
       where
-        go : (w : Found) → lowest (arrow_at l y x) 0 t ≡ w →
+        go : (w : Option ℕ) → lowest (arrow_at l y x) 0 t ≡ w →
             on_found w (λ j. met_by (either (said_at l s i x y) (said_at l s j y x)) j i)
             (met (said_at l s i x y) (said_at l s i x y)) ≡ met (bit (mem (edge x y))) (bit (news i (edge x y)))
-        go (At j) e = ap (λ (b : ℕ). met_by b j i) (either_is side j e) ∙ by-is i j x y h side e
-        go Nothing e =
+        go (Some j) e = ap (λ (b : ℕ). met_by b j i) (either_is side j e) ∙ by-is i j x y h side e
+        go None e =
             let f = met-new l t n only_one named mem i x y h side (lowest-none-below (arrow_at l y x) t i e (omega arith)) in
             rw (alone-is side e, f, and-true (mem (edge x y)))
 

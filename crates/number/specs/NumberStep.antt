@@ -1,11 +1,9 @@
 -- The parts of the code, in the form of their needs. Assumes nothing.
-use Rattle.std.specs.Prelude.{◌≡◌, refl, ◌⊎◌, Bool, true, false, ◌&&◌, List, ℕ, ◌+◌, ◌*◌, ◌≤◌, ◌<◌, eqb, ltb, length, set}
+use Rattle.std.specs.Prelude.{◌≡◌, refl, ◌⊎◌, Bool, true, false, ◌&&◌, List, ℕ, ◌+◌, ◌*◌, ◌≤◌, ◌<◌, eqb, ltb, length, set, Option, Some, None}
 use Rattle.std.proofs.Common.{sym, ◌∙◌, subst, inl, inr}
 use Rattle.std.proofs.Math.Path.{ap}
 use native.Mathlib.Omega.{arith}
 use borrow.Author.Tests.{eq-eqb, ne_eqb, lt-ltb, le-ltb}
-use Rattle.lists.specs.declared.Found.{Found}
-use Rattle.lists.specs.declared.Found.TheVariants.{At, Nothing}
 use Rattle.lists.specs.Lists.{cases}
 use Rattle.lists.specs.Search.{lowest, iter}
 use Rattle.lists.specs.IterLaw.{iter-keeps}
@@ -50,20 +48,20 @@ unfolding met_by
 by_first on j i h = rw (le-ltb j i h)
 
 -- a row that was found is in the table, and its note in scratch
-module _ (l : List ℕ) (L t j x y : ℕ) (r : Found) (e : r ≡ lowest (arrow_at l x y) 0 t) (a : r ≡ At j) where
+module _ (l : List ℕ) (L t j x y : ℕ) (r : Option ℕ) (e : r ≡ lowest (arrow_at l x y) 0 t) (a : r ≡ Some j) where
   pub row-in-table : 3 * t ≤ L → 3 * j + 3 ≤ L
   row-in-table h = let b = lowest-below (arrow_at l x y) t j (sym e ∙ a) in omega arith
 
   pub note-in-scratch : t ≤ L → j < L
   note-in-scratch h = let b = lowest-below (arrow_at l x y) t j (sym e ∙ a) in omega arith
 
-module _ (l : List ℕ) (t i x y : ℕ) (r : Found) (e : r ≡ lowest (arrow_at l y x) 0 t) where
-  pub met-found : (s : List ℕ) (j own other on : ℕ) (w : Tri) (c : Note) (g : Met) → r ≡ At j → w ≡ row_at l j → c ≡ note_at s j → other ≡ split_on w c y x →
+module _ (l : List ℕ) (t i x y : ℕ) (r : Option ℕ) (e : r ≡ lowest (arrow_at l y x) 0 t) where
+  pub met-found : (s : List ℕ) (j own other on : ℕ) (w : Tri) (c : Note) (g : Met) → r ≡ Some j → w ≡ row_at l j → c ≡ note_at s j → other ≡ split_on w c y x →
       on ≡ either own other → g ≡ met_by on j i → g ≡ met_on l t s i own x y
   unfolding met_on
   met-found s j own other on w c g a f k h o q = rw (← e, a, ← f, ← k, ← h, ← o) q
 
-  pub met-alone : (s : List ℕ) (own : ℕ) → r ≡ Nothing → met own own ≡ met_on l t s i own x y
+  pub met-alone : (s : List ℕ) (own : ℕ) → r ≡ None → met own own ≡ met_on l t s i own x y
   unfolding met_on
   met-alone s own a = rw (← e, a)
 
@@ -111,10 +109,10 @@ on-bits : (l : List ℕ) (t : ℕ) (s : List ℕ) (i own x y : ℕ) → own ≤ 
 unfolding met_on
 on-bits l t s i own x y h = go (lowest (arrow_at l y x) 0 t)
   where
-    go : (r : Found) → ((on_found r (λ j. met_by (either own (split_on (row_at l j) (note_at s j) y x)) j i) (met own own)).on ≤ 1) ×
+    go : (r : Option ℕ) → ((on_found r (λ j. met_by (either own (split_on (row_at l j) (note_at s j) y x)) j i) (met own own)).on ≤ 1) ×
         ((on_found r (λ j. met_by (either own (split_on (row_at l j) (note_at s j) y x)) j i) (met own own)).first ≤ 1)
-    go (At j) = by_bits (either own (split_on (row_at l j) (note_at s j) y x)) j i (either-le own _ (split-le (row_at l j) s j y x))
-    go Nothing = (h, h)
+    go (Some j) = by_bits (either own (split_on (row_at l j) (note_at s j) y x)) j i (either-le own _ (split-le (row_at l j) s j y x))
+    go None = (h, h)
 
 tight-of : (l : List ℕ) (t : ℕ) (s : List ℕ) (i k : ℕ) → k ≤ 16_777_216 → Tight (note_of l t s i k)
 unfolding note_of

@@ -1,7 +1,6 @@
 -- Each edge once, where it is first met: what one edge more adds, and the places of the edges. Assumes nothing.
-use Rattle.std.specs.Prelude.{◌≡◌, refl, Bool, true, false, not, ◌&&◌, ◌||◌, List, [], ◌∷◌, ◌++◌, length}
+use Rattle.std.specs.Prelude.{◌≡◌, refl, Bool, true, false, not, ◌&&◌, ◌||◌, List, [], ◌∷◌, ◌++◌, length, Some}
 use Rattle.std.proofs.Common.{sym, ap, ap₂, ◌∙◌, subst, append_assoc, append-nil}
-use Rattle.lists.specs.declared.Found.TheVariants.{At}
 use Rattle.lists.specs.Lists.{All, any, only, cons_if, once, where_first}
 use Rattle.lists.specs.ListsLaw.{clash, or_no, both_ways, All-imp}
 use Rattle.lists.specs.MembersLaw.{only-cong}
@@ -90,7 +89,7 @@ once-prefix (x ∷ P) Q =
     (only (λ y. not (same_edge x y)) r.0, rw (r.1, only-append (λ y. not (same_edge x y)) (once same_edge P) r.0))
 
 -- the place of an edge is the number of edges before it
-pub once-place : (P Q : List Edge) (e : Edge) → any (same_edge e) P ≡ false → where_first (same_edge e) (once same_edge (P ++ (e ∷ Q))) ≡ At (length (once same_edge P))
+pub once-place : (P Q : List Edge) (e : Edge) → any (same_edge e) P ≡ false → where_first (same_edge e) (once same_edge (P ++ (e ∷ Q))) ≡ Some (length (once same_edge P))
 once-place P Q e a =
     let r = once-prefix (P ++ (e ∷ [])) Q in
     let f : once same_edge (P ++ (e ∷ Q)) ≡ once same_edge P ++ (e ∷ r.0) =

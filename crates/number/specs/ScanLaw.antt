@@ -1,15 +1,13 @@
 -- A scan of the rows of a table, for the edges of a set: document 01's order of numbers. What it meets first in a row, and how many edges
 -- it has met before, give each edge of the row its number. Where notes say this, the numbers can be read off them. Nothing is said here of
 -- how notes come to say it. Assumes nothing.
-use Rattle.std.specs.Prelude.{◌≡◌, ◌⊎◌, Bool, ◌&&◌, eqb, length}
+use Rattle.std.specs.Prelude.{◌≡◌, ◌⊎◌, Bool, ◌&&◌, eqb, length, Option, Some, None}
 use Rattle.std.proofs.Math.Path.{refl, sym, ap}
 use Rattle.std.proofs.Common.{◌∙◌, subst, inl, inr, eq-eqb, ne_eqb, length-append}
 use Rattle.std.proofs.Math.Bool.{true, false, not}
 use mathlib.Core.List.{List, [], ◌∷◌, ◌++◌, append_assoc, append-nil, Memᴰ}
 use Prim.Native.Nat.{ℕ, zero, suc, ◌+◌, ◌≤◌, ◌<◌}
 use native.Mathlib.Omega.{arith}
-use Rattle.lists.specs.declared.Found.{Found}
-use Rattle.lists.specs.declared.Found.TheVariants.{At, Nothing}
 use Rattle.lists.specs.Lists.{nil, cons, any, only, cons_if, once, joined, up_to, cases}
 use Rattle.lists.specs.ListsLaw.{clash, and_both, and_left, and_right, or_no, any_at, any-row}
 use Rattle.lists.specs.MembersLaw.{only-in, joined_in}
@@ -138,13 +136,13 @@ module _ (l : List ℕ) (t n : ℕ) (only_one : OnceAt l t) (named : (i : ℕ) �
   one_below i h a b x y p q = only_one a b x y (omega arith) (omega arith)
 
   -- an edge is met below row i exactly if a row there holds it the other way round
-  pub met-old : (i j x y : ℕ) → i ≤ t → lowest (arrow_at l y x) 0 i ≡ At j → mem (edge x y) ≡ true → any (same_edge (edge x y)) (met_below i) ≡ true
+  pub met-old : (i j x y : ℕ) → i ≤ t → lowest (arrow_at l y x) 0 i ≡ Some j → mem (edge x y) ≡ true → any (same_edge (edge x y)) (met_below i) ≡ true
   met-old i j x y h e m =
       let f = found_side l i (one_below i h) j y x e in
       let k : Memᴰ (edge x y) (edges (row_at l j)) = subst (λ (d : Edge). Memᴰ d (edges (row_at l j))) (edge-comm y x) (side-edge (row_at l j) f.1) in
       any_at (same_edge (edge x y)) (same_edge-refl (edge x y)) (only-in mem (joined_in edges (items-in (row_at l) i j f.0) k) m)
 
-  pub met-new : (i x y : ℕ) → i < t → Side (row_at l i) x y → lowest (arrow_at l y x) 0 i ≡ Nothing → any (same_edge (edge x y)) (met_below i) ≡ false
+  pub met-new : (i x y : ℕ) → i < t → Side (row_at l i) x y → lowest (arrow_at l y x) 0 i ≡ None → any (same_edge (edge x y)) (met_below i) ≡ false
   met-new i x y h s e = not_so (any (same_edge (edge x y)) (met_below i)) (λ a. go (any-row (same_edge (edge x y)) (met_below i) a))
     where
       side : (d : Edge) (j : ℕ) → j < i → same_edge (edge x y) d ≡ true → (a : ℕ) × (c : ℕ) × Side (row_at l j) a c × (d ≡ edge a c) → ⊥
@@ -268,12 +266,12 @@ module _ (l : List ℕ) (t n : ℕ) (only_one : OnceAt l t) (named : (i : ℕ) �
     unfolding across
     across-num x y side m a = go (lowest (arrow_at l y x) 0 i) refl
       where
-        go : (w : Found) → lowest (arrow_at l y x) 0 i ≡ w → Noted.on_found w (λ j. own_on n (row_at l j) (note_at s j) y x) 0 ≡ num n scanned (edge x y)
-        go Nothing e = clash (sym a ∙ met-new i x y h side e)
-        go (At j) e =
+        go : (w : Option ℕ) → lowest (arrow_at l y x) 0 i ≡ w → Noted.on_found w (λ j. own_on n (row_at l j) (note_at s j) y x) 0 ≡ num n scanned (edge x y)
+        go None e = clash (sym a ∙ met-new i x y h side e)
+        go (Some j) e =
             let f = found_side l i (one_below i (omega arith)) j y x e in
             let b = f.0 in
-            let first : lowest (arrow_at l x y) 0 j ≡ Nothing =
+            let first : lowest (arrow_at l x y) 0 j ≡ None =
             lowest-no (arrow_at l x y) j (λ k u. not_so (arrow_at l x y k) (λ q. let z = only_one k i x y (omega arith) h q (side-at l i side) in omega arith)) in
             let c : mem (edge y x) ≡ true = ap mem (edge-comm y x) ∙ m in
             let d : news j (edge y x) ≡ true = and_both c (ap not (met-new j y x (omega arith) f.1 first)) in

@@ -9,10 +9,11 @@ ghost use Rattle.neighbours.specs.Ready.{Ready};
 ghost use Rattle.notes.specs.Notes.{Tight};
 ghost use Rattle.number.specs.Numbered.{either, met_by, met_on, note_of, numbers, number_row};
 
-use lists::Found;
+use neighbours::Search;
 use notes::Note;
 
 // Of an edge of a row: 1 where it is split, and 1 where it is split and no lower row holds it.
+// Stays: numbers of 0 and 1, as in a note.
 #[derive(Clone, Copy)]
 struct Met {
     on: u32,
@@ -20,78 +21,56 @@ struct Met {
 }
 
 // 1 where one of the two rows of an edge says that it is split.
+// Stays: no own | other, since `either` of specs/Numbered.antt is of any number.
 fn either(own: u32, other: u32) -> u32
     ensures { result ≡ either own other }
 {
-    if own == 1 {
-        return 1;
-    }
-    other
+    if own == 1 { 1 } else { other }
 }
 
 // An edge of row i that row j holds too.
 fn met_by(on: u32, j: usize, i: usize) -> Met
     ensures { result ≡ met_by on j i }
 {
-    if j < i {
-        return Met { on: on, first: 0 };
-    }
-    Met { on: on, first: on }
+    let first = if j < i { 0 } else { on };
+    Met { on, first }
 }
 
 // The edge x→y of row i, where own is 1 if row i itself says that it is split: else the row across says it.
-fn met_on(
-    rows: &[u32],
-    scratch: &[u32],
-    nc: usize,
-    t: usize,
-    i: usize,
-    own: u32,
-    x: u32,
-    y: u32,
-) -> Met
-    requires t_in_bounds { 3 * t ≤ length rows.now }
-    requires t_in_bounds_2 { t ≤ length scratch.now }
-    requires ready { Ready scratch.now nc rows.now t }
-    ensures { result ≡ met_on rows.now t scratch.now i own x y }
+fn met_on(search: Search, i: usize, own: u32, x: u32, y: u32) -> Met
+    requires t_in_bounds { 3 * search.t ≤ length search.rows.now }
+    requires t_in_bounds_2 { search.t ≤ length search.scratch.now }
+    ensures { result ≡ met_on search.entry.rows.now search.entry.t search.entry.scratch.now i own x y }
 {
-    match neighbours::find_edge(rows, scratch, nc, t, y, x) {
-        Found::At(j) => {
-            let w = tables::row_at(rows, j);
-            let c = notes::note_at(scratch, j);
-            met_by(either(own, notes::split_on(w, c, y, x)), j, i)
-        }
-        Found::Nothing => Met {
+    let Some(j) = search.find_edge(y, x) else {
+        return Met {
             on: own,
             first: own,
-        },
-    }
+        };
+    };
+    let w = tables::row_at(search.rows, j);
+    let c = notes::note_at(search.scratch, j);
+    met_by(either(own, c.split_on(w, y, x)), j, i)
 }
 
 // The note of row i, where lower rows have k new nodes.
-fn note_of(rows: &[u32], scratch: &[u32], nc: usize, t: usize, i: usize, k: u32) -> Note
-    requires i_lt_t { i < t }
-    requires t_in_bounds { 3 * t ≤ length rows.now }
-    requires t_in_bounds_2 { t ≤ length scratch.now }
-    requires ready { Ready scratch.now nc rows.now t }
-    ensures { result ≡ note_of rows.now t scratch.now i k }
+fn note_of(search: Search, i: usize, k: u32) -> Note
+    requires i_lt_t { i < search.t }
+    requires t_in_bounds { 3 * search.t ≤ length search.rows.now }
+    requires t_in_bounds_2 { search.t ≤ length search.scratch.now }
+    ensures { result ≡ note_of search.entry.rows.now search.entry.t search.entry.scratch.now i k }
 {
-    let c = notes::note_at(scratch, i);
+    let c = notes::note_at(search.scratch, i);
     if c.m == 0 {
         return Note {
-            m: 0,
-            u: 0,
-            v: 0,
-            fm: 0,
-            fu: 0,
-            fv: 0,
             before: k,
+            ..Note::default()
         };
     }
-    let w = tables::row_at(rows, i);
-    let m = met_on(rows, scratch, nc, t, i, c.m, w.q, w.r);
-    let u = met_on(rows, scratch, nc, t, i, c.u, w.p, w.q);
-    let v = met_on(rows, scratch, nc, t, i, c.v, w.r, w.p);
+    let w = tables::row_at(search.rows, i);
+    let m = met_on(search, i, c.m, w.q, w.r);
+    let u = met_on(search, i, c.u, w.p, w.q);
+    let v = met_on(search, i, c.v, w.r, w.p);
     Note {
         m: m.on,
         u: u.on,
@@ -120,8 +99,14 @@ fn number_row(rows: &[u32], scratch: &mut [u32], nc: usize, t: usize, i: usize, 
     requires k_bound { k ≤ 3 * i }
     ensures { numbers scratch.new result ≡ number_row rows.now t i (numbers scratch.old k) }
 {
-    let c = note_of(rows, scratch, nc, t, i, k);
-    tables::put_note(scratch, i, notes::pack(c));
+    let search = Search {
+        rows,
+        scratch,
+        nc,
+        t,
+    };
+    let c = note_of(search, i, k);
+    tables::put_note(scratch, i, c.pack());
     with_new(k, c)
 }
 
@@ -133,10 +118,8 @@ pub fn number(rows: &[u32], scratch: &mut [u32], nc: usize, t: usize) -> u32
     ensures { numbers scratch.new result ≡ iter (number_row rows.now t) 0 t (numbers scratch.old 0) }
 {
     let mut k = 0;
-    let mut i = 0;
-    while i < t {
+    for i in 0..t {
         k = number_row(rows, scratch, nc, t, i, k);
-        i += 1;
     }
     k
 }

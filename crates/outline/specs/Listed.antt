@@ -1,8 +1,6 @@
 -- The border arrows as they are put into scratch, row by row. Assumes nothing.
-use Rattle.std.specs.Prelude.{Bool, not, List, ◌++◌, ◌≡◌, ℕ, ◌+◌, ◌*◌, ◌≤◌, length, set}
-use Rattle.lists.specs.declared.Found.{Found}
-use Rattle.lists.specs.declared.Found.TheVariants.{At, Nothing}
-use Rattle.lists.specs.Lists.{is_found, only, joined}
+use Rattle.std.specs.Prelude.{Bool, not, List, ◌++◌, ◌≡◌, ℕ, ◌+◌, ◌*◌, ◌≤◌, length, set, Option, Some, None, is_some}
+use Rattle.lists.specs.Lists.{only, joined}
 use Rattle.lists.specs.Search.{lowest, items}
 use Rattle.meaning.specs.Mesh.{Arrow, arrows}
 use Rattle.meaning.specs.Tables.{row_at}
@@ -13,7 +11,7 @@ use Rattle.outline.specs.Seen.{arrow_in}
 
 -- none of the first t rows holds e the other way round
 unfoldable pub is_border : List ℕ → ℕ → Arrow → Bool
-is_border rows t e = not (is_found (lowest (arrow_at rows e.to e.from) 0 t))
+is_border rows t e = not (is_some (lowest (arrow_at rows e.to e.from) 0 t))
 
 -- the border arrows among es
 unfoldable pub border_of : List ℕ → ℕ → List Arrow → List Arrow
@@ -40,6 +38,6 @@ pub record Holding (s : List ℕ) (nc : ℕ) (rows : List ℕ) (t i b : ℕ) : T
   pub are : items (arrow_in s) 0 b ≡ border_to rows t i
 
 -- how a listing ended: with all border arrows, or given up
-pub data Ended (s : List ℕ) (nc : ℕ) (rows : List ℕ) (t : ℕ) : Found → Type 0 where
-  all_in : (b : ℕ) → Holding s nc rows t t b → Ended s nc rows t (At b)
-  gave-up : Ready s nc rows t → Ended s nc rows t Nothing
+pub data Ended (s : List ℕ) (nc : ℕ) (rows : List ℕ) (t : ℕ) : Option ℕ → Type 0 where
+  all_in : (b : ℕ) → Holding s nc rows t t b → Ended s nc rows t (Some b)
+  gave-up : Ready s nc rows t → Ended s nc rows t None

@@ -1,17 +1,15 @@
 -- Laws of the listing, in the form of needs; and that what it lists is the border. Assumes nothing.
-use Rattle.std.specs.Prelude.{Bool, true, false, not, ◌≡◌, ℕ, ◌+◌, ◌*◌, ◌≤◌, ◌<◌, ℤ, length}
+use Rattle.std.specs.Prelude.{Bool, true, false, not, ◌≡◌, ℕ, ◌+◌, ◌*◌, ◌≤◌, ◌<◌, ℤ, length, Option, Some, None}
 use mathlib.Core.List.{List, [], ◌∷◌, ◌++◌, append_assoc, append-nil}
 use Rattle.std.proofs.Math.Path.{refl, subst}
 use Rattle.std.proofs.Common.{sym, ap, ◌∙◌, arith}
 use Rattle.std.proofs.Math.ListN.{set, length-set}
 use Rattle.std.proofs.Math.Seq.{get_or-set_same, get_or-set_other}
-use Rattle.lists.specs.declared.Found.{Found}
-use Rattle.lists.specs.declared.Found.TheVariants.{At, Nothing}
-use Rattle.lists.specs.Lists.{is_found, only, joined, All, nil, cons}
+use Rattle.lists.specs.Lists.{only, joined, All, nil, cons}
 use Rattle.lists.specs.ListsLaw.{clash, All-at, All-joined}
 use Rattle.lists.specs.MembersLaw.{only_keeps}
 use Rattle.lists.specs.PartsLaw.{only-append}
-use Rattle.lists.specs.Search.{lowest, items}
+use Rattle.lists.specs.Search.{items}
 use Rattle.lists.specs.SearchLaw.{lowest-any, at_some}
 use Rattle.lists.specs.ItemsLaw.{items-snoc, items-none, items-agree, joined-append}
 use Rattle.lists.specs.ByNumberLaw.{items-in, items-all}
@@ -29,14 +27,6 @@ use Rattle.outline.specs.LookLaw.{free-clear}
 use Rattle.outline.specs.Listed.{is_border, border_of, border_to, set_arrow, Grown, Holding, Ended, all_in, gave-up}
 
 -- ---- one arrow
-
-pub border-found : (rows : List ℕ) (t x y : ℕ) (r : Found) (b : Bool) → r ≡ lowest (arrow_at rows y x) 0 t → b ≡ is_found r → not b ≡ is_border rows t (arrow x y)
-unfolding is_border
-border-found rows t x y r b e f = ap not (f ∙ ap is_found e)
-
-pub arrow-put : (s s' s'' : List ℕ) (b x y : ℕ) → s' ≡ set s (2 * b) x → s'' ≡ set s' (2 * b + 1) y → s'' ≡ set_arrow s b x y
-unfolding set_arrow
-arrow-put s s' s'' b x y e f = f ∙ ap (λ (v : List ℕ). set v (2 * b + 1) y) e
 
 -- the index is past the notes
 pub note-room : (s : List ℕ) (nc : ℕ) (rows : List ℕ) (t k : ℕ) → Ready s nc rows t → k ≤ index_at nc (length rows) → k ≤ length s
@@ -135,10 +125,10 @@ holding-on s s' nc rows t i b r h l g = record { ready = g.ready; below = let m 
         ap (λ (l : List Arrow). only f (joined arrows ts ++ l)) (sym (append-nil (arrows (row_at rows i)))) ∙ ap (only f) (sym (joined-append arrows ts (row_at rows i ∷ []))) ∙
         ap (λ (l : List Tri). only f (joined arrows l)) (sym (items-snoc (row_at rows) 0 i (omega arith)))
 
-pub holding-end : (s : List ℕ) (nc : ℕ) (rows : List ℕ) (t i b : ℕ) → Holding s nc rows t i b → i ≤ t → t ≤ i → Ended s nc rows t (At b)
+pub holding-end : (s : List ℕ) (nc : ℕ) (rows : List ℕ) (t i b : ℕ) → Holding s nc rows t i b → i ≤ t → t ≤ i → Ended s nc rows t (Some b)
 holding-end s nc rows t i b h l u = let n : i ≡ t = omega arith in all_in b (rw n at h)
 
-pub holding-out : (s : List ℕ) (nc : ℕ) (rows : List ℕ) (t i b : ℕ) → Holding s nc rows t i b → Ended s nc rows t Nothing
+pub holding-out : (s : List ℕ) (nc : ℕ) (rows : List ℕ) (t i b : ℕ) → Holding s nc rows t i b → Ended s nc rows t None
 holding-out s nc rows t i b h = gave-up h.ready
 
 -- ---- what was listed is the border
@@ -151,11 +141,11 @@ border-is rows t =
 -- ---- how a listing ended, in the form of needs
 
 module _ (s : List ℕ) (nc : ℕ) (rows : List ℕ) (t : ℕ) where
-  pub ended-ready : (r : Found) → Ended s nc rows t r → Ready s nc rows t
+  pub ended-ready : (r : Option ℕ) → Ended s nc rows t r → Ready s nc rows t
   ended-ready r (all_in b h) = h.ready
   ended-ready r (gave-up h) = h
 
-  holding-of : {r : Found} (b : ℕ) → Ended s nc rows t r → r ≡ At b → Holding s nc rows t t b
+  holding-of : {r : Option ℕ} (b : ℕ) → Ended s nc rows t r → r ≡ Some b → Holding s nc rows t t b
   holding-of b (all_in a h) e = let q : a ≡ b = cc in subst (Holding s nc rows t t) q h
   holding-of b (gave-up h) e = at_some b (sym e)
 
@@ -170,7 +160,7 @@ module _ (s : List ℕ) (nc : ℕ) (rows : List ℕ) (t : ℕ) where
     unfolding border_to border_of
     border-ends = only_keeps (is_border rows t) (All-joined arrows (items-all (row_at rows) t (λ i h. row_ends (row_at rows i) (standing i h))))
 
-    pub ended-listing : (r : Found) (b : ℕ) → Ended s nc rows t r → r ≡ At b → Listing nodes s b
+    pub ended-listing : (r : Option ℕ) (b : ℕ) → Ended s nc rows t r → r ≡ Some b → Listing nodes s b
     ended-listing r b h e =
         let g = holding-of b h e in
         let z = ready-sized s rows nc t g.ready in
@@ -183,7 +173,7 @@ module _ (s : List ℕ) (nc : ℕ) (rows : List ℕ) (t : ℕ) where
           stand = λ j k. All-at (subst (All (EndsStand nodes)) (sym g.are) border-ends) (items-in (arrow_in s) b j k);
         }
 
-  pub ended-clear : (nodes : List ℤ) (r : Found) (b : ℕ) (x : Bool) → Ended s nc rows t r → r ≡ At b → x ≡ all_free (place_at nodes) s b →
+  pub ended-clear : (nodes : List ℤ) (r : Option ℕ) (b : ℕ) (x : Bool) → Ended s nc rows t r → r ≡ Some b → x ≡ all_free (place_at nodes) s b →
       x ≡ true → clear (place_at nodes) (border (items (row_at rows) 0 t)) ≡ true
   ended-clear nodes r b x h e f i =
       let g = holding-of b h e in

@@ -1,5 +1,5 @@
 -- Arrows as the code sees them have the answers of Clear.antt: one beside another, and all beside all. Assumes nothing.
-use Rattle.std.specs.Prelude.{Bool, ◌&&◌, ◌||◌, List, [], ◌∷◌, ◌≡◌, ℤ, ◌+ℤ◌, ◌-ℤ◌, ◌*ℤ◌, ◌<ℤ◌}
+use Rattle.std.specs.Prelude.{Bool, ◌&&◌, ◌||◌, List, [], ◌∷◌, ◌≡◌, ℤ, ◌+ℤ◌, ◌-ℤ◌, ◌*ℤ◌, ◌<ℤ◌, Option, Some, None, is_some}
 use Rattle.std.proofs.Math.Bool.{true, false, not}
 use Rattle.std.proofs.Math.Path.{refl, sym, ap₂}
 use Rattle.std.proofs.Common.{ap, ◌∙◌}
@@ -12,7 +12,7 @@ use Rattle.std.specs.Int.Signed.{le_z, lt_z}
 use Rattle.whole.specs.Diff.{onℤ, sumℤ}
 use Rattle.whole.specs.Ring.{K, ◌:+◌, ◌:*◌, ring1, ring4, ring8}
 use Rattle.whole.specs.Tests.{tests, lt_z-true, le_z-true}
-use Rattle.lists.specs.Lists.{cases, is_found, any}
+use Rattle.lists.specs.Lists.{cases, any}
 use Rattle.lists.specs.ListsLaw.{clash, and_both, and_left, and_right, yes-all}
 use Rattle.lists.specs.PartsLaw.{not_so}
 use Rattle.lists.specs.Search.{lowest, items}
@@ -31,7 +31,7 @@ use Rattle.border.specs.Clear.{steep, middle, crosses, meets, under_middle, righ
 use Rattle.outline.specs.declared.End.{End}
 use Rattle.outline.specs.declared.Edge.{Edge}
 use Rattle.outline.specs.FarLaw.{Below, not_on, not-crossed, against, below-against}
-use Rattle.outline.specs.Seen.{end_by, edge_by, arrow_in, edge_in, Near, Close, all_before, far, is_on, meet, rises_under, look, falling, look_at, is_three, fine, not_free, all_free}
+use Rattle.outline.specs.Seen.{end_by, edge_by, arrow_in, edge_in, Near, Close, all_before, far, is_on, meet, rises_under, look, falling, look_at, counted, is_met, count_at, fine, not_free, all_free}
 
 -- ---- keys that do not overlap
 
@@ -139,34 +139,10 @@ module _ (e g : Edge) (ce : Close e) (cg : Close g) where
           let w = four _ _ _ _ k in
           (rw (above-middle g.from.key e.from.key e.to.key w.first w.third), rw (above-middle g.to.key e.from.key e.to.key w.second w.fourth))
 
--- ---- the code's answers, in the form of needs
-
-module _ (e g : Edge) (x : Bool) (d : x ≡ far e g) where
-  pub look-far : Close e → Close g → x ≡ true → 1 ≡ look e g
-  unfolding look
-  look-far ce cg h =
-      let f = sym d ∙ h in
-      let r = far-rises e g ce cg f in
-      rw (far-meet e g ce cg f, r.0, r.1)
-
-module _ (e g : Edge) (m : Bool) (d : m ≡ meet e g) where
-  pub look-meet : m ≡ true → 3 ≡ look e g
-  unfolding look
-  look-meet h = rw (← d, h)
-
-  module _ (h : m ≡ false) (x : Bool) (f : x ≡ rises_under e g.from g.to) where
-    pub look-rises : x ≡ true → 2 ≡ look e g
-    unfolding look
-    look-rises i = rw (← d, h, ← f, i)
-
-    module _ (i : x ≡ false) (y : Bool) (k : y ≡ rises_under e g.to g.from) where
-      pub look-falls : y ≡ true → 0 ≡ look e g
-      unfolding look
-      look-falls j = rw (← d, h, ← f, i, ← k, j)
-
-      pub look_none : y ≡ false → 1 ≡ look e g
-      unfolding look
-      look_none j = rw (← d, h, ← f, i, ← k, j)
+-- arrows that are far are nothing to each other
+pub look_far : (e g : Edge) → Close e → Close g → far e g ≡ true → look e g ≡ Some 1
+unfolding look
+look_far e g ce cg h = let r = far-rises e g ce cg h in rw (far-meet e g ce cg h, r.0, r.1)
 
 -- ---- one arrow beside another, by Clear.antt
 
@@ -233,45 +209,45 @@ module _ (P : ℕ → Place) where
         number false true n = refl
         number false false n = refl
 
-    pub look_is : eqb (look (edge_by P e) (edge_by P g)) 3 ≡ false → (meets P e g ≡ false) × (pos (look (edge_by P e) (edge_by P g)) ≡ adds e g +ℤ pos 1)
+    pub look_is : is_some (look (edge_by P e) (edge_by P g)) ≡ true → (meets P e g ≡ false) × (pos (counted (look (edge_by P e) (edge_by P g))) ≡ adds e g +ℤ pos 1)
     unfolding look edge_by
     look_is h = go (meet E (edge_by P g)) (rises_under E a b) (rises_under E b a) refl refl refl h
       where
-        go : (m x y : Bool) → meet E (edge_by P g) ≡ m → rises_under E a b ≡ x → rises_under E b a ≡ y → eqb (cases m 3 (cases x 2 (cases y 0 1))) 3 ≡ false →
-            (meets P e g ≡ false) × (pos (cases m 3 (cases x 2 (cases y 0 1))) ≡ adds e g +ℤ pos 1)
-        go true x y p q r k = clash k
+        go : (m x y : Bool) → meet E (edge_by P g) ≡ m → rises_under E a b ≡ x → rises_under E b a ≡ y → is_some (cases {A = Option ℕ} m None (Some (cases x 2 (cases y 0 1)))) ≡ true →
+            (meets P e g ≡ false) × (pos (counted (cases m None (Some (cases x 2 (cases y 0 1))))) ≡ adds e g +ℤ pos 1)
+        go true x y p q r k = clash (sym k)
         go false x y p q r k = (sym (meet-is e g) ∙ p, weight x y q r (λ s t. not-both E a b (q ∙ s) (r ∙ t)))
 
   -- ---- all beside all
 
   module _ (s : List ℕ) (e : Arrow) where
-    abbrev at : ℕ → ℕ
+    abbrev at : ℕ → Option ℕ
     at = look_at P s (edge_by P e)
 
     -- what is added up is how many are under the middle, and one more for each arrow
-    summed : (b : ℕ) → ((j : ℕ) → j < b → is_three at j ≡ false) → pos (sum_to at b) ≡ added (adds e) (items (arrow_in s) 0 b) +ℤ pos b
-    unfolding edge_in look_at is_three
-    summed zero h = rw (sum-none at, items-none (arrow_in s) 0 0 (omega arith))
+    summed : (b : ℕ) → ((j : ℕ) → j < b → is_met at j ≡ false) → pos (sum_to (count_at at) b) ≡ added (adds e) (items (arrow_in s) 0 b) +ℤ pos b
+    unfolding edge_in look_at is_met count_at
+    summed zero h = rw (sum-none (count_at at), items-none (arrow_in s) 0 0 (omega arith))
     summed (suc b) h =
         let n : suc b ≡ b + 1 = omega arith in
-        let l = (look_is e (arrow_in s b) (h b (omega arith))).1 in
+        let l = (look_is e (arrow_in s b) (not-false _ (h b (omega arith)))).1 in
         let r = added-append (adds e) (items (arrow_in s) 0 b) (arrow_in s b ∷ []) in
-        rw (n, sum_more at b, items-snoc (arrow_in s) 0 b (omega arith), r)
-        (grow (sum_to at b) (at b) b (added (adds e) (items (arrow_in s) 0 b)) (adds e (arrow_in s b)) (summed b (λ j i. h j (omega arith))) l)
+        rw (n, sum_more (count_at at) b, items-snoc (arrow_in s) 0 b (omega arith), r)
+        (grow (sum_to (count_at at) b) (count_at at b) b (added (adds e) (items (arrow_in s) 0 b)) (adds e (arrow_in s b)) (summed b (λ j i. h j (omega arith))) l)
       where
         grow : (k a b : ℕ) (x y : ℤ) → pos k ≡ x +ℤ pos b → pos a ≡ y +ℤ pos 1 → pos (k + a) ≡ (x +ℤ (y +ℤ pos 0)) +ℤ pos (b + 1)
         grow k a b x y h i = omega (arith, onℤ, sumℤ x (pos b), sumℤ y (pos 1), sumℤ y (pos 0), sumℤ x (y +ℤ pos 0), sumℤ (x +ℤ (y +ℤ pos 0)) (pos (b + 1)))
 
     fine-free : (b : ℕ) → fine at b (falling (edge_by P e)) ≡ true → not (any (meets P e) (items (arrow_in s) 0 b)) && right_free P (items (arrow_in s) 0 b) e ≡ true
-    unfolding fine edge_in falling edge_by under_middle look_at is_three
+    unfolding fine edge_in falling edge_by under_middle look_at is_met count_at
     fine-free b h =
-        let f = is_three at in
+        let f = is_met at in
         let k = falling (edge_by P e) in
         let none = lowest-nothing f b in
-        let n : lowest f 0 b ≡ _ = not_found (lowest f 0 b) (not-true _ (and_left (not (is_found (lowest f 0 b))) (eqb (sum_to at b) (b + k)) h)) in
-        let q = eqb-true (sum_to at b) (b + k) (and_right (not (is_found (lowest f 0 b))) (eqb (sum_to at b) (b + k)) h) in
-        let z = any-no (meets P e) (arrow_in s) b (λ j i. (look_is e (arrow_in s j) (none j n i)).0) in
-        let u : added (adds e) (items (arrow_in s) 0 b) ≡ pos k = left_over (sum_to at b) b k _ (summed b (λ j i. none j n i)) q in
+        let n : lowest f 0 b ≡ _ = not_found (lowest f 0 b) (not-true _ (and_left (not (is_some (lowest f 0 b))) (eqb (sum_to (count_at at) b) (b + k)) h)) in
+        let q = eqb-true (sum_to (count_at at) b) (b + k) (and_right (not (is_some (lowest f 0 b))) (eqb (sum_to (count_at at) b) (b + k)) h) in
+        let z = any-no (meets P e) (arrow_in s) b (λ j i. (look_is e (arrow_in s j) (not-false _ (none j n i))).0) in
+        let u : added (adds e) (items (arrow_in s) 0 b) ≡ pos k = left_over (sum_to (count_at at) b) b k _ (summed b (λ j i. none j n i)) q in
         and_both (ap not z) (eq-same_z _ _ (u ∙ fall (lt_z (key steep (P e.to)) (key steep (P e.from)))))
       where
         left_over : (m b k : ℕ) (x : ℤ) → pos m ≡ x +ℤ pos b → m ≡ b + k → x ≡ pos k
@@ -286,5 +262,5 @@ module _ (P : ℕ → Place) where
   unfolding all_free not_free clear edge_in
   free-clear s b h =
       let f = not_free P s b in
-      let n = not_found (lowest f 0 b) (not-true (is_found (lowest f 0 b)) h) in
+      let n = not_found (lowest f 0 b) (not-true (is_some (lowest f 0 b)) h) in
       yes-all (items-all (arrow_in s) b (λ i l. fine-free s (arrow_in s i) b (not-false _ (lowest-nothing f b i n l))))

@@ -1,7 +1,7 @@
 -- An arrow as the code sees it: two ends, each a node, its place and the key of that. The tests of Clear.antt on arrows so seen. Assumes nothing.
-use Rattle.std.specs.Prelude.{Bool, not, ◌&&◌, ◌||◌, List, ◌≡◌, ℕ, ◌+◌, ◌*◌, ◌≤◌, ◌<◌, eqb, ℤ, pos, nat_abs, ◌+ℤ◌, length, get_or}
+use Rattle.std.specs.Prelude.{Bool, not, ◌&&◌, ◌||◌, List, ◌≡◌, ℕ, ◌+◌, ◌*◌, ◌≤◌, ◌<◌, eqb, ℤ, pos, nat_abs, ◌+ℤ◌, length, get_or, Option, Some, None, is_some}
 use Rattle.std.specs.Int.Signed.{le_z, lt_z}
-use Rattle.lists.specs.Lists.{cases, is_found}
+use Rattle.lists.specs.Lists.{cases}
 use Rattle.lists.specs.Search.{lowest}
 use Rattle.lists.specs.ItemsLaw.{sum_to}
 use Rattle.meaning.specs.declared.Place.{Place}
@@ -77,9 +77,9 @@ rises_under e a b =
     lt_z (a.key +ℤ a.key) (e.from.key +ℤ e.to.key) && lt_z (e.from.key +ℤ e.to.key) (b.key +ℤ b.key) &&
     lt_z (pos 0) (turn a.place b.place e.from.place +ℤ turn a.place b.place e.to.place)
 
--- 3: g meets e; else one more than what g counts under the middle of e: 2 where it rises there, 0 where it falls, 1 where it does not run there
-unfoldable pub look : Edge → Edge → ℕ
-look e g = cases (meet e g) 3 (cases (rises_under e g.from g.to) 2 (cases (rises_under e g.to g.from) 0 1))
+-- none where g meets e; else one more than what g counts under the middle of e: 2 where it rises there, 0 where it falls, 1 where it does not run there
+unfoldable pub look : Edge → Edge → Option ℕ
+look e g = cases (meet e g) None (Some (cases (rises_under e g.from g.to) 2 (cases (rises_under e g.to g.from) 0 1)))
 
 -- 1 if e falls
 unfoldable pub falling : Edge → ℕ
@@ -88,15 +88,26 @@ falling e = cases (lt_z e.to.key e.from.key) 1 0
 -- ---- all edges
 
 -- what arrow j is to e
-unfoldable pub look_at : (ℕ → Place) → List ℕ → Edge → ℕ → ℕ
+unfoldable pub look_at : (ℕ → Place) → List ℕ → Edge → ℕ → Option ℕ
 look_at P s e j = look e (edge_in P s j)
 
-unfoldable pub is_three : (ℕ → ℕ) → ℕ → Bool
-is_three f j = eqb (f j) 3
+-- what was counted, where it was
+abbrev pub counted : Option ℕ → ℕ
+counted (Some k) = k
+counted None = 0
 
--- none of the first b numbers f j is 3, and they come to b + k: k is what the arrows count, the b is one more for each
-unfoldable pub fine : (ℕ → ℕ) → ℕ → ℕ → Bool
-fine f b k = not (is_found (lowest (is_three f) 0 b)) && eqb (sum_to f b) (b + k)
+abbrev pub AtMost : ℕ → Option ℕ → Type 0
+AtMost n o = counted o ≤ n
+
+unfoldable pub is_met : (ℕ → Option ℕ) → ℕ → Bool
+is_met f j = not (is_some (f j))
+
+unfoldable pub count_at : (ℕ → Option ℕ) → ℕ → ℕ
+count_at f j = counted (f j)
+
+-- each of the first b looks counts, and they come to b + k: k is what the arrows count, the b is one more for each
+unfoldable pub fine : (ℕ → Option ℕ) → ℕ → ℕ → Bool
+fine f b k = not (is_some (lowest (is_met f) 0 b)) && eqb (sum_to (count_at f) b) (b + k)
 
 -- one of the first b arrows in scratch meets arrow i, or those under its middle are not as many as a clear border has
 unfoldable pub not_free : (ℕ → Place) → List ℕ → ℕ → ℕ → Bool
@@ -104,4 +115,4 @@ not_free P s b i = not (fine (look_at P s (edge_in P s i)) b (falling (edge_in P
 
 -- this is so of none of them
 unfoldable pub all_free : (ℕ → Place) → List ℕ → ℕ → Bool
-all_free P s b = not (is_found (lowest (not_free P s b) 0 b))
+all_free P s b = not (is_some (lowest (not_free P s b) 0 b))

@@ -5,15 +5,12 @@ use Rattle.std.proofs.Math.Path.{subst}
 use Rattle.std.specs.Int.Signed.{lt_z}
 use Rattle.std.specs.Int.{w32, w64}
 use Rattle.whole.specs.Bound.{abs-add, abs-mul, fits-abs}
-use Rattle.whole.specs.Ring.{K, ◌:+◌, ◌:*◌, ring2}
 use Rattle.plane.specs.Wide.{wide-abs}
 use Rattle.meaning.specs.declared.Place.{Place}
 use Rattle.meaning.specs.Mesh.{turn}
 use Rattle.meaning.specs.Lawful.{InRange}
 use Rattle.meaning.specs.Tables.{place_at}
 use Rattle.laws.specs.Meshes.{Stands}
-use Rattle.border.specs.Clear.{steep}
-use Rattle.border.specs.Under.{key}
 use Rattle.border.specs.Keys.{turn_small, key-small}
 use Rattle.outline.specs.declared.End.{End}
 use Rattle.outline.specs.declared.Edge.{Edge}
@@ -27,22 +24,12 @@ key-times x f = fits-abs w64 (abs-mul (pos 8_388_608) x (le_refl 8_388_608) (wid
 pub key_fits : (x y : ℤ) → SFits w32 x → SFits w32 y → SFits w64 (pos 8_388_608 *ℤ x +ℤ y)
 key_fits x y f g = fits-abs w64 (abs-add (pos 8_388_608 *ℤ x) y (abs-mul (pos 8_388_608) x (le_refl 8_388_608) (wide-abs x f)) (wide-abs y g)) tt
 
-pub key-is : (a : Place) → pos 8_388_608 *ℤ a.x +ℤ a.y ≡ key steep a
-key-is a = ring2 (λ x y. (K (pos 8_388_608) :* x :+ y, K (pos 8_388_608) :* x :+ K (pos 1) :* y)) a.x a.y tt
-
 pub turns_fit : (a b c d : Place) → InRange a → InRange b → InRange c → InRange d → SFits w64 (turn a b c +ℤ turn a b d)
 turns_fit a b c d f g h i = fits-abs w64 (abs-add (turn a b c) (turn a b d) (turn_small f g h) (turn_small f g i)) tt
 
 -- a sum of two turns, in the form of needs
 pub sum-above : (x y u v : ℤ) → x ≡ u → y ≡ v → SFits w64 (u +ℤ v) → lt_z (pos 0) (to_z w64 (of_z w64 (x +ℤ y))) ≡ lt_z (pos 0) (u +ℤ v)
 sum-above x y u v e f h = rw (e, f, to_z-of_z h)
-
--- ---- an end as it is read
-
-pub end-made : (P : ℕ → Place) (k : ℕ) (a : Place) (v : ℤ) → a ≡ P k → v ≡ key steep a → ◌≡◌ {A = End} (record { node = k; place = a; key = v }) (end_by P k)
-end-made P k a v e h =
-    let q : v ≡ key steep (P k) = h ∙ ap (key steep) e in
-    λ i. record { node = k; place = e i; key = q i }
 
 -- ---- an arrow of those in scratch
 

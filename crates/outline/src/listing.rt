@@ -7,25 +7,27 @@ ghost use Rattle.neighbours.specs.Sized.{Sized, index_at};
 ghost use Rattle.neighbours.specs.Ready.{Ready};
 ghost use Rattle.outline.specs.Listed.{is_border, border_of, set_arrow, Grown, Ended};
 
-use lists::Found;
+use neighbours::Search;
 
 // No row holds y→x.
-fn is_border(rows: &[u32], scratch: &[u32], nc: usize, t: usize, x: u32, y: u32) -> bool
-    requires { Ready scratch.now nc rows.now t }
-    ensures { result ≡ is_border rows.now t (arrow x y) }
+#[tactic(auto, unfolding(crate::specs::Listed::is_border))]
+fn is_border(search: Search, x: u32, y: u32) -> bool
+    ensures { result ≡ is_border search.entry.rows.now search.entry.t (arrow x y) }
 {
-    !tables::is_found(neighbours::find_edge(rows, scratch, nc, t, y, x))
+    search.find_edge(y, x).is_none()
 }
 
 // x→y is arrow b.
+#[tactic(auto, unfolding(crate::specs::Listed::set_arrow))]
 fn put_arrow(scratch: &mut [u32], b: usize, x: u32, y: u32)
     requires { 2 * b + 2 ≤ length scratch.old }
     ensures { scratch.new ≡ set_arrow scratch.old b x y }
 {
-    tables::put_note(scratch, 2 * b, x);
-    tables::put_note(scratch, 2 * b + 1, y);
+    scratch[2 * b] = x;
+    scratch[2 * b + 1] = y;
 }
 
+// Stays: scratch is written between two searches, so that the tables travel singly.
 // x→y joins the first b arrows if it is a border one. How many there are then.
 fn list_arrow(
     rows: &[u32],
@@ -40,11 +42,18 @@ fn list_arrow(
     requires b_bound { 2 * b + 2 ≤ index_at nc (length rows.now) }
     ensures { Grown scratch.old scratch.new nc rows.now t b result 1 (border_of rows.now t (arrow x y ∷ [])) }
 {
-    if is_border(rows, scratch, nc, t, x, y) {
+    let search = Search {
+        rows,
+        scratch,
+        nc,
+        t,
+    };
+    if is_border(search, x, y) {
         put_arrow(scratch, b, x, y);
-        return b + 1;
+        b + 1
+    } else {
+        b
     }
-    b
 }
 
 // The border arrows of row i join them.
@@ -61,7 +70,7 @@ fn list_row(rows: &[u32], scratch: &mut [u32], nc: usize, t: usize, b: usize, i:
 }
 
 // How many border arrows there are, all of them listed; or nothing, where they are too many for the notes.
-pub fn list_border(rows: &[u32], scratch: &mut [u32], nc: usize, t: usize) -> Found
+pub fn list_border(rows: &[u32], scratch: &mut [u32], nc: usize, t: usize) -> Option<usize>
     requires sized { Sized nc (length rows.now) (length scratch.old) }
     requires t_in_bounds { 3 * t ≤ length rows.now }
     requires ready { Ready scratch.old nc rows.now t }
@@ -69,13 +78,11 @@ pub fn list_border(rows: &[u32], scratch: &mut [u32], nc: usize, t: usize) -> Fo
 {
     let limit = 2 * nc + rows.len() / 3;
     let mut b = 0;
-    let mut i = 0;
-    while i < t {
+    for i in 0..t {
         if 2 * b + 6 > limit {
-            return Found::Nothing;
+            return None;
         }
         b = list_row(rows, scratch, nc, t, b, i);
-        i += 1;
     }
-    Found::At(b)
+    Some(b)
 }

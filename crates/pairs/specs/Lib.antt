@@ -1,3 +1,4 @@
+pub mod Gravity
 pub mod Pair
 pub mod OnSide
 pub mod Clear
@@ -7,3 +8,4 @@ pub mod SeenLaw
 pub mod CleanLaw
 pub mod Sound
 pub mod RowsLaw
+pub mod Steps

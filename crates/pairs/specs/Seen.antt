@@ -10,6 +10,7 @@ use Rattle.meaning.specs.Lawful.{InRange}
 use Rattle.meaning.specs.Proper.{facing}
 use Rattle.pairs.specs.declared.Corner.{Corner}
 use Rattle.pairs.specs.declared.Seen.{Seen}
+use Rattle.pairs.specs.declared.Side.{Side}
 
 abbrev pub corner_by : (ℕ → Place) → ℕ → Corner
 corner_by P k = record { node = k; place = P k }
@@ -23,6 +24,10 @@ pub record Near (t : Seen) : Type 0 where
   pub near_p : InRange t.p.place
   pub near-q : InRange t.q.place
   pub near-r : InRange t.r.place
+
+pub record NearSide (s : Side) : Type 0 where
+  pub near-a : InRange s.a.place
+  pub near-b : InRange s.b.place
 
 -- ---- one side, from a to b, and one corner
 

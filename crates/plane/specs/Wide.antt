@@ -1,11 +1,11 @@
 -- 32-bit numbers in 64 bits: they, their sums and their differences fit, and sums of two products of small ones; equal bits are equal numbers. Assumes nothing.
-use Rattle.std.specs.Prelude.{◌≡◌, refl, Bool, true, false, ◌&&◌, ℕ, ◌+◌, ◌*◌, ◌^◌, ◌≤◌, T, eqb, ltb, ℤ, nat_abs, ◌+ℤ◌, ◌-ℤ◌, ◌*ℤ◌}
+use Rattle.std.specs.Prelude.{◌≡◌, refl, Bool, true, false, ◌&&◌, ℕ, ◌+◌, ◌*◌, ◌^◌, ◌≤◌, T, eqb, ltb, ℤ, nat_abs, ◌+ℤ◌, ◌*ℤ◌}
 use Rattle.std.proofs.Common.{sym, ap, ◌∙◌, arith, eqb-true}
 use Rattle.std.proofs.lemmas.Bool.{eqb-false}
 use Rattle.std.specs.Int.Signed.{le_z, nat_abs-le}
 use Rattle.std.specs.Int.{w32, w64}
 use mir.Val.{SFits, hbits, of_z}
-use Rattle.whole.specs.Bound.{abs-add, abs-sub, abs-mul, fits-abs}
+use Rattle.whole.specs.Bound.{abs-add, abs-mul, fits-abs}
 use Rattle.whole.specs.Diff.{onℤ}
 use Rattle.whole.specs.Tests.{tests, of_z-inj}
 
@@ -17,9 +17,6 @@ wide-abs z h = nat_abs-le z h.sfits
 
 pub wide-sum : (a b : ℤ) → SFits w32 a → SFits w32 b → SFits w64 (a +ℤ b)
 wide-sum a b f g = fits-abs w64 (abs-add a b (wide-abs a f) (wide-abs b g)) tt
-
-pub wide-less : (a b : ℤ) → SFits w32 a → SFits w32 b → SFits w64 (a -ℤ b)
-wide-less a b f g = fits-abs w64 (abs-sub a b (wide-abs a f) (wide-abs b g)) tt
 
 pub fits-dot : (x y z u : ℤ) (m n k l : ℕ) → nat_abs x ≤ m → nat_abs y ≤ n → nat_abs z ≤ k → nat_abs u ≤ l → T (ltb (m * n + k * l) (2 ^ hbits w64)) → SFits w64 (x *ℤ y +ℤ z *ℤ u)
 fits-dot x y z u m n k l h i j g t = fits-abs w64 (abs-add (x *ℤ y) (z *ℤ u) (abs-mul x y h i) (abs-mul z u j g)) t

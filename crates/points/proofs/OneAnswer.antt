@@ -1,10 +1,9 @@
 -- W6 and W7: on a lawful mesh that draws neither 11 nor 12 a question about a point is told what any row that holds the point makes of it. So the
 -- order of the rows does not matter, and at the place of a node it is told what the node carries. Assumes nothing.
-use Rattle.std.specs.Prelude.{Bool, true, false, ◌≡◌, refl, ℕ, ◌<◌, ℤ, pos, ◌+ℤ◌, ◌*ℤ◌, length, get_or, ◌≤ℤ◌}
+use Rattle.std.specs.Prelude.{Bool, true, false, ◌≡◌, refl, ℕ, ◌<◌, ℤ, pos, ◌+ℤ◌, ◌*ℤ◌, length, get_or, ◌≤ℤ◌, is_some}
 use mathlib.Core.List.{Memᴰ}
 use Rattle.std.proofs.Common.{inr, sym, ap, subst₂, ◌∙◌, arith}
 use Rattle.std.proofs.Math.Path.{subst⁻¹}
-use Rattle.lists.specs.Lists.{is_found}
 use Rattle.lists.specs.ListsLaw.{All-at}
 use Rattle.lists.specs.MembersLaw.{mem-at, at_mem}
 use Rattle.meaning.specs.declared.Correction.{Correction}
@@ -82,15 +81,15 @@ pub record Likewise (m n : Mesh) (P : Place) (u : Tri) : Type 0 where
 -- Two meshes tell the same of a point, if for each row of n that holds it a row of m does so likewise, and a row of n holds it wherever one of m does.
 pub same-told : {m n : Mesh} → Lawful m → Proper m → Lawful n → (P : Place) →
     ((u : Tri) → Memᴰ u n.tris → HoldsPoint n P u → Likewise m n P u) → ((t : Tri) → Memᴰ t m.tris → HoldsPoint m P t → Covered n P) → asks n P ≡ asks m P
-same-told {m} {n} law proper lawful P back there = go (is_found (row_holding n P)) refl
+same-told {m} {n} law proper lawful P back there = go (is_some (row_holding n P)) refl
   where
-    go : (b : Bool) → is_found (row_holding n P) ≡ b → asks n P ≡ asks m P
+    go : (b : Bool) → is_some (row_holding n P) ≡ b → asks n P ≡ asks m P
     go true e =
         let T = told-by lawful ((covered-exact n P).0 e) in
         let L = back T.row T.row_in T.holds in
         T.tells ∙ ap (told 0 0) L.same ∙ sym (row_told law proper L.row_in L.holds)
     go false e =
-        let none = (unfit (is_found (row_holding n P)) (covered-exact n P)).0 e in
+        let none = (unfit (is_some (row_holding n P)) (covered-exact n P)).0 e in
         none_told lawful none ∙ sym (none_told law (λ c. none (there (row_of m.tris c.row) (at_mem m.tris c.row (tri 0 0 0) c.row_below) c.row-holds)))
 
 -- ---- the order of the rows

@@ -1,8 +1,7 @@
 -- W6 and W7: refining by bisection keeps what is told of every point, where the corrections of the two ends of every split edge have even sums: each row
 -- of the split mesh makes of a point what the row that it is cut from makes of it. Assumes nothing.
-use Rattle.std.specs.Prelude.{true, ◌≡◌, ℕ, length, ◌<ℤ◌}
+use Rattle.std.specs.Prelude.{true, ◌≡◌, ℕ, length, ◌<ℤ◌, Option}
 use mathlib.Core.List.{List, Memᴰ}
-use Rattle.std.proofs.Math.Option.{Option}
 use Rattle.std.proofs.Math.Path.{sym, ap, subst}
 use Rattle.std.proofs.Common.{◌∙◌}
 use Rattle.std.proofs.Math.IntN.{pos}

@@ -1,9 +1,8 @@
 -- W6 and a row cut by bisection: a half makes of any point what the row makes, if the new node carries the exact mean of the two ends; what a half holds
 -- the row holds, and what the row holds one of the halves holds. So it is with all the parts of a cut. Assumes nothing.
 use mathlib.Core.List.{List, ◌∷◌, Memᴰ}
-use Rattle.std.specs.Prelude.{◌⊎◌, ◌≡◌, refl, ℕ, ℤ, pos, ◌+ℤ◌, ◌-ℤ◌, ◌*ℤ◌, ◌≤ℤ◌, ◌<ℤ◌}
+use Rattle.std.specs.Prelude.{◌⊎◌, ◌≡◌, refl, ℕ, ℤ, pos, ◌+ℤ◌, ◌-ℤ◌, ◌*ℤ◌, ◌≤ℤ◌, ◌<ℤ◌, Option, None, Some}
 use Rattle.std.proofs.Common.{inl, inr, ⊎_elim, sym, ◌∙◌, arith}
-use Rattle.std.proofs.Math.Option.{Option, none, some}
 use Rattle.std.proofs.Math.IntN.{+ℤ_comm}
 use Rattle.whole.specs.Diff.{onℤ, sumℤ, negℤ-ud}
 use Rattle.whole.specs.Ring.{◌:+◌, ◌:-◌, ◌:*◌, ring2, ring6, ring10, combine₂}
@@ -172,8 +171,8 @@ module _ (M : Mesh) (P : Place) where
 
 -- the same of a midpoint that may be absent
 abbrev pub HalfwayIf : Mesh → ℕ → ℕ → Option ℕ → Type 0
-HalfwayIf M a b none = Unit {0}
-HalfwayIf M a b (some n) = Halfway M n a b
+HalfwayIf M a b None = Unit {0}
+HalfwayIf M a b (Some n) = Halfway M n a b
 
 -- o, u and v are the midpoints of q–r, p–q and r–p, where these edges are split
 pub record Halved (M : Mesh) (t : Tri) (o u v : Option ℕ) : Type 0 where
@@ -184,8 +183,8 @@ pub record Halved (M : Mesh) (t : Tri) (o u v : Option ℕ) : Type 0 where
 module _ (M : Mesh) (P : Place) (t : Tri) where
   -- EACH PART OF A ROW'S CUT IS A PART OF THE ROW.
   pub parts_within : (o u v : Option ℕ) → pos 0 <ℤ twice_area M t → Halved M t o u v → All (Within M P t) (parts (bisected t o u v))
-  parts_within none u v above h = cons (record { above = above; holds = λ k. k; same = refl }) nil
-  parts_within (some m) u v above h = go u v h.on-pq h.on-rp
+  parts_within None u v above h = cons (record { above = above; holds = λ k. k; same = refl }) nil
+  parts_within (Some m) u v above h = go u v h.on-pq h.on-rp
     where
       left : Within M P t (tri m t.p t.q)
       left = left-within M P t.p t.q t.r m above h.on-qr
@@ -199,11 +198,11 @@ module _ (M : Mesh) (P : Place) (t : Tri) where
       right_of : {a b c : ℕ} (n : ℕ) → Within M P t (tri a b c) → Halfway M n b c → Within M P t (tri n c a)
       right_of {a} {b} {c} n w e = within_all M P w (right-within M P a b c n w.above e)
 
-      go : (u v : Option ℕ) → HalfwayIf M t.p t.q u → HalfwayIf M t.r t.p v → All (Within M P t) (parts (bisected t (some m) u v))
-      go none none e f = cons left (cons right nil)
-      go (some u) none e f = cons (left-of u left e) (cons right (cons (right_of u left e) nil))
-      go none (some v) e f = cons left (cons (left-of v right f) (cons (right_of v right f) nil))
-      go (some u) (some v) e f = cons (left-of u left e) (cons (left-of v right f) (cons (right_of u left e) (cons (right_of v right f) nil)))
+      go : (u v : Option ℕ) → HalfwayIf M t.p t.q u → HalfwayIf M t.r t.p v → All (Within M P t) (parts (bisected t (Some m) u v))
+      go None None e f = cons left (cons right nil)
+      go (Some u) None e f = cons (left-of u left e) (cons right (cons (right_of u left e) nil))
+      go None (Some v) e f = cons left (cons (left-of v right f) (cons (right_of v right f) nil))
+      go (Some u) (Some v) e f = cons (left-of u left e) (cons (left-of v right f) (cons (right_of u left e) (cons (right_of v right f) nil)))
 
   -- one of them holds the point
   abbrev pub SomeHolds : List Tri → Type 0
@@ -211,8 +210,8 @@ module _ (M : Mesh) (P : Place) (t : Tri) where
 
   -- WHAT THE ROW HOLDS, A PART OF ITS CUT HOLDS.
   pub some-part : (o u v : Option ℕ) → Halved M t o u v → HoldsPoint M P t → SomeHolds (parts (bisected t o u v))
-  some-part none u v h k = (t, Memᴰ.head refl, k)
-  some-part (some m) u v h k = go u v h.on-pq h.on-rp (half-holds M P t.p t.q t.r m h.on-qr.in_place k)
+  some-part None u v h k = (t, Memᴰ.head refl, k)
+  some-part (Some m) u v h k = go u v h.on-pq h.on-rp (half-holds M P t.p t.q t.r m h.on-qr.in_place k)
     where
       first : {x : Tri} {l : List Tri} → HoldsPoint M P x → SomeHolds (x ∷ l)
       first k = (_, Memᴰ.head refl, k)
@@ -221,10 +220,10 @@ module _ (M : Mesh) (P : Place) (t : Tri) where
       later (k, i, h) = (k, Memᴰ.tail i, h)
 
       go : (u v : Option ℕ) → HalfwayIf M t.p t.q u → HalfwayIf M t.r t.p v →
-          HoldsPoint M P (tri m t.p t.q) ⊎ HoldsPoint M P (tri m t.r t.p) → SomeHolds (parts (bisected t (some m) u v))
-      go none none e f = ⊎_elim (λ l. first l) (λ r. later (first r))
-      go (some u) none e f = ⊎_elim (λ l. ⊎_elim (λ k. first k) (λ k. later (later (first k))) (half-holds M P m t.p t.q u e.in_place l)) (λ r. later (first r))
-      go none (some v) e f = ⊎_elim (λ l. first l) (λ r. ⊎_elim (λ k. later (first k)) (λ k. later (later (first k))) (half-holds M P m t.r t.p v f.in_place r))
-      go (some u) (some v) e f =
+          HoldsPoint M P (tri m t.p t.q) ⊎ HoldsPoint M P (tri m t.r t.p) → SomeHolds (parts (bisected t (Some m) u v))
+      go None None e f = ⊎_elim (λ l. first l) (λ r. later (first r))
+      go (Some u) None e f = ⊎_elim (λ l. ⊎_elim (λ k. first k) (λ k. later (later (first k))) (half-holds M P m t.p t.q u e.in_place l)) (λ r. later (first r))
+      go None (Some v) e f = ⊎_elim (λ l. first l) (λ r. ⊎_elim (λ k. later (first k)) (λ k. later (later (first k))) (half-holds M P m t.r t.p v f.in_place r))
+      go (Some u) (Some v) e f =
           ⊎_elim (λ l. ⊎_elim (λ k. first k) (λ k. later (later (first k))) (half-holds M P m t.p t.q u e.in_place l))
           (λ r. ⊎_elim (λ k. later (first k)) (λ k. later (later (later (first k)))) (half-holds M P m t.r t.p v f.in_place r))

@@ -1,8 +1,6 @@
 -- By hand: what 11 and 12 and the even sums are needed for. A mesh that 01 takes and 12 refuses, whose answers depend on the order of its rows and are
 -- not those of its nodes; a mesh whose answers change when it is refined, a sum of corrections being odd; and one whose answers do not. Assumes nothing.
-use Rattle.std.specs.Prelude.{Bool, true, List, [], ◌∷◌, map, ◌≡◌, refl, ℕ, ℤ, pos, negsuc}
-use Rattle.lists.specs.declared.Found.{Found}
-use Rattle.lists.specs.declared.Found.TheVariants.{At}
+use Rattle.std.specs.Prelude.{Bool, true, List, [], ◌∷◌, map, ◌≡◌, refl, ℕ, ℤ, pos, negsuc, Option, Some}
 use Rattle.lists.specs.Lists.{All, nil, cons}
 use Rattle.lists.specs.Search.{lowest, lowest_from}
 use Rattle.meaning.specs.declared.Node.{Node}
@@ -42,11 +40,11 @@ abbrev narrow : Tri
 narrow = tri 3 4 5
 
 -- 3 to 7; whether no node is crowded; the lowest row that overlaps
-abbrev judged : Mesh → ℕ × Bool × Found
+abbrev judged : Mesh → ℕ × Bool × Option ℕ
 judged m = (refusal m, uncrowded m, first_overlap m)
 
 -- 12 alone refuses them
-pub twelve-alone : map judged (lapping wide narrow ∷ lapping narrow wide ∷ []) ≡ (0, true, At 1) ∷ (0, true, At 1) ∷ []
+pub twelve-alone : map judged (lapping wide narrow ∷ lapping narrow wide ∷ []) ≡ (0, true, Some 1) ∷ (0, true, Some 1) ∷ []
 unfolding lowest lowest_from twice_area first_outside first_misnamed first_repeat first_flat first_unused fault_of refusal none_left parted_by apart first_crowded first_overlap uncrowded
 twelve-alone = refl
 

@@ -1,13 +1,11 @@
 -- W6 and W7: refining by bisection keeps what is told of every point, where the corrections of the two ends of every split edge have even sums: then
 -- the mean that a new node carries is exact (W5 rounds it down). Assumes nothing.
-use Rattle.std.specs.Prelude.{true, ◌≡◌, refl, ℕ, ◌+◌, ◌<◌, ℤ, ◌+ℤ◌, length, get_or}
+use Rattle.std.specs.Prelude.{true, ◌≡◌, refl, ℕ, ◌+◌, ◌<◌, ℤ, ◌+ℤ◌, length, get_or, Option, None, Some}
 use mathlib.Core.List.Memᴰ
 use mathlib.Core.List.{List, map, Memᴰ}
-use Rattle.std.proofs.Math.Option.{Option, none, some}
 use Rattle.std.proofs.Math.Path.{sym, ap}
 use Rattle.std.proofs.Common.{◌∙◌, arith}
 use Rattle.std.proofs.Math.IntN.{pos}
-use Rattle.lists.specs.declared.Found.{Found}
 use Rattle.lists.specs.Lists.{all, joined, All}
 use Rattle.lists.specs.ListsLaw.{All-get_or, All-imp, all_yes, WhereIs, nowhere, place_of, where-is}
 use Rattle.lists.specs.MembersLaw.{joined_in}
@@ -49,7 +47,7 @@ mean-if : (f g : ℕ → ℤ) (n : ℕ) (s : List Edge) → ((k : ℕ) → k < n
     All (λ e. even (f e.lo +ℤ f e.hi) ≡ true) s → (a b : ℕ) → a < n → b < n → Mean g a b (number_of n s (edge a b))
 mean-if f g n s old new evens a b ha hb = go (where-is (same_edge (edge a b)) s (edge 0 0))
   where
-    go : {o : Found} → WhereIs (same_edge (edge a b)) s (edge 0 0) o → Mean g a b (plus n o)
+    go : {o : Option ℕ} → WhereIs (same_edge (edge a b)) s (edge 0 0) o → Mean g a b (plus n o)
     go (nowhere h) = tt
     go (place_of i l t) =
         (λ j. new i l j +ℤ new i l j)
@@ -59,8 +57,8 @@ mean-if f g n s old new evens a b ha hb = go (where-is (same_edge (edge a b)) s 
         ∙ sym (λ j. old a ha j +ℤ old b hb j)
 
 halfway-if : (M : Mesh) (a b : ℕ) (o : Option ℕ) → MidOf M a b o → Mean (dx_of M) a b o → Mean (dy_of M) a b o → HalfwayIf M a b o
-halfway-if M a b none h x y = tt
-halfway-if M a b (some k) h x y = record { in_place = h; in-dx = x; in-dy = y }
+halfway-if M a b None h x y = tt
+halfway-if M a b (Some k) h x y = record { in_place = h; in-dx = x; in-dy = y }
 
 -- ---- a mesh split by bisection
 

@@ -1,10 +1,9 @@
 -- The tests of 11 and 12 are exact: they find nothing exactly if a lawful mesh is proper, and else the lowest node or row at fault. Assumes nothing.
-use Rattle.std.specs.Prelude.{true, false, not, ◌⊎◌, ◌↔◌, ◌≡◌, ℕ, ◌<◌, pos, ◌<ℤ◌, length, take}
+use Rattle.std.specs.Prelude.{true, false, not, ◌⊎◌, ◌↔◌, ◌≡◌, ℕ, ◌<◌, pos, ◌<ℤ◌, length, take, Some}
 use mathlib.Core.List.{Memᴰ}
 use Rattle.std.proofs.Common.{inl, inr, sym, subst, ap, arith}
 use Rattle.std.proofs.lemmas.Bool.{not-true}
 use Rattle.std.specs.Int.Signed.{lt_z}
-use Rattle.lists.specs.declared.Found.TheVariants.{At}
 use Rattle.lists.specs.Lists.{any, up_to}
 use Rattle.lists.specs.ListsLaw.{and_both, and_left, and_right, All-at, All-of, All-get_or}
 use Rattle.lists.specs.MembersLaw.{up_to-below, up_to-in}
@@ -93,7 +92,7 @@ overlaps-exact m law i l = let h = any-exact (λ t. not (apart (shape m t) (shap
 
 module _ (m : Mesh) where
   -- 11: THE LOWEST NODE AT FAULT
-  pub first_crowded-is : (k : ℕ) → (first_crowded m ≡ At k) ↔ First (length m.nodes) (Crowded m) (λ j. ¬ Crowded m j) k
+  pub first_crowded-is : (k : ℕ) → (first_crowded m ≡ Some k) ↔ First (length m.nodes) (Crowded m) (λ j. ¬ Crowded m j) k
   unfolding first_crowded
   first_crowded-is = lowest-exact (crowded m) (length m.nodes) (λ k h. crowded-exact m k)
 
@@ -107,7 +106,7 @@ module _ (m : Mesh) where
 
   module _ (law : Lawful m) where
     -- 12: THE LOWEST ROW AT FAULT
-    pub first_overlap-is : (i : ℕ) → (first_overlap m ≡ At i) ↔ First (length m.tris) (Overlaps m) (λ j. ¬ Overlaps m j) i
+    pub first_overlap-is : (i : ℕ) → (first_overlap m ≡ Some i) ↔ First (length m.tris) (Overlaps m) (λ j. ¬ Overlaps m j) i
     unfolding first_overlap
     first_overlap-is = lowest-exact (overlaps m) (length m.tris) (overlaps-exact m law)
 

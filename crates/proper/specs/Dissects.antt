@@ -1,9 +1,8 @@
 -- What the cut of one triangle must promise besides the laws of a cut, so that splitting keeps a mesh proper: the children are parts of
 -- the father, no child has both ends of a split edge, and a point's weights in the father tell its weights in whatever child it is in, so
 -- no two children overlap. Bisection has this. Assumes nothing.
-use Rattle.std.specs.Prelude.{List, [], ◌∷◌, ◌⊎◌, ◌≡◌, refl, ℕ, ◌+◌, ◌*◌, ◌-◌, min, ℤ, pos, ◌+ℤ◌, ◌*ℤ◌}
+use Rattle.std.specs.Prelude.{List, [], ◌∷◌, ◌⊎◌, ◌≡◌, refl, ℕ, ◌+◌, ◌*◌, ◌-◌, min, ℤ, pos, ◌+ℤ◌, ◌*ℤ◌, Option, None, Some}
 use Rattle.std.proofs.Common.{inl, inr, arith}
-use Rattle.std.proofs.Math.Option.{Option, none, some}
 use Rattle.lists.specs.Lists.{All, nil, cons}
 use Rattle.whole.specs.Ring.{Expr, X, K, ◌:+◌, ◌:*◌, Holds, Checks, ring9}
 use Rattle.meaning.specs.declared.Tri.{Tri}
@@ -20,8 +19,8 @@ pub record Back : Type 0 where
 
 -- where q–r is not split, no midpoint has weight
 abbrev pub if_split : Option ℕ → ℕ → ℕ
-if_split none w = 0
-if_split (some m) w = w
+if_split None w = 0
+if_split (Some m) w = w
 
 -- a sum of the corners of a child, by weights at the father's corners and midpoints; the midpoints' come back from the father's weights
 pub record Piece (B : Back) (t : Tri) (o u v : Option ℕ) (F : Sum) : Type 0 where
@@ -32,7 +31,7 @@ pub record Piece (B : Back) (t : Tri) (o u v : Option ℕ) (F : Sum) : Type 0 wh
 
 pub record Dissects (c : Cutting) : Type 0 where
   pub back : Back
-  pub pieces : (t : Tri) (m : ℕ) (u v : Option ℕ) → All (λ k. (a b c : ℕ) → Piece back t (some m) u v (level (mix k a b c))) (parts (c t (some m) u v))
+  pub pieces : (t : Tri) (m : ℕ) (u v : Option ℕ) → All (λ k. (a b c : ℕ) → Piece back t (Some m) u v (level (mix k a b c))) (parts (c t (Some m) u v))
 
 -- ---- how a piece is given: its weights at p, q, r and at m, u, v
 
@@ -40,7 +39,7 @@ pub piece : (B : Back) (t : Tri) (m : ℕ) (u v : Option ℕ) {F : Sum} (p q r m
     → SameSum F (λ φ. pos p *ℤ φ t.p +ℤ pos q *ℤ φ t.q +ℤ pos r *ℤ φ t.r +ℤ (pos m' *ℤ φ m +ℤ onto u u' φ +ℤ onto v v' φ))
     → 4 * m' ≡ B.qr u v (4 * p + 2 * u' + 2 * v') (4 * q + 2 * m' + 2 * u') (4 * r + 2 * m' + 2 * v')
     → 4 * u' ≡ B.pq u v (4 * p + 2 * u' + 2 * v') (4 * q + 2 * m' + 2 * u') (4 * r + 2 * m' + 2 * v')
-    → 4 * v' ≡ B.rp u v (4 * p + 2 * u' + 2 * v') (4 * q + 2 * m' + 2 * u') (4 * r + 2 * m' + 2 * v') → Piece B t (some m) u v F
+    → 4 * v' ≡ B.rp u v (4 * p + 2 * u' + 2 * v') (4 * q + 2 * m' + 2 * u') (4 * r + 2 * m' + 2 * v') → Piece B t (Some m) u v F
 piece B t m u v p q r m' u' v' no-u no-v on-qr on-pq on-rp sum e f g = record {
   fine = record {
     at_p = p;
@@ -81,38 +80,38 @@ O = K (pos 0)
 -- ---- bisection: of q and r the lesser goes to m; of what is left of q, and p, the lesser to u; of what is left of r, and p, to v
 
 abbrev bisected-u : Option ℕ → ℕ → ℕ → ℕ → ℕ
-bisected-u none A B C = 0
-bisected-u (some u) A B C = 2 * min A (B - min B C)
+bisected-u None A B C = 0
+bisected-u (Some u) A B C = 2 * min A (B - min B C)
 
 abbrev pub bisected-back : Back
 bisected-back = record { qr = λ u v A B C. 2 * min B C; pq = λ u v A B C. bisected-u u A B C; rp = λ u v A B C. bisected-u v A C B }
 
-pub bisected-pieces : (t : Tri) (m : ℕ) (u v : Option ℕ) → All (λ k. (a b c : ℕ) → Piece bisected-back t (some m) u v (level (mix k a b c))) (parts (bisected t (some m) u v))
-bisected-pieces t m none none =
-    cons (λ a b c. piece bisected-back t m none none b c 0 a 0 0 refl refl (inr refl) tt tt
+pub bisected-pieces : (t : Tri) (m : ℕ) (u v : Option ℕ) → All (λ k. (a b c : ℕ) → Piece bisected-back t (Some m) u v (level (mix k a b c))) (parts (bisected t (Some m) u v))
+bisected-pieces t m None None =
+    cons (λ a b c. piece bisected-back t m None None b c 0 a 0 0 refl refl (inr refl) tt tt
     (λ φ. nine t m m m a b c φ (λ a b c p q r m u v. (a :* m :+ b :* p :+ c :* q, b :* p :+ c :* q :+ O :* r :+ (a :* m :+ O :+ O))) tt) (omega arith) (omega arith) (omega arith))
-    (cons (λ a b c. piece bisected-back t m none none c 0 b a 0 0 refl refl (inl refl) tt tt
+    (cons (λ a b c. piece bisected-back t m None None c 0 b a 0 0 refl refl (inl refl) tt tt
     (λ φ. nine t m m m a b c φ (λ a b c p q r m u v. (a :* m :+ b :* r :+ c :* p, c :* p :+ O :* q :+ b :* r :+ (a :* m :+ O :+ O))) tt) (omega arith) (omega arith) (omega arith)) nil)
-bisected-pieces t m (some u) none =
-    cons (λ a b c. piece bisected-back t m (some u) none c 0 0 b a 0 tt refl (inl refl) (inr refl) tt
+bisected-pieces t m (Some u) None =
+    cons (λ a b c. piece bisected-back t m (Some u) None c 0 0 b a 0 tt refl (inl refl) (inr refl) tt
     (λ φ. nine t m u m a b c φ (λ a b c p q r m u v. (a :* u :+ b :* m :+ c :* p, c :* p :+ O :* q :+ O :* r :+ (b :* m :+ a :* u :+ O))) tt) (omega arith) (omega arith) (omega arith))
-    (cons (λ a b c. piece bisected-back t m (some u) none c 0 b a 0 0 tt refl (inl refl) (inr refl) tt
+    (cons (λ a b c. piece bisected-back t m (Some u) None c 0 b a 0 0 tt refl (inl refl) (inr refl) tt
     (λ φ. nine t m u m a b c φ (λ a b c p q r m u v. (a :* m :+ b :* r :+ c :* p, c :* p :+ O :* q :+ b :* r :+ (a :* m :+ O :* u :+ O))) tt) (omega arith) (omega arith) (omega arith))
-    (cons (λ a b c. piece bisected-back t m (some u) none 0 b 0 c a 0 tt refl (inr refl) (inl refl) tt
+    (cons (λ a b c. piece bisected-back t m (Some u) None 0 b 0 c a 0 tt refl (inr refl) (inl refl) tt
     (λ φ. nine t m u m a b c φ (λ a b c p q r m u v. (a :* u :+ b :* q :+ c :* m, O :* p :+ b :* q :+ O :* r :+ (c :* m :+ a :* u :+ O))) tt) (omega arith) (omega arith) (omega arith)) nil))
-bisected-pieces t m none (some v) =
-    cons (λ a b c. piece bisected-back t m none (some v) b c 0 a 0 0 refl tt (inr refl) tt (inl refl)
+bisected-pieces t m None (Some v) =
+    cons (λ a b c. piece bisected-back t m None (Some v) b c 0 a 0 0 refl tt (inr refl) tt (inl refl)
     (λ φ. nine t m m v a b c φ (λ a b c p q r m u v. (a :* m :+ b :* p :+ c :* q, b :* p :+ c :* q :+ O :* r :+ (a :* m :+ O :+ O :* v))) tt) (omega arith) (omega arith) (omega arith))
-    (cons (λ a b c. piece bisected-back t m none (some v) 0 0 c b 0 a refl tt (inl refl) tt (inr refl)
+    (cons (λ a b c. piece bisected-back t m None (Some v) 0 0 c b 0 a refl tt (inl refl) tt (inr refl)
     (λ φ. nine t m m v a b c φ (λ a b c p q r m u v. (a :* v :+ b :* m :+ c :* r, O :* p :+ O :* q :+ c :* r :+ (b :* m :+ O :+ a :* v))) tt) (omega arith) (omega arith) (omega arith))
-    (cons (λ a b c. piece bisected-back t m none (some v) b 0 0 c 0 a refl tt (inl refl) tt (inl refl)
+    (cons (λ a b c. piece bisected-back t m None (Some v) b 0 0 c 0 a refl tt (inl refl) tt (inl refl)
     (λ φ. nine t m m v a b c φ (λ a b c p q r m u v. (a :* v :+ b :* p :+ c :* m, b :* p :+ O :* q :+ O :* r :+ (c :* m :+ O :+ a :* v))) tt) (omega arith) (omega arith) (omega arith)) nil))
-bisected-pieces t m (some u) (some v) =
-    cons (λ a b c. piece bisected-back t m (some u) (some v) c 0 0 b a 0 tt tt (inl refl) (inr refl) (inl refl)
+bisected-pieces t m (Some u) (Some v) =
+    cons (λ a b c. piece bisected-back t m (Some u) (Some v) c 0 0 b a 0 tt tt (inl refl) (inr refl) (inl refl)
     (λ φ. nine t m u v a b c φ (λ a b c p q r m u v. (a :* u :+ b :* m :+ c :* p, c :* p :+ O :* q :+ O :* r :+ (b :* m :+ a :* u :+ O :* v))) tt) (omega arith) (omega arith) (omega arith))
-    (cons (λ a b c. piece bisected-back t m (some u) (some v) 0 0 c b 0 a tt tt (inl refl) (inl refl) (inr refl)
+    (cons (λ a b c. piece bisected-back t m (Some u) (Some v) 0 0 c b 0 a tt tt (inl refl) (inl refl) (inr refl)
     (λ φ. nine t m u v a b c φ (λ a b c p q r m u v. (a :* v :+ b :* m :+ c :* r, O :* p :+ O :* q :+ c :* r :+ (b :* m :+ O :* u :+ a :* v))) tt) (omega arith) (omega arith) (omega arith))
-    (cons (λ a b c. piece bisected-back t m (some u) (some v) 0 b 0 c a 0 tt tt (inr refl) (inl refl) (inl refl)
+    (cons (λ a b c. piece bisected-back t m (Some u) (Some v) 0 b 0 c a 0 tt tt (inr refl) (inl refl) (inl refl)
     (λ φ. nine t m u v a b c φ (λ a b c p q r m u v. (a :* u :+ b :* q :+ c :* m, O :* p :+ b :* q :+ O :* r :+ (c :* m :+ a :* u :+ O :* v))) tt) (omega arith) (omega arith) (omega arith))
-    (cons (λ a b c. piece bisected-back t m (some u) (some v) b 0 0 c 0 a tt tt (inl refl) (inr refl) (inl refl)
+    (cons (λ a b c. piece bisected-back t m (Some u) (Some v) b 0 0 c 0 a tt tt (inl refl) (inr refl) (inl refl)
     (λ φ. nine t m u v a b c φ (λ a b c p q r m u v. (a :* v :+ b :* p :+ c :* m, b :* p :+ O :* q :+ O :* r :+ (c :* m :+ O :* u :+ a :* v))) tt) (omega arith) (omega arith) (omega arith)) nil)))

@@ -1,7 +1,6 @@
 -- A sum of the corners of a child of a row (p, q, r): weights at p, q, r and at the midpoints of q–r, p–q, r–p, where these edges are
 -- split. Four times the sum is a sum of the row's own corners: half of a midpoint goes to each end. Assumes nothing.
-use Rattle.std.specs.Prelude.{[], ◌∷◌, ◌⊎◌, ◌≡◌, ℕ, ◌+◌, ◌*◌, ℤ, pos, ◌+ℤ◌, ◌*ℤ◌}
-use Rattle.std.proofs.Math.Option.{Option, none, some}
+use Rattle.std.specs.Prelude.{[], ◌∷◌, ◌⊎◌, ◌≡◌, ℕ, ◌+◌, ◌*◌, ℤ, pos, ◌+ℤ◌, ◌*ℤ◌, Option, None, Some}
 use Rattle.std.proofs.Common.{ap, ◌∙◌}
 use Rattle.whole.specs.Ring.{Expr, X, K, ◌:+◌, ◌:*◌, solve, ring2}
 use Rattle.meaning.specs.declared.Tri.{Tri}
@@ -10,18 +9,18 @@ use Rattle.proper.specs.Sums.{Sum, Mix, mix, level, SameSum}
 
 -- a midpoint that may be absent
 abbrev pub onto : Option ℕ → ℕ → Sum
-onto none w φ = pos 0
-onto (some k) w φ = pos w *ℤ φ k
+onto None w φ = pos 0
+onto (Some k) w φ = pos w *ℤ φ k
 
 -- an absent one has no weight
 abbrev pub Absent : Option ℕ → ℕ → Type 0
-Absent none w = w ≡ 0
-Absent (some k) w = Unit {0}
+Absent None w = w ≡ 0
+Absent (Some k) w = Unit {0}
 
 -- no child holds both ends of a split edge
 abbrev pub Parted : Option ℕ → ℕ → ℕ → Type 0
-Parted none a b = Unit {0}
-Parted (some k) a b = (a ≡ 0) ⊎ (b ≡ 0)
+Parted None a b = Unit {0}
+Parted (Some k) a b = (a ≡ 0) ⊎ (b ≡ 0)
 
 -- F by weights at the corners of t and at the midpoints o of q–r, u of p–q, v of r–p
 pub record Fine (t : Tri) (o u v : Option ℕ) (F : Sum) : Type 0 where
@@ -46,12 +45,12 @@ coarse {t} f = mix t (4 * f.at_p + 2 * f.on-pq + 2 * f.on-rp) (4 * f.at-q + 2 * 
 -- ---- four times the sum, of numbers that are means at midpoints
 
 abbrev pub Mean : (ℕ → ℤ) → ℕ → ℕ → Option ℕ → Type 0
-Mean φ x y none = Unit {0}
-Mean φ x y (some k) = φ k +ℤ φ k ≡ φ x +ℤ φ y
+Mean φ x y None = Unit {0}
+Mean φ x y (Some k) = φ k +ℤ φ k ≡ φ x +ℤ φ y
 
 halves : (φ : ℕ → ℤ) (x y : ℕ) (o : Option ℕ) (w : ℕ) → Absent o w → Mean φ x y o → pos 4 *ℤ onto o w φ ≡ pos (2 * w) *ℤ (φ x +ℤ φ y)
-halves φ x y none w a h = rw a (ring2 (λ u v. (K (pos 0), K (pos 0) :* (u :+ v))) (φ x) (φ y) tt)
-halves φ x y (some k) w a h = ring2 (λ w z. (K (pos 4) :* (w :* z), K (pos 2) :* w :* (z :+ z))) (pos w) (φ k) tt ∙ ap (λ z. pos (2 * w) *ℤ z) h
+halves φ x y None w a h = rw a (ring2 (λ u v. (K (pos 0), K (pos 0) :* (u :+ v))) (φ x) (φ y) tt)
+halves φ x y (Some k) w a h = ring2 (λ w z. (K (pos 4) :* (w :* z), K (pos 2) :* w :* (z :+ z))) (pos w) (φ k) tt ∙ ap (λ z. pos (2 * w) *ℤ z) h
 
 -- four times a corner and two midpoints' halves
 abbrev four_expr : ℕ → ℕ → ℕ → Expr

@@ -1,8 +1,7 @@
 -- A sum of the corners of a child, where a corner of the father has no weight in the father's sum: it is one of an edge alone, and of an
 -- edge, split or not, it is told by what it is in the father. Assumes nothing.
-use Rattle.std.specs.Prelude.{◌⊎◌, ◌≢◌, ◌≡◌, refl, ℕ, zero, suc, ◌+◌, ◌*◌, ◌<◌, ℤ, pos, ◌+ℤ◌, ◌*ℤ◌}
+use Rattle.std.specs.Prelude.{◌⊎◌, ◌≢◌, ◌≡◌, refl, ℕ, zero, suc, ◌+◌, ◌*◌, ◌<◌, ℤ, pos, ◌+ℤ◌, ◌*ℤ◌, Option, None, Some}
 use Rattle.std.proofs.Common.{inl, inr, sym, ap, subst, subst₂, ◌∙◌, arith}
-use Rattle.std.proofs.Math.Option.{Option, none, some}
 use Rattle.std.proofs.Math.Decide.{ℕ_discrete}
 use Rattle.whole.specs.Diff.{onℤ}
 use Rattle.whole.specs.Ring.{K, ◌:+◌, ◌:*◌, ring2, ring4}
@@ -26,8 +25,8 @@ pub record OnEdge (o : Option ℕ) (x y : ℕ) (F G : Sum) : Type 0 where
   pub is-coarse : SameSum G (two x y (4 * at_x + 2 * mid) (4 * at_y + 2 * mid))
 
 onto-zero : (o : Option ℕ) (w : ℕ) (φ : ℕ → ℤ) → w ≡ 0 → onto o w φ ≡ pos 0
-onto-zero none w φ e = refl
-onto-zero (some k) w φ e = rw e (ring2 (λ u v. (K (pos 0) :* u, K (pos 0))) (φ k) (φ k) tt)
+onto-zero None w φ e = refl
+onto-zero (Some k) w φ e = rw e (ring2 (λ u v. (K (pos 0) :* u, K (pos 0))) (φ k) (φ k) tt)
 
 -- no weight at r
 edge-pq : {t : Tri} {o u v : Option ℕ} {F : Sum} (f : Fine t o u v F) → (coarse f).c ≡ 0 → OnEdge u t.p t.q F (level (coarse f))
@@ -58,9 +57,9 @@ pub data Lacks (s : Mix) : Type 0 where
   no-r : s.c ≡ 0 → Lacks s
 
 parted-swap : (o : Option ℕ) (a b : ℕ) → Parted o a b → Parted o b a
-parted-swap none a b h = tt
-parted-swap (some k) a b (inl e) = inr e
-parted-swap (some k) a b (inr e) = inl e
+parted-swap None a b h = tt
+parted-swap (Some k) a b (inl e) = inr e
+parted-swap (Some k) a b (inr e) = inl e
 
 -- the weights of two nodes in their sum
 weights : (x y : ℕ) → x ≢ y → (a b a' b' : ℕ) → SameSum (two x y a b) (two x y a' b') → (a ≡ a') × (b ≡ b')
@@ -82,22 +81,22 @@ sum-above (suc a) (suc b) (suc u) v h i l = omega arith
 ends : (x y k a b : ℕ) → 0 < a * here k x + b * here k y → (k ≡ x) ⊎ (k ≡ y)
 ends x y k a b h = go (ℕ_discrete x k) (ℕ_discrete y k)
   where
-    none : (u v : ℕ) → 0 < a * u + b * v → u ≡ 0 → v ≡ 0 → ⊥
-    none u v h e f = let n : a * u + b * v ≡ a * 0 + b * 0 = rw (e, f) in omega arith
+    None : (u v : ℕ) → 0 < a * u + b * v → u ≡ 0 → v ≡ 0 → ⊥
+    None u v h e f = let n : a * u + b * v ≡ a * 0 + b * 0 = rw (e, f) in omega arith
 
     go : Dec (x ≡ k) → Dec (y ≡ k) → (k ≡ x) ⊎ (k ≡ y)
     go (yes e) d = inl (sym e)
     go (no e) (yes f) = inr (sym f)
-    go (no e) (no f) = absurd (none (here k x) (here k y) h (here-no k x e) (here-no k y f))
+    go (no e) (no f) = absurd (None (here k x) (here k y) h (here-no k x e) (here-no k y f))
 
 -- what is split comes back from the row: the smaller of two weights is the midpoint's
 recover : (o : Option ℕ) (a b c a' b' c' : ℕ) → Absent o c → Absent o c' → Parted o a b → Parted o a' b' → 4 * a + 2 * c ≡ 4 * a' + 2 * c' → 4 * b + 2 * c ≡ 4 * b' + 2 * c'
     → (a ≡ a') × (b ≡ b') × (c ≡ c')
-recover none a b c a' b' c' z z' p p' e f = (omega arith, omega arith, omega arith)
-recover (some k) a b c a' b' c' z z' (inl p) (inl p') e f = (omega arith, omega arith, omega arith)
-recover (some k) a b c a' b' c' z z' (inl p) (inr p') e f = (omega arith, omega arith, omega arith)
-recover (some k) a b c a' b' c' z z' (inr p) (inl p') e f = (omega arith, omega arith, omega arith)
-recover (some k) a b c a' b' c' z z' (inr p) (inr p') e f = (omega arith, omega arith, omega arith)
+recover None a b c a' b' c' z z' p p' e f = (omega arith, omega arith, omega arith)
+recover (Some k) a b c a' b' c' z z' (inl p) (inl p') e f = (omega arith, omega arith, omega arith)
+recover (Some k) a b c a' b' c' z z' (inl p) (inr p') e f = (omega arith, omega arith, omega arith)
+recover (Some k) a b c a' b' c' z z' (inr p) (inl p') e f = (omega arith, omega arith, omega arith)
+recover (Some k) a b c a' b' c' z z' (inr p) (inr p') e f = (omega arith, omega arith, omega arith)
 
 -- without weight at a midpoint the row has four times the sum
 quarter : {o : Option ℕ} {x y : ℕ} {F G : Sum} (E : OnEdge o x y F G) → E.mid ≡ 0 → (φ : ℕ → ℤ) → pos 4 *ℤ F φ ≡ G φ

@@ -1,9 +1,8 @@
 -- Splitting keeps a lawful mesh proper, from any starting edges, by any cut whose children are parts of the father, where every split edge
 -- has an exact midpoint. A point of two children is a point of their fathers, so one sum of the fathers' corners. If the father is one,
 -- the father's weights tell the child's; if there are two, the point lies on an edge of each, and that is one edge or a node. Assumes nothing.
-use Rattle.std.specs.Prelude.{Bool, true, false, ◌≢◌, ◌≡◌, refl, ℕ, zero, suc, ◌*◌, ◌<◌, ℤ, ◌+ℤ◌, ◌*ℤ◌}
+use Rattle.std.specs.Prelude.{Bool, true, false, ◌≢◌, ◌≡◌, refl, ℕ, zero, suc, ◌*◌, ◌<◌, ℤ, ◌+ℤ◌, ◌*ℤ◌, Option, None, Some}
 use mathlib.Core.List.{List, Memᴰ}
-use Rattle.std.proofs.Math.Option.{Option, none, some}
 use Rattle.std.proofs.Math.Path.{sym, subst⁻¹}
 use Rattle.std.proofs.Common.{ap, ◌∙◌, arith}
 use Rattle.std.proofs.Math.IntN.{pos}
@@ -43,14 +42,14 @@ lacks m law s u i j n e = go s.a refl s.b refl s.c refl
 -- ---- means
 
 mean-of : (f : Place → ℤ) → Meant f → (M : Mesh) (x y : ℕ) (o : Option ℕ) → MidOf M x y o → Mean (λ k. f (at M k)) x y o
-mean-of f h M x y none g = tt
-mean-of f h M x y (some k) g = h (at M k) (at M x) (at M y) g
+mean-of f h M x y None g = tt
+mean-of f h M x y (Some k) g = h (at M k) (at M x) (at M y) g
 
 -- ---- the pieces of any row, whether or not it is cut
 
 module _ {c : Cutting} (laws : CutLaws c) (D : Dissects c) where
   -- a row that is not cut
-  uncut : (t : Tri) (a b c : ℕ) → Piece D.back t none none none (level (mix t a b c))
+  uncut : (t : Tri) (a b c : ℕ) → Piece D.back t None None None (level (mix t a b c))
   uncut t a b c = record {
     fine = record {
       at_p = a;
@@ -73,10 +72,10 @@ module _ {c : Cutting} (laws : CutLaws c) (D : Dissects c) where
   }
 
   piece_of : (t : Tri) (o u v : Option ℕ) → (there o ≡ 0 → (there u ≡ 0) × (there v ≡ 0)) → All (λ k. (a b c : ℕ) → Piece D.back t o u v (level (mix k a b c))) (parts (c t o u v))
-  piece_of t none none none h = rw (laws.whole t none none) (cons (uncut t) nil)
-  piece_of t none (some k) v h = absurd (let e = h refl in omega arith)
-  piece_of t none none (some k) h = absurd (let e = h refl in omega arith)
-  piece_of t (some m) u v h = D.pieces t m u v
+  piece_of t None None None h = rw (laws.whole t None None) (cons (uncut t) nil)
+  piece_of t None (Some k) v h = absurd (let e = h refl in omega arith)
+  piece_of t None None (Some k) h = absurd (let e = h refl in omega arith)
+  piece_of t (Some m) u v h = D.pieces t m u v
 
   -- of one row: the weights in the row tell the sum
   same-father : {n : ℕ} (t : Tri) → Named n t → (o u v : Option ℕ) {F G : Sum} (P : Piece D.back t o u v F) (Q : Piece D.back t o u v G) →

@@ -1,6 +1,6 @@
 -- Document 01, 'The line program', W1's `09`, W2's culprit, W5's corrections and `08`, W8's `0a`: what one line does to what the program holds, and
 -- what it writes. Every definition takes any tables and any bytes. Assumes nothing.
-use Rattle.std.specs.Prelude.{Bool, true, false, not, ◌&&◌, List, [], ℕ, ◌+◌, ◌%◌, eqb, leb, ltb, ℤ, pos, length, drop}
+use Rattle.std.specs.Prelude.{Bool, true, false, not, ◌&&◌, List, [], Option, Some, None, ℕ, ◌+◌, ◌%◌, eqb, leb, ltb, ℤ, pos, length, drop}
 use Rattle.lists.specs.Lists.{all, any, cases}
 use Rattle.lists.specs.Search.{items}
 use Rattle.meaning.specs.declared.Answer.{Answer}
@@ -14,8 +14,6 @@ use Rattle.tables.specs.Put.{set_node, set_row}
 use Rattle.text.specs.Digits.{is_digit, number, field, listed}
 use Rattle.text.specs.Lines.{correction_in, node_in, row_in, ff_line, answer_line, all_lines}
 use Rattle.protocol.specs.declared.Session.{Session}
-use Rattle.protocol.specs.declared.Refines.{Refines}
-use Rattle.protocol.specs.declared.Refines.TheVariants.{In, Never}
 
 -- ---- what the program holds, and what a line makes of it
 
@@ -51,16 +49,16 @@ ff h = step h ff_line
 
 -- each in its way. 01: "`04` refines the triangles listed"; W1: "The line program gets `09`, laid out and answered like `04`."; W8: "gets `0a`,
 -- laid out like `04`"
-unfoldable pub refines_in : ℕ → Refines
+unfoldable pub refines_in : ℕ → Option (Manner × Quarters)
 refines_in kind =
-    cases (eqb kind 4) (In Newest Bisected)
-    (cases (eqb kind 9) (In AllThree Bisected)
-    (cases (eqb kind 0x0a) (In AllThree Red)
-    Never))
+    cases (eqb kind 4) (Some (Newest, Bisected))
+    (cases (eqb kind 9) (Some (AllThree, Bisected))
+    (cases (eqb kind 0x0a) (Some (AllThree, Red))
+    None))
 
-abbrev pub if_refines : {A : Type 0} → Refines → (Manner → Quarters → A) → A → A
-if_refines (In k q) f a = f k q
-if_refines Never f a = a
+abbrev pub if_refines : {A : Type 0} → Option (Manner × Quarters) → (Manner → Quarters → A) → A → A
+if_refines (Some way) f a = f way.0 way.1
+if_refines None f a = a
 
 abbrev pub is_refining : ℕ → Bool
 is_refining kind = if_refines (refines_in kind) (λ _ _. true) false

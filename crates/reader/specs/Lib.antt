@@ -2,3 +2,4 @@
 pub mod Values
 pub mod Within
 pub mod ReaderLaw
+pub mod Steps

@@ -1,15 +1,13 @@
 -- The reader in the form in which the code reads. Assumes nothing.
-use Rattle.std.specs.Prelude.{◌≡◌, Bool, true, not, ◌&&◌, ◌||◌, ℕ, ◌+◌, ◌-◌, ◌^◌, ◌≤◌, ◌<◌, eqb, leb, ltb, ℤ, pos, get_or, set, take, drop, replicate}
+use Rattle.std.specs.Prelude.{◌≡◌, Bool, true, not, ◌||◌, ℕ, ◌+◌, ◌≤◌, ◌<◌, eqb, ltb, ℤ, pos, get_or, set, take, drop, replicate}
 use Rattle.std.proofs.Math.Path.{refl}
 use Rattle.std.proofs.Common.{sym, ap, ◌∙◌, arith, add-one, drop_of_length-le, drop-cons, length-take-le}
 use Rattle.std.proofs.Math.Bool.{false}
-use mathlib.Core.List.{List, [], ◌++◌, append-nil}
+use mathlib.Core.List.{List, [], ◌++◌}
 use borrow.Author.Tests.{lt-ltb, le-ltb, eq-eqb, ne_eqb, ltb-true, ltb-false, not-true, not-false}
 use Rattle.std.proofs.Math.ListN.{length}
 use Rattle.lists.specs.Lists.{cases}
-use Rattle.lists.specs.ListsLaw.{clash, and_left, and_right}
-use Rattle.lists.specs.Search.{items, items_from}
-use Rattle.meaning.specs.Tables.{node_at, row_at, flat_nodes, flat_rows, filled}
+use Rattle.lists.specs.ListsLaw.{clash}
 use Rattle.text.specs.Lines.{ff_line}
 use Rattle.text.specs.Writing.{Wrote, wrote, writes, then}
 use Rattle.protocol.specs.declared.Session.{Session}
@@ -17,7 +15,7 @@ use Rattle.protocol.specs.Frames.{held, session}
 use Rattle.protocol.specs.Program.{opening, closing}
 use Rattle.frames.specs.declared.Answered.{Answered}
 use Rattle.frames.specs.Answered.{lent}
-use Rattle.fitting.specs.Lent.{line_lent, whole}
+use Rattle.fitting.specs.Lent.{line_lent}
 use Rattle.reader.specs.declared.Carried.{Carried}
 use Rattle.reader.specs.declared.Heard.{Heard}
 use Rattle.reader.specs.declared.Took.{Took}
@@ -46,9 +44,10 @@ longer-fits used b k buffer line h e = go (ltb used 255) refl e
     go true q e = omega (arith, ltb-true used 255 q, ap (λ (u : Unfinished). u.used) e)
     go false q e = omega (arith, ap (λ (u : Unfinished). u.used) e)
 
-pub wiped-is : (used : ℕ) (buffer line : List ℕ) → line ≡ replicate used 0 ++ drop used buffer → unfinished 0 line ≡ wiped (unfinished used buffer)
+pub wiped-is : (used : ℕ) (buffer ys : List ℕ) → used ≤ length buffer → ys ≡ replicate (length (take used buffer)) 0 →
+    unfinished 0 (ys ++ drop used buffer) ≡ wiped (unfinished used buffer)
 unfolding wiped
-wiped-is used buffer line e = ap (unfinished 0) e
+wiped-is used buffer ys h e = let n = length-take-le used buffer h in rw (e, n)
 
 -- the part of the buffer that is the line
 pub used-count : (used : ℕ) (buffer : List ℕ) → used ≤ 255 → length buffer ≡ 255 → used ≡ length (take used buffer)
@@ -74,47 +73,30 @@ module _ (c : Carried) (ns : List ℤ) (rs sc out buffer : List ℕ) (b : ℕ) w
 
 -- ---- the bytes of a piece
 
--- "while there is a byte and nothing is written"
-pub still-below : (i n k : ℕ) → ltb i n && eqb k 0 ≡ true → i < n
-still-below i n k h = ltb-true i n (and_left (ltb i n) (eqb k 0) h)
+-- of a loop in which nothing was written yet: total is what the whole loop leaves
+module _ (piece : List ℕ) (i : ℕ) (c : Carried) (line : List ℕ) (ns : List ℤ) (rs sc out : List ℕ) (total : Taken)
+    (inv : further (tells 0 i (wrote 0 out) (carries c line ns rs sc)) (drop i piece) ≡ total) where
+  module _ (h : Heard) (line' : List ℕ) (ns' : List ℤ) (rs' sc' out' : List ℕ) (b : i < length piece)
+      (e : heard h line' ns' rs' sc' out' ≡ byte_read (carries c line ns rs sc) (get_or piece i 0) out) where
+    after : further (tells 0 (i + 1) (wrote h.written out') (carries h.carried line' ns' rs' sc')) (drop (i + 1) piece) ≡ total
+    unfolding further
+    after =
+        (λ j. further (tells 0 (i + 1) (e j).text (e j).next) (drop (add-one i j) piece)) ∙
+        (rw (drop-cons piece i 0 b) at inv)
 
-pub still-counts : (i n k : ℕ) → ltb i n && eqb k 0 ≡ true → n ≤ 512 → i + 1 < 2 ^ 64
-still-counts i n k h f = omega (arith, still-below i n k h)
+    pub bytes-turn : h.written ≡ 0 → further (tells 0 (i + 1) (wrote 0 out') (carries h.carried line' ns' rs' sc')) (drop (i + 1) piece) ≡ total
+    bytes-turn z = rw z at after
 
-pub still-less : (i n k : ℕ) → ltb i n && eqb k 0 ≡ true → n - (i + 1) < n - i
-still-less i n k h = omega (arith, still-below i n k h)
+    pub bytes-stop : (h.written ≡ 0 → ⊥) → tells 0 (i + 1) (wrote h.written out') (carries h.carried line' ns' rs' sc') ≡ total
+    bytes-stop z =
+        let x : Taken = tells 0 (i + 1) (wrote h.written out') (carries h.carried line' ns' rs' sc') in
+        sym (further-stops x (drop (i + 1) piece) (ne_eqb h.written 0 z)) ∙ after
 
--- total is what the whole loop leaves
-module _ (piece : List ℕ) (i : ℕ) (h : Heard) (line : List ℕ) (ns : List ℤ) (rs sc out : List ℕ) (total : Taken)
-    (inv : further (tells 0 i (wrote h.written out) (carries h.carried line ns rs sc)) (drop i piece) ≡ total) where
-  pub bytes-turn : (h' : Heard) (line' : List ℕ) (ns' : List ℤ) (rs' sc' out' : List ℕ) → ltb i (length piece) && eqb h.written 0 ≡ true →
-      heard h' line' ns' rs' sc' out' ≡ byte_read (carries h.carried line ns rs sc) (get_or piece i 0) out →
-      further (tells 0 (i + 1) (wrote h'.written out') (carries h'.carried line' ns' rs' sc')) (drop (i + 1) piece) ≡ total
+  pub bytes-end : i ≡ length piece → tells 0 (length piece) (wrote 0 out) (carries c line ns rs sc) ≡ total
   unfolding further
-  bytes-turn h' line' ns' rs' sc' out' g e =
-      (λ j. further (tells 0 (i + 1) (e j).text (e j).next) (drop (add-one i j) piece)) ∙
-      (rw (drop-cons piece i 0 (still-below i (length piece) h.written g), and_right (ltb i (length piece)) (eqb h.written 0) g) at inv)
-
-  pub bytes-end : ltb i (length piece) && eqb h.written 0 ≡ false → tells 0 i (wrote h.written out) (carries h.carried line ns rs sc) ≡ total
-  unfolding further
-  bytes-end g = go (eqb h.written 0) refl
-    where
-      x : Taken
-      x = tells 0 i (wrote h.written out) (carries h.carried line ns rs sc)
-
-      short : (b : Bool) → ltb i (length piece) ≡ b → b && true ≡ false → x ≡ total
-      short true e z = clash z
-      short false e z = rw (drop_of_length-le piece (ltb-false i (length piece) e)) at inv
-
-      go : (b : Bool) → eqb h.written 0 ≡ b → x ≡ total
-      go true e = short (ltb i (length piece)) refl (rw e at g)
-      go false e = sym (further-stops x (drop i piece) e) ∙ inv
+  bytes-end h = let k : length piece ≤ i = omega arith in rw (← h) (rw (drop_of_length-le piece k) at inv)
 
 -- ---- what is lent
-
-pub fits-are : (ll nl rl sl ol used : ℕ) (s : Session) (k : Bool) → k ≡ whole nl rl sl ol s → eqb ll 255 && leb used 255 && k ≡ fits ll nl rl sl ol used s
-unfolding fits
-fits-are ll nl rl sl ol used s k e = rw e
 
 -- y is what the code found
 module _ (ll nl rl sl ol used : ℕ) (s : Session) (y : Bool) (q : y ≡ fits ll nl rl sl ol used s) (n : not y ≡ false) where
@@ -200,16 +182,14 @@ module _ (line : List ℕ) (ns : List ℤ) (rs sc out : List ℕ) (y : Bool) (q 
   unfolding begin_out
   begin-misfit k n e = nothing-took k 1 (carried 0 false (session 0 0 0 false)) e line ns rs sc out ∙ rw (← q, not-true y n)
 
-  module _ (k : ℕ) (o line₁ : List ℕ) (ns₁ : List ℤ) (rs₁ sc₁ : List ℕ) (n : not y ≡ false) (l : unfinished 0 line₁ ≡ wiped (unfinished 255 line))
-      (a : ns₁ ≡ filled (pos 0) (length ns) (flat_nodes (items (node_at ns) 0 0))) (b : rs₁ ≡ filled 0 (length rs) (flat_rows (items (row_at rs) 0 0))) (c : sc₁ ≡ replicate (length sc) 0)
+  module _ (k : ℕ) (o line₁ : List ℕ) (ns₁ : List ℤ) (rs₁ sc₁ : List ℕ) (n : not y ≡ false) (l : line₁ ≡ replicate (length line) 0)
+      (a : ns₁ ≡ replicate (length ns) (pos 0)) (b : rs₁ ≡ replicate (length rs) 0) (c : sc₁ ≡ replicate (length sc) 0)
       (t : wrote k o ≡ writes (wrote 0 out) opening) where
     pub begin-begins : tells 0 0 (wrote k o) (reader (unfinished 0 line₁) false (held ns₁ rs₁ sc₁ (session 0 0 0 false))) ≡ begin_out line ns rs sc out
-    unfolding begin_out wiped items items_from
+    unfolding begin_out
     begin-begins =
         let f : Fits (length line) (length ns) (length rs) (length sc) (length out) 0 (session 0 0 0 false) = all_fit (length line) (length ns) (length rs) (length sc) (length out) 0 (session 0 0 0 false) y q n in
-        let g : length line ≤ 255 = omega (arith, f.line) in
-        let l' : unfinished 0 line₁ ≡ unfinished 0 (replicate 255 0) = l ∙ rw (drop_of_length-le line g, append-nil {A = ℕ} (replicate 255 0)) in
-        rw (← q, not-false y n, l', a, b, c, t, f.lent.nodes, f.lent.rows, f.lent.scratch)
+        rw (← q, not-false y n, l, a, b, c, t, f.line, f.lent.nodes, f.lent.rows, f.lent.scratch)
 
     pub begin-few : k ≤ 32768
     begin-few = begun-few (record { number = 0; taken = 0; written = k; carried = carried 0 false (session 0 0 0 false) }) line₁ rs₁ sc₁ o ns₁ line ns rs sc out begin-begins

@@ -22,14 +22,28 @@ pub struct Carried {
     pub session: Session,
 }
 
+impl Carried {
+    // Of a reader that has read nothing.
+    pub fn new() -> Carried
+        ensures { result ≡ v.fresh }
+    {
+        Carried {
+            used: 0,
+            ended: false,
+            session: Session::new(),
+        }
+    }
+}
+
 // After a byte: what is carried, and how many bytes were written.
 #[derive(Clone, Copy)]
-pub struct Heard {
-    pub carried: Carried,
-    pub written: usize,
+struct Heard {
+    carried: Carried,
+    written: usize,
 }
 
 // A call's answer: its number, how many bytes of the piece were taken, how many were written, and what is carried on.
+// Stays: the number is what the exported calls return (`r.tells` in their contracts).
 #[derive(Clone, Copy)]
 pub struct Took {
     pub number: u32,
@@ -47,9 +61,10 @@ fn longer(line: &mut [u8], used: usize, b: u8) -> usize
 {
     if used < 255 {
         line[used] = b;
-        return used + 1;
+        used + 1
+    } else {
+        used
     }
-    used
 }
 
 // Nothing of a line is kept.
@@ -57,14 +72,12 @@ fn wipe(line: &mut [u8], used: usize)
     requires { used ≤ length line.old }
     ensures { r.unfinished 0 line.new ≡ r.wiped (r.unfinished used line.old) }
 {
-    let mut i = 0;
-    while i < used {
-        line[i] = 0;
-        i += 1;
-    }
+    line[..used].fill(0);
 }
 
 // ---- a byte, and the bytes of a piece
+
+// Stays: the buffers and the tables are lent as slices, one by one: the project's rule.
 
 // The end byte has the line answered into `out`; any other joins it.
 fn take_byte(
@@ -81,30 +94,32 @@ fn take_byte(
     ensures out_after { v.heard result line.new nodes.new rows.new scratch.new out.new ≡ r.byte_read (v.carries carried line.old nodes.old rows.old scratch.old) b out.old }
     ensures used_bound_2 { result.carried.used ≤ 255 }
 {
-    let used = carried.used;
-    let ended = carried.ended;
-    let session = carried.session;
     if b == b'\n' {
-        let d = frames::line(&line[..used], nodes, rows, scratch, session, out);
-        wipe(line, used);
-        let after = d.session;
-        return Heard {
+        let answered = frames::line(
+            &line[..carried.used],
+            nodes,
+            rows,
+            scratch,
+            carried.session,
+            out,
+        );
+        wipe(line, carried.used);
+        Heard {
             carried: Carried {
                 used: 0,
-                ended,
-                session: after,
+                session: answered.session,
+                ..carried
             },
-            written: d.written,
-        };
-    }
-    let used = longer(line, used, b);
-    Heard {
-        carried: Carried {
-            used,
-            ended,
-            session,
-        },
-        written: 0,
+            written: answered.written,
+        }
+    } else {
+        Heard {
+            carried: Carried {
+                used: longer(line, carried.used, b),
+                ..carried
+            },
+            written: 0,
+        }
     }
 }
 
@@ -123,27 +138,31 @@ fn take_bytes(
     requires used_bound { carried.used ≤ 255 }
     ensures { v.took result line.new nodes.new rows.new scratch.new out.new ≡ r.further (r.unchanged 0 (v.carries carried line.old nodes.old rows.old scratch.old) out.old) piece.now }
 {
-    let mut heard = Heard {
-        carried,
-        written: 0,
-    };
-    let mut i = 0;
-    while (i < piece.len()) & (heard.written == 0) {
-        heard = take_byte(piece[i], heard.carried, line, nodes, rows, scratch, out);
-        i += 1;
+    let mut carried = carried;
+    for (i, &b) in piece.iter().enumerate() {
+        let heard = take_byte(b, carried, line, nodes, rows, scratch, out);
+        carried = heard.carried;
+        if heard.written != 0 {
+            return Took {
+                number: 0,
+                taken: i + 1,
+                written: heard.written,
+                carried,
+            };
+        }
     }
-    let after = heard.carried;
     Took {
         number: 0,
-        taken: i,
-        written: heard.written,
-        carried: after,
+        taken: piece.len(),
+        written: 0,
+        carried,
     }
 }
 
 // ---- the calls
 
 // Whether all that is lent has its size, and no more of the line buffer is used than there is.
+#[tactic(auto, unfolding(pieces::specs::Reader::fits))]
 fn fits(
     ll: usize,
     nl: usize,
@@ -155,7 +174,7 @@ fn fits(
 ) -> bool
     ensures { result ≡ r.fits ll nl rl sl ol used session }
 {
-    (ll == 255) & (used <= 255) & frames::whole(nl, rl, sl, ol, session)
+    ll == 255 && used <= 255 && frames::whole(nl, rl, sl, ol, session)
 }
 
 // A call that changes nothing.
@@ -189,46 +208,36 @@ pub fn begin(
     ensures out_after { v.took result line.new nodes.new rows.new scratch.new out.new ≡ r.begin_out line.old nodes.old rows.old scratch.old out.old }
     ensures written_bound { result.written ≤ 32768 }
 {
-    let session = Session {
-        n: 0,
-        t: 0,
-        n0: 0,
-        accepted: false,
-    };
-    let carried = Carried {
-        used: 0,
-        ended: false,
-        session,
-    };
+    let carried = Carried::new();
     if !fits(
         line.len(),
         nodes.len(),
         rows.len(),
         scratch.len(),
         out.len(),
-        0,
-        session,
+        carried.used,
+        carried.session,
     ) {
         return unchanged(1, carried);
     }
-    wipe(line, 255);
-    tables::clear_nodes_from(nodes, 0);
-    tables::clear_rows_from(rows, 0);
-    tables::clear(scratch);
-    let written = put_first(out);
+    line.fill(0);
+    nodes.fill(0);
+    rows.fill(0);
+    scratch.fill(0);
     Took {
         number: 0,
         taken: 0,
-        written,
+        written: put_first(out),
         carried,
     }
 }
 
 // Whether a piece of this length is refused as 17.
+#[tactic(auto, unfolding(pieces::specs::Reader::untimely))]
 fn untimely(ended: bool, length: usize) -> bool
     ensures { result ≡ r.untimely ended length }
 {
-    ended | (512 < length)
+    ended || 512 < length
 }
 
 // A piece, where all that is lent has its size.
@@ -286,10 +295,11 @@ fn put_last(used: usize, out: &mut [u8]) -> usize
     ensures { wrote result out.new ≡ writes (wrote 0 out.old) (cases (eqb used 0) [] ff_line ++ closing) }
 {
     if used == 0 {
-        return write::put_text(out, 0, b"end\n");
+        write::put_text(out, 0, b"end\n")
+    } else {
+        let k = write::put_text(out, 0, b"ff\n");
+        write::put_text(out, k, b"end\n")
     }
-    let k = write::put_text(out, 0, b"ff\n");
-    write::put_text(out, k, b"end\n")
 }
 
 // Announces the end of the input. Announced once more, nothing changes. What is lent in another size is refused as 1.
@@ -320,7 +330,6 @@ pub fn end(
     }
     let written = put_last(carried.used, out);
     wipe(line, carried.used);
-    let session = carried.session;
     Took {
         number: 0,
         taken: 0,
@@ -328,7 +337,7 @@ pub fn end(
         carried: Carried {
             used: 0,
             ended: true,
-            session,
+            ..carried
         },
     }
 }

@@ -1,2 +1,3 @@
 pub mod Refine
 pub mod RefineLaw
+pub mod Steps

@@ -1,6 +1,6 @@
 -- Refine, step by step, in any manner and however a triangle becomes four: what is judged, what is planned, and what is carried out. Assumes nothing.
-use Rattle.std.specs.Prelude.{◌≡◌, Bool, ◌||◌, List, ℕ, ◌+◌, ◌*◌, ◌/◌, ◌≤◌, ◌<◌, ltb, ℤ, pos, length}
-use Rattle.lists.specs.Lists.{all, cases, is_found}
+use Rattle.std.specs.Prelude.{◌≡◌, Bool, ◌||◌, List, ℕ, ◌+◌, ◌*◌, ◌/◌, ◌≤◌, ◌<◌, ltb, ℤ, pos, length, is_some, Result, Ok, Err}
+use Rattle.lists.specs.Lists.{all, cases}
 use Rattle.lists.specs.Search.{lowest, items, iter}
 use Rattle.lists.specs.ItemsLaw.{sum_to}
 use Rattle.meaning.specs.declared.Answer.{Answer}
@@ -9,8 +9,11 @@ use Rattle.meaning.specs.declared.Manner.{Manner}
 use Rattle.meaning.specs.declared.Quarters.{Quarters}
 use Rattle.meaning.specs.Mesh.{Mesh, Edge}
 use Rattle.meaning.specs.Split.{split_edges, starts_of, started, way_of, refined, red_made, halves}
-use Rattle.meaning.specs.Tables.{row_at, node_at, flat_nodes, flat_rows, filled}
-use Rattle.meaning.specs.Calls.{unless, fits}
+use Rattle.meaning.specs.Tables.{row_at, node_at, flat_nodes, flat_rows, filled, outcome, answer}
+use Rattle.meaning.specs.Calls.{unless, fits, TintedOut, tinted}
+use Rattle.refusals.specs.declared.Refusal.{Refusal}
+use Rattle.refusals.specs.declared.Refusal.TheVariants.{Odd, Full}
+use Rattle.refusals.specs.Refusals.{fault_in}
 use Rattle.neighbours.specs.Ready.{Ready}
 use Rattle.notes.specs.Notes.{note_at}
 use Rattle.notes.specs.Met.{after}
@@ -38,15 +41,15 @@ red_in how q nodes rows marks n t = red_made q (split_in how nodes rows marks n 
 
 -- ---- what is judged
 
-abbrev pub plan_of : ℕ → ℕ → ℕ → ℕ → Plan
-plan_of k n t x = record { number = k; n = n; t = t; tint = x }
+abbrev pub plan_of : ℕ → ℕ → ℕ → Plan
+plan_of n t x = record { after = record { n = n; t = t }; red = x }
 
 -- 8 and 9, by the notes in s: k new nodes
-unfoldable pub weighed : Quarters → List ℤ → List ℕ → List ℕ → ℕ → ℕ → ℕ → Plan
+unfoldable pub weighed : Quarters → List ℤ → List ℕ → List ℕ → ℕ → ℕ → ℕ → Result Plan Refusal
 weighed q nodes rows s n t k =
-    cases (is_found (lowest (odd_at nodes rows s) 0 t)) (plan_of 8 n t 0)
-    (cases (ltb (length nodes / 4) (n + k) || ltb (length rows / 3) (t + sum_to (splits s) t)) (plan_of 9 n t 0)
-    (plan_of 0 (n + k) (t + sum_to (splits s) t) (red_at q s t)))
+    cases (is_some (lowest (odd_at nodes rows s) 0 t)) (Err Odd)
+    (cases (ltb (length nodes / 4) (n + k) || ltb (length rows / 3) (t + sum_to (splits s) t)) (Err Full)
+    (Ok (plan_of (n + k) (t + sum_to (splits s) t) (red_at q s t))))
 
 pub record Weighty (nodes : List ℤ) (rows s : List ℕ) (n t k : ℕ) : Type 0 where
   pub rows_fit : 3 * t ≤ length rows
@@ -103,3 +106,12 @@ pub record Planned (how : Manner) (q : Quarters) (nodes : List ℤ) (rows s mark
 
 abbrev pub with_red : Answer → ℕ → Tinted
 with_red a x = record { answer = a; red = x }
+
+-- what a call says that was given n nodes and t rows
+abbrev pub said_in : Result Plan Refusal → ℕ → ℕ → Tinted
+said_in (Ok p) n t = with_red (answer 0 p.after.n p.after.t 0 0) p.red
+said_in (Err r) n t = with_red (answer (fault_in r).number n t 0 (fault_in r).at) 0
+
+-- and what it leaves
+abbrev pub left_in : Result Plan Refusal → List ℤ → List ℕ → List ℕ → ℕ → ℕ → TintedOut
+left_in r nodes rows s n t = tinted (outcome (said_in r n t).answer nodes rows s) (said_in r n t).red

@@ -1,14 +1,13 @@
 -- The steps of refine, in any manner, in the form of their needs. All is read off the notes: whether 8 or 9 applies, the counts after, the nodes and
 -- the rows. The notes tell the split edges of document 01 (`SplitNotes`), so what is carried out is its refined mesh. Assumes nothing.
-use Rattle.std.specs.Prelude.{◌≡◌, Bool, not, ◌&&◌, ◌||◌, List, ℕ, zero, suc, ◌+◌, ◌*◌, ◌/◌, ◌≤◌, ◌<◌, ltb, leb, ℤ, pos, get_or, replicate}
+use Rattle.std.specs.Prelude.{◌≡◌, Bool, not, ◌&&◌, ◌||◌, List, ℕ, zero, suc, ◌+◌, ◌*◌, ◌/◌, ◌≤◌, ◌<◌, ltb, leb, ℤ, pos, get_or, replicate, is_some, Result, Ok, Err, IfOk}
 use Rattle.std.proofs.Math.Path.{refl, sym, ap, subst}
 use Rattle.std.proofs.Common.{◌∙◌, leb-true, leb-false, le-ltb, lt-ltb, get_or-take}
 use Rattle.std.proofs.Math.Bool.{true, false}
 use native.Mathlib.Omega.{arith}
 use Rattle.std.proofs.Math.ListN.{length, length-append}
 use Rattle.std.proofs.lemmas.List.{length-map, get_or-replicate}
-use Rattle.lists.specs.declared.Found.{Found}
-use Rattle.lists.specs.Lists.{all, cases, is_found}
+use Rattle.lists.specs.Lists.{all, cases}
 use Rattle.lists.specs.ListsLaw.{and_left, and_right}
 use Rattle.lists.specs.Search.{lowest, items, iter}
 use Rattle.lists.specs.IterLaw.{length-items, get_or-items}
@@ -17,17 +16,18 @@ use Rattle.meaning.specs.declared.Manner.{Manner}
 use Rattle.meaning.specs.declared.Quarters.{Quarters}
 use Rattle.meaning.specs.declared.Node.{Node}
 use Rattle.meaning.specs.declared.Answer.{Answer}
-use Rattle.meaning.specs.declared.Fault.{Fault}
+use Rattle.meaning.specs.Fault.{Fault}
 use Rattle.meaning.specs.declared.Tinted.{Tinted}
 use Rattle.meaning.specs.Mesh.{Mesh, Edge, node_of, origin}
-use Rattle.meaning.specs.Lawful.{Named}
+use Rattle.meaning.specs.Lawful.{Named, fault}
 use Rattle.meaning.specs.Split.{cutting_of, split_edges, split_at, split, way_of, refined, halves}
 use Rattle.meaning.specs.Tables.{Given, given, Outcome, outcome, answer, room_of, mesh_of, row_at, node_at, flat_nodes, flat_rows, filled}
 use Rattle.meaning.specs.Calls.{unless, refine_no, refines, refine_out, TintedOut, tinted, if_done, refine_by_out}
+use Rattle.refusals.specs.declared.Refusal.{Refusal}
+use Rattle.refusals.specs.declared.Refusal.TheVariants.{Odd, Full}
+use Rattle.refusals.specs.Refusals.{fault_in, verdict}
 use Rattle.neighbours.specs.Sized.{Corners, index_at}
 use Rattle.neighbours.specs.Ready.{Ready}
-use Rattle.notes.specs.Notes.{note_at}
-use Rattle.notes.specs.Met.{after}
 use Rattle.laws.specs.Meshes.{Standing, mesh_at, row-stands}
 use Rattle.laws.specs.RedTold.{but-for-the-field}
 use Rattle.nodes.specs.Nodes.{odd_at, place_row}
@@ -36,7 +36,7 @@ use Rattle.nodes.specs.PlacedLaw.{placed-mesh, rooms}
 use Rattle.close.specs.Drawn.{closed_notes}
 use Rattle.close.specs.EdgeLaw.{lawful-named}
 use Rattle.close.specs.CloseLaw.{is_split}
-use Rattle.close.specs.DrawLaw.{closed-kept, ready-closed}
+use Rattle.close.specs.DrawLaw.{ready-closed}
 use Rattle.number.specs.Numbered.{numbers, number_row}
 use Rattle.number.specs.NumberStep.{ready-numbered}
 use Rattle.number.specs.SplitLaw.{SplitNotes, split-notes, split-length}
@@ -44,24 +44,8 @@ use Rattle.cut.specs.Cutting.{cut_at, cut_all, splits, red_at}
 use Rattle.cut.specs.MeshLaw.{cut-mesh, count-rows, count-mesh, red-mesh}
 use Rattle.refining.specs.declared.Plan.{Plan}
 use Rattle.judging.specs.Judge.{mesh_in, early, Admitted}
-use Rattle.judging.specs.Leaving.{late_out, leaves-refused, leaves-refused-late, leaves-done, leaves-same, call-out}
-use Rattle.refining.specs.Refine.{split_in, after_in, red_in, fits_in, plan_of, weighed, Weighty, late_number, Carry, Pair, both_tables, carried, Planned, with_red}
-
--- ---- 8 and 9, by the notes: each test of `weigh` as the code has it
-
-module _ (q : Quarters) (nodes : List ℤ) (rows s : List ℕ) (n t k : ℕ) (f : Found) (y : Bool) (e : f ≡ lowest (odd_at nodes rows s) 0 t) (g : y ≡ is_found f) where
-  pub weigh-odd : y ≡ true → plan_of 8 n t 0 ≡ weighed q nodes rows s n t k
-  unfolding weighed
-  weigh-odd h = rw (← e, ← g, h)
-
-  module _ (t1 : ℕ) (h : y ≡ false) (c : t1 ≡ t + sum_to (splits s) t) where
-    pub weigh-short : ltb (length nodes / 4) (n + k) || ltb (length rows / 3) t1 ≡ true → plan_of 9 n t 0 ≡ weighed q nodes rows s n t k
-    unfolding weighed
-    weigh-short b = rw (← e, ← g, h, ← c, b)
-
-    pub weigh-done : (x : ℕ) → ltb (length nodes / 4) (n + k) || ltb (length rows / 3) t1 ≡ false → x ≡ red_at q s t → plan_of 0 (n + k) t1 x ≡ weighed q nodes rows s n t k
-    unfolding weighed
-    weigh-done x b d = rw (← e, ← g, h, ← c, b, d)
+use Rattle.judging.specs.Leaving.{late_out, leaves-refused, leaves-refused-late, leaves-done, leaves-same, call-out, numbered}
+use Rattle.refining.specs.Refine.{split_in, after_in, red_in, fits_in, plan_of, weighed, Weighty, late_number, Pair, both_tables, carried, Planned, with_red, said_in, left_in}
 
 -- ---- the notes of a lawful mesh: what `close` and `number` ask for, then what their notes tell of 8, 9 and the plan
 
@@ -123,7 +107,7 @@ module _ (how : Manner) (nodes : List ℤ) (rows s₀ marks : List ℕ) (n t : �
     same_length = split-length how ns rows t R.law marks s₀ notes-fit clear few-numbers s₁ s₂ n k e₁ e₂
 
     -- 8
-    odd-as-said : is_found (lowest (odd_at nodes rows s₂) 0 t) ≡ not (all (halves m) es)
+    odd-as-said : is_some (lowest (odd_at nodes rows s₂) 0 t) ≡ not (all (halves m) es)
     unfolding split_edges
     odd-as-said = odd-found nodes n m node-same (is_split how rows t marks) rows s₂ t corners N.member-said
 
@@ -156,14 +140,14 @@ module _ (how : Manner) (nodes : List ℤ) (rows s₀ marks : List ℕ) (n t : �
           not (fits_in how q nodes rows marks n t)
       short-is = short-fits (n + k) (t + sum_to (splits s₂) t) (length nodes / 4) (length rows / 3) ∙ rw (after-nodes, after-rows)
 
-      chain : (a b : Bool) (x y z : ℕ) → (cases (not a) (plan_of 8 n t 0) (cases (not b) (plan_of 9 n t 0) (plan_of 0 x y z))).number ≡ unless a 8 (unless b 9 0)
+      chain : (a b : Bool) (x y z : ℕ) → verdict (cases (not a) (Err Odd) (cases (not b) (Err Full) (Ok (plan_of x y z)))) ≡ fault (unless a 8 (unless b 9 0)) 0
       chain true true x y z = refl
       chain true false x y z = refl
       chain false b x y z = refl
 
-      pub late-number : (r : Plan) → r ≡ weighed q nodes rows s₂ n t k → r.number ≡ late_number how q nodes rows marks n t
+      pub late-verdict : (r : Result Plan Refusal) → r ≡ weighed q nodes rows s₂ n t k → verdict r ≡ fault (late_number how q nodes rows marks n t) 0
       unfolding weighed late_number
-      late-number r e = ap (λ (p : Plan). p.number) e ∙ rw (odd-as-said, short-is) (chain (all (halves m) es) (fits_in how q nodes rows marks n t) (n + k) (t + sum_to (splits s₂) t) (red_at q s₂ t))
+      late-verdict r e = ap verdict e ∙ rw (odd-as-said, short-is) (chain (all (halves m) es) (fits_in how q nodes rows marks n t) (n + k) (t + sum_to (splits s₂) t) (red_at q s₂ t))
 
       -- with room for all, the plan can be carried out
       room-both : fits_in how q nodes rows marks n t ≡ true → (n + k ≤ length nodes / 4) × (t + sum_to (splits s₂) t ≤ length rows / 3)
@@ -206,38 +190,25 @@ module _ (how : Manner) (nodes : List ℤ) (rows s₀ marks : List ℕ) (n t : �
             red-is = red-mesh q es rows s₂ t N.split-said;
           }
 
-      pub late-plan : (r : Plan) → r ≡ weighed q nodes rows s₂ n t k → r.number ≡ 0 → Planned how q nodes rows s₂ marks n t r.n r.t r.tint
+      abbrev planned_in : Result Plan Refusal → Type 0
+      planned_in r = IfOk r (λ (p : Plan). Planned how q nodes rows s₂ marks n t p.after.n p.after.t p.red)
+
+      pub late-plan : (r : Result Plan Refusal) → r ≡ weighed q nodes rows s₂ n t k → planned_in r
       unfolding weighed
-      late-plan r e z =
-          go (all (halves m) es) (fits_in how q nodes rows marks n t) refl
-          (e ∙ rw (odd-as-said, short-is))
+      late-plan r e =
+          subst planned_in (sym e)
+          (rw (odd-as-said, short-is) (go (all (halves m) es) (fits_in how q nodes rows marks n t) refl))
         where
           go : (a b : Bool) → fits_in how q nodes rows marks n t ≡ b →
-              r ≡ cases (not a) (plan_of 8 n t 0) (cases (not b) (plan_of 9 n t 0) (plan_of 0 (n + k) (t + sum_to (splits s₂) t) (red_at q s₂ t))) → Planned how q nodes rows s₂ marks n t r.n r.t r.tint
-          go true true g f = subst (λ (p : Plan). Planned how q nodes rows s₂ marks n t p.n p.t p.tint) (sym f) (room-plan ready-after g)
-          go true false g f = let y : r.number ≡ 9 = ap (λ (p : Plan). p.number) f in absurd (omega arith)
-          go false b g f = let y : r.number ≡ 8 = ap (λ (p : Plan). p.number) f in absurd (omega arith)
+              planned_in (cases (not a) (Err Odd) (cases (not b) (Err Full) (Ok (plan_of (n + k) (t + sum_to (splits s₂) t) (red_at q s₂ t)))))
+          go true true g = room-plan ready-after g
+          go true false g = tt
+          go false b g = tt
 
   pub closed-ready : (s₁ : List ℕ) → s₁ ≡ closed_notes how rows t marks s₀ → Ready s₁ (length nodes / 4) rows t
   closed-ready s₁ e = ready-closed rows s₀ s₁ (length nodes / 4) t R.rows_fit R.ready how marks e
 
-  pub closed-fit : (s₁ : List ℕ) → s₁ ≡ closed_notes how rows t marks s₀ → t ≤ length s₁
-  closed-fit s₁ e = let a = notes-fit in let b = ap length e ∙ (closed-kept rows t t (omega arith) how marks s₀).0 in omega arith
-
-  pub marks-long : t ≤ length marks
-  marks-long = let a = R.marks-fit in omega arith
-
 -- ---- the work: a, b after placing and cutting; c, d after the rest is cleared
-
-module _ (q : Quarters) (nodes a : List ℤ) (rows s : List ℕ) (n t n1 t1 : ℕ) (C : Carry q nodes rows s n t n1 t1) where
-  pub carry-standing : (i : ℕ) → i < t → Standing nodes (row_at rows i)
-  carry-standing = C.standing
-
-  pub carry-room : (i : ℕ) → i < t → 4 * after n (note_at s i) ≤ length nodes
-  carry-room = C.room
-
-  pub carry-ready : length a ≡ length nodes → Ready s (length a / 4) rows t
-  carry-ready e = rw e C.ready
 
 pub carry-done : (q : Quarters) (nodes a c : List ℤ) (rows b d s : List ℕ) (n t n1 t1 : ℕ) → a ≡ iter (place_row n rows s) 0 t nodes → length a ≡ length nodes →
     items (row_at b) 0 t1 ≡ cut_all (items (cut_at q n rows s) 0 t) → length b ≡ length rows → c ≡ filled (pos 0) (length a) (flat_nodes (items (node_at a) 0 n1)) →
@@ -246,9 +217,6 @@ unfolding carried
 carry-done q nodes a c rows b d s n t n1 t1 p la r lb fc fd = rw (fc, fd, r, la, lb, p)
 
 -- ---- what the call leaves
-
-pub refused-said : (a b : Answer) → a ≡ b → with_red a 0 ≡ with_red b 0
-refused-said a b e = ap (λ (x : Answer). with_red x 0) e
 
 -- an outcome of refine with its field
 by_out : (how : Manner) (q : Quarters) (nodes a : List ℤ) (rows b s s₁ marks : List ℕ) (n0 n t : ℕ) (r : Answer) (x : ℕ) →
@@ -263,35 +231,44 @@ refused-field (suc j) x o = refl
 
 -- f is what was judged first, k what was judged at last
 module _ (how : Manner) (q : Quarters) (nodes : List ℤ) (rows s marks : List ℕ) (n0 n t : ℕ) (z : s ≡ replicate (length s) 0) (f : Fault) (e : f ≡ early (given nodes rows s n t) n0 t marks) where
-  refine-out : late_out (given nodes rows s n t) n0 t marks (late_number how q nodes rows marks n t) (after_in how q nodes rows marks n t) ≡ refine_out (way_of how q) (given nodes rows s n t) n0 marks
+  pub refine-out : late_out (given nodes rows s n t) n0 t marks (late_number how q nodes rows marks n t) (after_in how q nodes rows marks n t) ≡ refine_out (way_of how q) (given nodes rows s n t) n0 marks
   unfolding refine_out refines refine_no late_number mesh_of
   refine-out = rw (length-items (row_at rows) t)
 
-  refused-by : (r : Tinted) (j c : ℕ) → (j ≡ 0 → ⊥) → r ≡ with_red (answer j n t 0 c) 0 → outcome r.answer nodes rows s ≡ refine_out (way_of how q) (given nodes rows s n t) n0 marks →
+  pub refused-by : (r : Tinted) (j c : ℕ) → (j ≡ 0 → ⊥) → r ≡ with_red (answer j n t 0 c) 0 → outcome r.answer nodes rows s ≡ refine_out (way_of how q) (given nodes rows s n t) n0 marks →
       tinted (outcome r.answer nodes rows s) r.red ≡ refine_by_out how q (given nodes rows s n t) n0 marks
   refused-by r j c o h g = by_out how q nodes nodes rows rows s s marks n0 n t r.answer r.red g (rw h (refused-field j (red_in how q nodes rows marks n t) o))
 
-  pub work-refused : (r : Tinted) → (f.number ≡ 0 → ⊥) → r ≡ with_red (answer f.number n t 0 f.at) 0 →
-      tinted (outcome r.answer nodes rows s) r.red ≡ refine_by_out how q (given nodes rows s n t) n0 marks
-  work-refused r o h = refused-by r f.number f.at o h (leaves-refused nodes rows s marks n0 n t t _ _ z f e r.answer o (ap (λ (x : Tinted). x.answer) h) ∙ refine-out)
+  pub work-refused : (x : Refusal) → f ≡ fault_in x → left_in (Err x) nodes rows s n t ≡ refine_by_out how q (given nodes rows s n t) n0 marks
+  work-refused x d =
+      let r : Tinted = said_in (Err x) n t in
+      let o : f.number ≡ 0 → ⊥ = λ z. numbered x (ap (λ (y : Fault). y.number) (sym d) ∙ z) in
+      let h : r ≡ with_red (answer f.number n t 0 f.at) 0 = rw d in
+      refused-by r f.number f.at o h (leaves-refused nodes rows s marks n0 n t t _ _ z f e r.answer o (ap (λ (y : Tinted). y.answer) h) ∙ refine-out)
 
-  module _ (y : f.number ≡ 0) (k : ℕ) (d : k ≡ late_number how q nodes rows marks n t) where
-    pub work-refused-late : (r : Tinted) → (k ≡ 0 → ⊥) → r ≡ with_red (answer k n t 0 0) 0 →
-        tinted (outcome r.answer nodes rows s) r.red ≡ refine_by_out how q (given nodes rows s n t) n0 marks
-    work-refused-late r o h = refused-by r k 0 o h (leaves-refused-late nodes rows s marks n0 n t t _ _ z f e y r.answer k d o (ap (λ (x : Tinted). x.answer) h) ∙ refine-out)
+  module _ (y : f.number ≡ 0) (v : Fault) (d : v ≡ fault (late_number how q nodes rows marks n t) 0) where
+    late-is : v.number ≡ late_number how q nodes rows marks n t
+    late-is = ap (λ (x : Fault). x.number) d
 
-    pub work-done : (r : Answer) (a : List ℤ) (b s' : List ℕ) (n1 t1 x : ℕ) → k ≡ 0 → (k ≡ 0 → Planned how q nodes rows s' marks n t n1 t1 x) →
-        both_tables a b ≡ carried q nodes rows s' n t n1 → r ≡ answer 0 n1 t1 0 0 →
-        tinted (outcome r a b s) x ≡ refine_by_out how q (given nodes rows s n t) n0 marks
+    pub work-refused-late : (x : Refusal) → v ≡ fault_in x → left_in (Err x) nodes rows s n t ≡ refine_by_out how q (given nodes rows s n t) n0 marks
+    work-refused-late x w =
+        let r : Tinted = said_in (Err x) n t in
+        let o : v.number ≡ 0 → ⊥ = λ z. numbered x (ap (λ (y : Fault). y.number) (sym w) ∙ z) in
+        let g : (fault_in x).at ≡ 0 = ap (λ (y : Fault). y.at) (sym w ∙ d) in
+        let h : r ≡ with_red (answer v.number n t 0 0) 0 = rw (w, ← g) in
+        refused-by r v.number 0 o h (leaves-refused-late nodes rows s marks n0 n t t _ _ z f e y r.answer v.number late-is o (ap (λ (y : Tinted). y.answer) h) ∙ refine-out)
+
+    pub work-done : (a : List ℤ) (b s' : List ℕ) (p : Plan) → v.number ≡ 0 → Planned how q nodes rows s' marks n t p.after.n p.after.t p.red →
+        both_tables a b ≡ carried q nodes rows s' n t p.after.n → left_in (Ok p) a b s n t ≡ refine_by_out how q (given nodes rows s n t) n0 marks
     unfolding carried
-    work-done r a b s' n1 t1 x o w g h =
-        let d' = w o in
-        by_out how q nodes a rows b s s marks n0 n t r x
-        (leaves-done nodes rows s marks n0 n t t _ (after_in how q nodes rows marks n t) z f e y r a b n1 t1 (sym d ∙ o) d'.nodes-after d'.rows-after
+    work-done a b s' p o d' g =
+        let r : Answer = answer 0 p.after.n p.after.t 0 0 in
+        by_out how q nodes a rows b s s marks n0 n t r p.red
+        (leaves-done nodes rows s marks n0 n t t _ (after_in how q nodes rows marks n t) z f e y r a b p.after.n p.after.t (sym late-is ∙ o) d'.nodes-after d'.rows-after
         (ap (λ (y : Pair). y.nodes) g ∙ ap (λ v. filled (pos 0) (length nodes) (flat_nodes v)) d'.nodes-are)
-        (ap (λ (y : Pair). y.rows) g ∙ ap (λ v. filled 0 (length rows) (flat_rows v)) d'.rows_are) h
+        (ap (λ (y : Pair). y.rows) g ∙ ap (λ v. filled 0 (length rows) (flat_rows v)) d'.rows_are) refl
         ∙ refine-out)
-        (rw h d'.red-is)
+        d'.red-is
 
 -- `but-for-the-field`, as calls need it
 pub plainly : (how : Manner) (q : Quarters) (g : Given) (n0 : ℕ) (marks : List ℕ) (o : Outcome) (x : ℕ) → tinted o x ≡ refine_by_out how q g n0 marks → o ≡ refine_out (way_of how q) g n0 marks

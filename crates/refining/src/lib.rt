@@ -1,60 +1,43 @@
 // The steps of refine, in any manner and however a triangle becomes four: all is judged before a node or a row is written.
 #![tactic(auto)]
 
-ghost use Rattle.std.specs.Prelude.{◌≡◌, length, replicate};
-ghost use Rattle.meaning.specs.Tables.{given, outcome, answer};
+ghost use Rattle.std.specs.Prelude.{◌≡◌, length, replicate, IfOk};
+ghost use Rattle.meaning.specs.Lawful.{fault};
+ghost use Rattle.meaning.specs.Tables.{given, outcome};
 ghost use Rattle.meaning.specs.Calls.{tinted, refine_by_out};
+ghost use Rattle.refusals.specs.Refusals.{verdict};
 ghost use Rattle.judging.specs.Judge.{Admitted};
-ghost use Rattle.refining.specs.Refine.{weighed, Weighty, late_number, Planned, Carry, both_tables, carried, with_red};
+ghost use Rattle.refining.specs.Refine.{weighed, Weighty, late_number, Planned, Carry, both_tables, carried, said_in, left_in};
 
-use meaning::{Fault, Manner, Quarters, Tinted};
+use meaning::{Manner, Quarters, Tinted};
+use refusals::{Counts, Refusal};
+use tables::Mesh;
 
-// What refine is to do: 0, the counts of nodes and rows after, and 1 when it makes a red cut, else 0; or the number of the refusal.
+// What refine is to do: the counts after, and 1 when it makes a red cut, else 0.
 #[derive(Clone, Copy)]
 struct Plan {
-    number: u32,
-    n: usize,
-    t: usize,
-    tint: u32,
+    after: Counts,
+    red: u32,
 }
 
 // ---- 8 and 9, for a mesh whose notes are made: k new nodes
 
-fn weigh(
-    nodes: &[i32],
-    rows: &[u32],
-    scratch: &[u32],
-    n: usize,
-    t: usize,
-    k: usize,
-    quarters: Quarters,
-) -> Plan
-    requires { Weighty nodes.now rows.now scratch.now n t k }
-    ensures { result ≡ weighed quarters nodes.now rows.now scratch.now n t k }
+fn weigh(mesh: Mesh, scratch: &[u32], k: usize, quarters: Quarters) -> Result<Plan, Refusal>
+    requires { Weighty mesh.nodes.now mesh.rows.now scratch.now mesh.n mesh.t k }
+    ensures { let e = mesh.entry in result ≡ weighed quarters e.nodes.now e.rows.now scratch.now e.n e.t k }
 {
-    if tables::is_found(nodes::find_odd(nodes, rows, scratch, t)) {
-        return Plan {
-            number: 8,
-            n,
-            t,
-            tint: 0,
-        };
+    if nodes::find_odd(mesh, scratch).is_some() {
+        return Err(Refusal::Odd);
     }
-    let t1 = cut::rows_after(scratch, t);
-    if (nodes.len() / 4 < n + k) | (rows.len() / 3 < t1) {
-        return Plan {
-            number: 9,
-            n,
-            t,
-            tint: 0,
-        };
+    let after = Counts {
+        n: mesh.n + k,
+        t: cut::rows_after(scratch, mesh.t),
+    };
+    if mesh.nodes.len() / 4 < after.n || mesh.rows.len() / 3 < after.t {
+        return Err(Refusal::Full);
     }
-    Plan {
-        number: 0,
-        n: n + k,
-        t: t1,
-        tint: cut::made_red(scratch, t, quarters),
-    }
+    let red = cut::made_red(scratch, mesh.t, quarters);
+    Ok(Plan { after, red })
 }
 
 // The rows that are split and their notes; then 8 and 9. For a lawful mesh.
@@ -67,14 +50,14 @@ fn lay_out(
     t: usize,
     manner: Manner,
     quarters: Quarters,
-) -> Plan
+) -> Result<Plan, Refusal>
     requires { Admitted nodes.now rows.now scratch.old marks.now t n t }
-    ensures number { result.number ≡ late_number manner quarters nodes.now rows.now marks.now n t }
-    ensures plan { result.number ≡ 0 → Planned manner quarters nodes.now rows.now scratch.new marks.now n t result.n result.t result.tint }
+    ensures verdict { verdict result ≡ fault (late_number manner quarters nodes.now rows.now marks.now n t) 0 }
+    ensures plan { IfOk result (λ p. Planned manner quarters nodes.now rows.now scratch.new marks.now n t p.after.n p.after.t p.red) }
 {
     close::close(rows, scratch, nodes.len() / 4, t, marks, manner);
     let k = number::number(rows, scratch, nodes.len() / 4, t);
-    weigh(nodes, rows, scratch, n, t, k as usize, quarters)
+    weigh(Mesh { nodes, rows, n, t }, scratch, k as usize, quarters)
 }
 
 // ---- the work
@@ -86,30 +69,64 @@ fn carry_out(
     scratch: &[u32],
     n: usize,
     t: usize,
-    n1: usize,
-    t1: usize,
+    after: Counts,
     quarters: Quarters,
 )
-    requires { Carry quarters nodes.old rows.old scratch.now n t n1 t1 }
-    ensures { both_tables nodes.new rows.new ≡ carried quarters nodes.old rows.old scratch.now n t n1 }
+    requires { Carry quarters nodes.old rows.old scratch.now n t after.n after.t }
+    ensures { both_tables nodes.new rows.new ≡ carried quarters nodes.old rows.old scratch.now n t after.n }
 {
     nodes::place_nodes(nodes, rows, scratch, n as u32, t);
-    cut::cut_rows(rows, scratch, nodes.len() / 4, n as u32, t, t1, quarters);
-    tables::clear_nodes_from(nodes, n1);
-    tables::clear_rows_from(rows, t1);
-}
-
-// A refusal cuts nothing.
-fn refused(f: Fault, n: usize, t: usize) -> Tinted
-    ensures { result ≡ with_red (answer f.number n t 0 f.at) 0 }
-{
-    Tinted {
-        answer: judging::said(f, n, t),
-        red: 0,
-    }
+    cut::cut_rows(
+        rows,
+        scratch,
+        nodes.len() / 4,
+        n as u32,
+        t,
+        after.t,
+        quarters,
+    );
+    tables::clear_nodes_from(nodes, after.n);
+    tables::clear_rows_from(rows, after.t);
 }
 
 // Scratch is all zero before; what it holds after does not matter.
+fn refined(
+    nodes: &mut [i32],
+    rows: &mut [u32],
+    scratch: &mut [u32],
+    marks: &[u8],
+    n0: usize,
+    n: usize,
+    t: usize,
+    manner: Manner,
+    quarters: Quarters,
+) -> Result<Plan, Refusal>
+    requires { scratch.old ≡ replicate (length scratch.old) 0 }
+    ensures { left_in result nodes.new rows.new scratch.old n t ≡ refine_by_out manner quarters (given nodes.old rows.old scratch.old n t) n0 marks.now }
+{
+    judging::judge(nodes, rows, scratch, marks, t, n0, n, t)?;
+    let plan = lay_out(nodes, rows, scratch, marks, n, t, manner, quarters)?;
+    carry_out(nodes, rows, scratch, n, t, plan.after, quarters);
+    Ok(plan)
+}
+
+// What a call says that was given n nodes and t rows. A refusal cuts nothing.
+fn said(done: Result<Plan, Refusal>, n: usize, t: usize) -> Tinted
+    ensures { result ≡ said_in done n t }
+{
+    match done {
+        Ok(plan) => Tinted {
+            answer: refusals::answer(Ok(plan.after), n, t),
+            red: plan.red,
+        },
+        Err(refusal) => Tinted {
+            answer: refusals::answer(Err(refusal), n, t),
+            red: 0,
+        },
+    }
+}
+
+// The same, as an answer.
 pub fn work(
     nodes: &mut [i32],
     rows: &mut [u32],
@@ -124,24 +141,6 @@ pub fn work(
     requires { scratch.old ≡ replicate (length scratch.old) 0 }
     ensures { tinted (outcome result.answer nodes.new rows.new scratch.old) result.red ≡ refine_by_out manner quarters (given nodes.old rows.old scratch.old n t) n0 marks.now }
 {
-    let f = judging::judge(nodes, rows, scratch, marks, t, n0, n, t);
-    if f.number != 0 {
-        return refused(f, n, t);
-    }
-    let p = lay_out(nodes, rows, scratch, marks, n, t, manner, quarters);
-    if p.number != 0 {
-        return refused(
-            Fault {
-                number: p.number,
-                at: 0,
-            },
-            n,
-            t,
-        );
-    }
-    carry_out(nodes, rows, scratch, n, t, p.n, p.t, quarters);
-    Tinted {
-        answer: judging::done(p.n, p.t),
-        red: p.tint,
-    }
+    let done = refined(nodes, rows, scratch, marks, n0, n, t, manner, quarters);
+    said(done, n, t)
 }

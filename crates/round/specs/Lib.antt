@@ -4,3 +4,4 @@ pub mod NotesLaw
 pub mod RoundLaw
 pub mod Pair
 pub mod PairLaw
+pub mod Steps

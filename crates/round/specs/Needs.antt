@@ -1,7 +1,6 @@
 -- Laws in the form of needs: notes that are put and read, row by row. Assumes nothing.
-use Rattle.std.specs.Prelude.{◌≡◌, refl, Bool, true, false, List, ℕ, zero, suc, ◌+◌, ◌-◌, ◌*◌, ◌≤◌, ◌<◌, length, get_or, set}
-use Rattle.std.proofs.Common.{sym, ap, ◌∙◌, arith, length-set}
-use Rattle.lists.specs.declared.Found.{Found}
+use Rattle.std.specs.Prelude.{◌≡◌, refl, Bool, true, false, List, ℕ, ◌+◌, ◌*◌, ◌≤◌, ◌<◌, length, get_or, set, Option, Some, None, is_some, not, eqb}
+use Rattle.std.proofs.Common.{sym, ap, ◌∙◌, arith, length-set, add-one, eqb-true, ne_eqb}
 use Rattle.lists.specs.Lists.{cases}
 use Rattle.lists.specs.Search.{lowest}
 use Rattle.lists.specs.Loops.{code}
@@ -50,28 +49,46 @@ link-row-put w rows s s' nc i e g = rw (← e) g
 
 -- ---- along a chain
 
-pub next-none : (s : List ℕ) (nc k : ℕ) → k ≡ 0 → 0 ≡ next_of s nc k
+pub next-none : (s : List ℕ) (nc : ℕ) (o k : Option ℕ) → o ≡ None → k ≡ None → code o ≡ next_of s nc (code k)
 unfolding next_of
-next-none s nc k e = rw e
+next-none s nc o k e f = rw (e, f)
 
-pub next-some : (s : List ℕ) (nc k r : ℕ) → (k ≡ 0 → ⊥) → r ≡ get_or s (2 * nc + k - 1) 0 → r ≡ next_of s nc k
+pub next-some : (s : List ℕ) (nc : ℕ) (o k : Option ℕ) (i r : ℕ) → code o ≡ r → k ≡ Some i → r ≡ get_or s (2 * nc + i) 0 → code o ≡ next_of s nc (code k)
 unfolding next_of
-next-some s nc zero r o e = absurd (o refl)
-next-some s nc (suc j) r o e = let q : 2 * nc + suc j - 1 ≡ 2 * nc + j = omega arith in rw q at e
+next-some s nc o k i r e f g = rw (e, f, g) (rw add-one)
 
-pub row-none : (l : List ℕ) (k : ℕ) → k ≡ 0 → tri 0 0 0 ≡ row_in l k
+pub row-none : (l : List ℕ) (k : Option ℕ) → k ≡ None → tri 0 0 0 ≡ row_in l (code k)
 unfolding row_in
 row-none l k e = rw e
 
-pub row-some : (l : List ℕ) (k : ℕ) (w : Tri) → (k ≡ 0 → ⊥) → w ≡ row_at l (k - 1) → w ≡ row_in l k
+pub row-some : (l : List ℕ) (k : Option ℕ) (i : ℕ) (w : Tri) → k ≡ Some i → w ≡ row_at l i → w ≡ row_in l (code k)
 unfolding row_in
-row-some l zero w o e = absurd (o refl)
-row-some l (suc j) w o e = let q : suc j - 1 ≡ j = omega arith in rw q at e
+row-some l k i w e f = rw (e, f) (rw add-one)
+
+-- a test for none, by number
+pub none_zero : (o : Option ℕ) (b : Bool) → is_some o ≡ not b → b ≡ eqb (code o) 0
+none_zero None true e = refl
+none_zero None false e = cc
+none_zero (Some i) true e = cc
+none_zero (Some i) false e = sym (ne_eqb (i + 1) 0 (omega arith))
+
+pub some_not : (o : Option ℕ) (b : Bool) → b ≡ is_some o → b ≡ not (eqb (code o) 0)
+some_not None b e = e
+some_not (Some i) b e = e ∙ sym (rw (ne_eqb (i + 1) 0 (omega arith)))
+
+pub ruleset by_number = (some_not, none_zero)
+
+pub is-zero : (o : Option ℕ) (b : Bool) → is_some o ≡ not b → b ≡ true → code o ≡ 0
+is-zero o b e f = eqb-true (code o) 0 (sym (none_zero o b e) ∙ f)
+
+pub is-above : (o : Option ℕ) (b : Bool) → is_some o ≡ not b → b ≡ false → code o ≡ 0 → ⊥
+is-above None b e f h = let g : not b ≡ true = rw f in cc
+is-above (Some i) b e f h = omega arith
 
 code-le : (f : ℕ → Bool) (i t : ℕ) → i ≤ t → code (lowest f i t) ≤ t
 code-le f i t h = go (search_is f i t h)
   where
-    go : {r : Found} → From f i t r → code r ≤ t
+    go : {r : Option ℕ} → From f i t r → code r ≤ t
     go (nowhere n) = omega arith
     go (there j a b y n) = omega arith
 
@@ -80,14 +97,13 @@ module _ (s : List ℕ) (nc : ℕ) (l : List ℕ) (t z : ℕ) (a : Around s nc l
   pub head-le : (k : ℕ) → k ≡ get_or s z 0 → k ≤ t
   head-le k e = rw (e, a.head) (code-le (newest_at l z) 0 t (omega arith))
 
-  pub next_le : (k r : ℕ) → k ≤ t → (k ≡ 0 → ⊥) → r ≡ get_or s (2 * nc + k - 1) 0 → r ≤ t
-  next_le zero r h o e = absurd (o refl)
-  next_le (suc j) r h o e =
-      let q : 2 * nc + suc j - 1 ≡ 2 * nc + j = omega arith in
-      rw (e, q, a.nexts j (omega arith)) (code-le (newest_at l (row_at l j).p) (j + 1) t (omega arith))
+  pub next_le : (o k : Option ℕ) (i r : ℕ) → code k ≤ t → k ≡ Some i → r ≡ get_or s (2 * nc + i) 0 → code o ≡ r → code o ≤ t
+  next_le o k i r h e f g =
+      let q : i + 1 ≤ t = rw e at h in
+      rw (g, f, a.nexts i (omega arith)) (code-le (newest_at l (row_at l i).p) (i + 1) t q)
 
-  pub round-within : (h i j k m : ℕ) → 3 * t ≤ length l → h ≡ get_or s z 0 → i ≤ t → j ≤ t → k ≤ t → Within l (round h i j k m)
-  round-within h i j k m f e x y w = let g = head-le h e in record { first-in = omega arith; second-in = omega arith; third-in = omega arith; fourth-in = omega arith }
+pub round-within : (l : List ℕ) (t h i j k m : ℕ) → 3 * t ≤ length l → h ≤ t → i ≤ t → j ≤ t → k ≤ t → Within l (round h i j k m)
+round-within l t h i j k m f a b c d = record { first-in = omega arith; second-in = omega arith; third-in = omega arith; fourth-in = omega arith }
 
 pub round-made : (s : List ℕ) (nc z i j k l m : ℕ) → i ≡ get_or s z 0 → j ≡ next_of s nc i → k ≡ next_of s nc j → l ≡ next_of s nc k → m ≡ next_of s nc l → round i j k l m ≡ round_by s nc z
 unfolding round_by

@@ -4,8 +4,7 @@ use Rattle.lists.specs.Lists.{cases}
 use Rattle.meaning.specs.declared.Tri.{Tri}
 use Rattle.meaning.specs.Mesh.{Edge, arrow, holds_arrow}
 use Rattle.round.specs.declared.Ends.{Ends}
-use Rattle.round.specs.declared.Round.{Round}
-use Rattle.round.specs.Round.{row_in}
+use Rattle.round.specs.Round.{Numbers, row_in}
 
 -- v holds a→z, where w is (z, a, b)
 unfoldable pub joins : Tri → Tri → ℕ → Bool
@@ -27,13 +26,13 @@ unfoldable pub brother_of : Tri → Tri → Tri → Tri → ℕ → Tri
 brother_of w x y v z = cases (joins w x z) x (cases (joins w y z) y v)
 
 -- of the rows by number
-unfoldable pub two_in : List ℕ → Round → ℕ → Bool
+unfoldable pub two_in : List ℕ → Numbers → ℕ → Bool
 two_in l k z = joins (row_in l k.first) (row_in l k.second) z
 
-unfoldable pub four_in : List ℕ → Round → ℕ → Bool
+unfoldable pub four_in : List ℕ → Numbers → ℕ → Bool
 four_in l k z = four_test (row_in l k.first) (row_in l k.second) (row_in l k.third) (row_in l k.fourth) z
 
-unfoldable pub brother_in : List ℕ → Round → ℕ → Tri
+unfoldable pub brother_in : List ℕ → Numbers → ℕ → Tri
 brother_in l k z = brother_of (row_in l k.first) (row_in l k.second) (row_in l k.third) (row_in l k.fourth) z
 
 -- the pair of a node, the lower end first

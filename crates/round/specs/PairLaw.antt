@@ -15,9 +15,8 @@ use Rattle.meaning.specs.Good.{Brothers, brothers, rows_of, pair_off, pairs, spa
 use Rattle.meaning.specs.Tables.{row_at}
 use Rattle.laws.specs.Edges.{same_tri-refl, same_tri-comm}
 use Rattle.laws.specs.Pairs.{RowsOnce, only-rows}
-use Rattle.round.specs.declared.Round.{Round}
 use Rattle.laws.specs.Meshes.{rows_alone, Fair}
-use Rattle.round.specs.Round.{newest, rows_round, Around, round_by, row_in}
+use Rattle.round.specs.Round.{newest, rows_round, Around, Numbers, round_by, row_in}
 use Rattle.round.specs.RoundLaw.{Shape, two, four, other, shape_is, shape-test, round-rows, older-none}
 use Rattle.round.specs.Pair.{joins, closing, four_test, brother_of, two_in, four_in, brother_in, edge_of}
 
@@ -145,14 +144,14 @@ module _ (rows : List ℕ) (n t z : ℕ) (f : Fair rows n t) (s : List ℕ) (nc 
   some-shape = rw rows_are at (and_right (all (λ w. eqb w.p z) (rows_of (rows_alone rows t) z)) (eqb (length (rows_of (rows_alone rows t) z)) 2 || eqb (length (rows_of (rows_alone rows t) z)) 4) g)
 
   -- the code's answer: two rows or four
-  answer : Round → Bool
+  answer : Numbers → Bool
   answer k = cases (eqb k.third 0) (joins (row_in rows k.first) (row_in rows k.second) z)
       (four_test (row_in rows k.first) (row_in rows k.second) (row_in rows k.third) (row_in rows k.fourth) z)
 
   over : (k : ℕ) → eqb (suc k) 0 ≡ false
   over k = ne_eqb (suc k) 0 (omega arith)
 
-  shaped : {k : Round} → Shape rows t z k → G2 (rows_alone rows t) z ≡ answer k
+  shaped : {k : Numbers} → Shape rows t z k → G2 (rows_alone rows t) z ≡ answer k
   unfolding answer pairs row_in one
   shaped (two i j hi hj e) = rw (rows_are, e, pairs-of-two (row_at rows i) (row_at rows j) z) (last (row_at rows i) (row_at rows j))
     where
@@ -167,16 +166,16 @@ module _ (rows : List ℕ) (n t z : ℕ) (f : Fair rows n t) (s : List ℕ) (nc 
   shaped {k} (other x y e) = clash (sym some-shape ∙ sym (shape-test rows t z (other x y e)) ∙ e)
 
   -- G2, as the code asks it
-  pub G2-two : (k : Round) (r : Bool) → k ≡ round_by s nc z → k.third ≡ 0 → r ≡ two_in rows k z → r ≡ G2 (rows_alone rows t) z
+  pub G2-two : (k : Numbers) (r : Bool) → k ≡ round_by s nc z → k.third ≡ 0 → r ≡ two_in rows k z → r ≡ G2 (rows_alone rows t) z
   unfolding answer two_in
   G2-two k r e h u = u ∙ sym (shaped (shape_is rows t z s nc a) ∙ rw (← e, h))
 
-  pub G2-four : (k : Round) (r : Bool) → k ≡ round_by s nc z → (k.third ≡ 0 → ⊥) → r ≡ four_in rows k z → r ≡ G2 (rows_alone rows t) z
+  pub G2-four : (k : Numbers) (r : Bool) → k ≡ round_by s nc z → (k.third ≡ 0 → ⊥) → r ≡ four_in rows k z → r ≡ G2 (rows_alone rows t) z
   unfolding answer four_in
   G2-four k r e h u = u ∙ sym (shaped (shape_is rows t z s nc a) ∙ rw (← e, ne_eqb k.third 0 h))
 
   -- the pair
-  spanned : {k : Round} → Shape rows t z k → G2 (rows_alone rows t) z ≡ true →
+  spanned : {k : Numbers} → Shape rows t z k → G2 (rows_alone rows t) z ≡ true →
       span (rows_alone rows t) z ≡ edge (row_in rows k.first).r (brother_of (row_in rows k.first) (row_in rows k.second) (row_in rows k.third) (row_in rows k.fourth) z).q
   unfolding answer span pairs row_in one brother_of
   spanned (two i j hi hj e) q =
@@ -190,7 +189,7 @@ module _ (rows : List ℕ) (n t z : ℕ) (f : Fair rows n t) (s : List ℕ) (nc 
   spanned {k} (other x y e) q = clash (sym some-shape ∙ sym (shape-test rows t z (other x y e)) ∙ e)
 
   -- its ends are nodes
-  span-in : {k : Round} → Shape rows t z k → G2 (rows_alone rows t) z ≡ true → ((span (rows_alone rows t) z).lo < n) × ((span (rows_alone rows t) z).hi < n)
+  span-in : {k : Numbers} → Shape rows t z k → G2 (rows_alone rows t) z ≡ true → ((span (rows_alone rows t) z).lo < n) × ((span (rows_alone rows t) z).hi < n)
   unfolding row_in
   span-in (two i j hi hj e) q =
       let d : span (rows_alone rows t) z ≡ edge (row_at rows i).r (brother_of (row_at rows i) (row_at rows j) (row_in rows 0) (row_in rows 0) z).q = spanned (two i j hi hj e) q in
@@ -206,7 +205,7 @@ module _ (rows : List ℕ) (n t z : ℕ) (f : Fair rows n t) (s : List ℕ) (nc 
   span-in {k} (other x y e) q = clash (sym some-shape ∙ sym (shape-test rows t z (other x y e)) ∙ e)
 
   -- as the code makes it
-  module _ (k : Round) (w u : Tri) (lo hi : ℕ) (g2 : G2 (rows_alone rows t) z ≡ true) (e : k ≡ round_by s nc z) (p : w ≡ row_in rows k.first) (q : u ≡ brother_in rows k z)
+  module _ (k : Numbers) (w u : Tri) (lo hi : ℕ) (g2 : G2 (rows_alone rows t) z ≡ true) (e : k ≡ round_by s nc z) (p : w ≡ row_in rows k.first) (q : u ≡ brother_in rows k z)
       (c : lo ≡ min w.r u.q) (d : hi ≡ max w.r u.q) where
     pub span-made : edge_of (record { lo = lo; hi = hi }) ≡ span (rows_alone rows t) z
     unfolding brother_in

@@ -1,5 +1,5 @@
 -- The rows round a node, by number: a chain of the rows of which it is the newest vertex, from the lowest on. Assumes nothing.
-use Rattle.std.specs.Prelude.{◌≡◌, Bool, not, ◌&&◌, ◌||◌, List, ℕ, zero, suc, ◌+◌, ◌*◌, ◌≤◌, ◌<◌, eqb, length, get_or, set}
+use Rattle.std.specs.Prelude.{◌≡◌, Bool, not, ◌&&◌, ◌||◌, List, [], ◌∷◌, ℕ, zero, suc, ◌+◌, ◌*◌, ◌≤◌, ◌<◌, eqb, length, get_or, set}
 use Rattle.lists.specs.Lists.{any, only}
 use Rattle.lists.specs.Tally.{bit}
 use Rattle.lists.specs.Search.{lowest, items}
@@ -49,18 +49,29 @@ unfoldable pub next_of : List ℕ → ℕ → ℕ → ℕ
 next_of s nc zero = 0
 next_of s nc (suc j) = get_or s (2 * nc + j) 0
 
-abbrev pub round : ℕ → ℕ → ℕ → ℕ → ℕ → Round
+-- the numbers of the rows of which a node is the newest vertex, lowest first; 0 is none
+pub record Numbers : Type 0 where
+  pub first : ℕ
+  pub second : ℕ
+  pub third : ℕ
+  pub fourth : ℕ
+  pub fifth : ℕ
+
+abbrev pub numbers : Round → Numbers
+numbers k = record { first = code k.first; second = code k.second; third = code k.third; fourth = code k.fourth; fifth = code k.fifth }
+
+abbrev pub round : ℕ → ℕ → ℕ → ℕ → ℕ → Numbers
 round a b c d e = record { first = a; second = b; third = c; fourth = d; fifth = e }
 
-abbrev pub round_from : List ℕ → ℕ → ℕ → Round
+abbrev pub round_from : List ℕ → ℕ → ℕ → Numbers
 round_from s nc k =
     round k (next_of s nc k) (next_of s nc (next_of s nc k)) (next_of s nc (next_of s nc (next_of s nc k))) (next_of s nc (next_of s nc (next_of s nc (next_of s nc k))))
 
-unfoldable pub round_by : List ℕ → ℕ → ℕ → Round
+unfoldable pub round_by : List ℕ → ℕ → ℕ → Numbers
 round_by s nc z = round_from s nc (get_or s z 0)
 
 -- two rows, or four
-unfoldable pub two_or_four : Round → Bool
+unfoldable pub two_or_four : Numbers → Bool
 two_or_four k = not (eqb k.second 0) && eqb k.third 0 || not (eqb k.fourth 0) && eqb k.fifth 0
 
 -- row number k, where there is one
@@ -68,8 +79,12 @@ unfoldable pub row_in : List ℕ → ℕ → Tri
 row_in l zero = tri 0 0 0
 row_in l (suc i) = row_at l i
 
+-- the first four, where there are so many
+abbrev pub four_rows : List ℕ → Numbers → List Tri
+four_rows l k = row_in l k.first ∷ row_in l k.second ∷ row_in l k.third ∷ row_in l k.fourth ∷ []
+
 -- the numbers are those of rows, or 0
-pub record Within (l : List ℕ) (k : Round) : Type 0 where
+pub record Within (l : List ℕ) (k : Numbers) : Type 0 where
   pub first-in : 3 * k.first ≤ length l
   pub second-in : 3 * k.second ≤ length l
   pub third-in : 3 * k.third ≤ length l

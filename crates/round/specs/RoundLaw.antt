@@ -1,5 +1,5 @@
 -- The chain of rows round a node is the list of these rows; G1 by it. Assumes nothing.
-use Rattle.std.specs.Prelude.{◌≡◌, ◌≢◌, Bool, true, ◌&&◌, ◌||◌, eqb}
+use Rattle.std.specs.Prelude.{◌≡◌, ◌≢◌, Bool, true, ◌&&◌, ◌||◌, eqb, Option}
 use Rattle.std.proofs.Math.Path.{refl, ap}
 use Rattle.std.proofs.Common.{sym, ◌∙◌, eqb-true, ne_eqb}
 use Rattle.std.proofs.Math.Bool.{false}
@@ -7,7 +7,6 @@ use mathlib.Core.List.{List, [], ◌∷◌, Memᴰ}
 use Prim.Native.Nat.{ℕ, suc, ◌+◌, ◌*◌, ◌≤◌, ◌<◌}
 use native.Mathlib.Omega.{arith}
 use Rattle.std.proofs.Math.ListN.{length, get_or}
-use Rattle.lists.specs.declared.Found.{Found}
 use Rattle.lists.specs.Lists.{all, any, only}
 use Rattle.lists.specs.ListsLaw.{clash, or_no, All-at, All-imp, all_yes, yes-all, any-row, any_none}
 use Rattle.lists.specs.MembersLaw.{only-in, only-passes, only-cong}
@@ -22,19 +21,18 @@ use Rattle.meaning.specs.Mesh.{holds_node}
 use Rattle.meaning.specs.Lawful.{Named}
 use Rattle.meaning.specs.Good.{rows_of, G1}
 use Rattle.meaning.specs.Tables.{row_at}
-use Rattle.round.specs.declared.Round.{Round}
 use Rattle.laws.specs.Meshes.{rows_alone, Fair}
-use Rattle.round.specs.Round.{newest, newest_at, older, rows_round, Around, next_of, round, round_from, round_by, two_or_four}
+use Rattle.round.specs.Round.{newest, newest_at, older, rows_round, Around, next_of, Numbers, round, round_from, round_by, two_or_four}
 
 some : (k : ℕ) → eqb (suc k) 0 ≡ false
 some k = ne_eqb (suc k) 0 (omega arith)
 
 -- what five steps along the chain show
-pub data Shape (rows : List ℕ) (t z : ℕ) : Round → Type 0 where
+pub data Shape (rows : List ℕ) (t z : ℕ) : Numbers → Type 0 where
   two : (i j : ℕ) → i < t → j < t → rows_round rows t z ≡ row_at rows i ∷ row_at rows j ∷ [] → Shape rows t z (round (suc i) (suc j) 0 0 0)
   four : (i j k l : ℕ) → i < t → j < t → k < t → l < t → rows_round rows t z ≡ row_at rows i ∷ row_at rows j ∷ row_at rows k ∷ row_at rows l ∷ [] →
       Shape rows t z (round (suc i) (suc j) (suc k) (suc l) 0)
-  other : {r : Round} → length (rows_round rows t z) ≢ 2 → length (rows_round rows t z) ≢ 4 → two_or_four r ≡ false → Shape rows t z r
+  other : {r : Numbers} → length (rows_round rows t z) ≢ 2 → length (rows_round rows t z) ≢ 4 → two_or_four r ≡ false → Shape rows t z r
 
 module _ (rows : List ℕ) (t z : ℕ) where
   rest : ℕ → List Tri
@@ -49,7 +47,7 @@ module _ (rows : List ℕ) (t z : ℕ) where
   unfolding rest
   peel i h = go (lowest (newest_at rows z) i t) refl (search_is (newest_at rows z) i t h)
     where
-      go : (r : Found) → lowest (newest_at rows z) i t ≡ r → From (newest_at rows z) i t r → Peel i (code r)
+      go : (r : Option ℕ) → lowest (newest_at rows z) i t ≡ r → From (newest_at rows z) i t r → Peel i (code r)
       go r e (nowhere n) = no_more (only-nowhere (newest z) (row_at rows) t i h e)
       go r e (there j a b y n) =
           let q : suc j ≡ j + 1 = omega arith in
@@ -120,7 +118,7 @@ module _ (rows : List ℕ) (t z : ℕ) where
 
 -- ---- G1
 
-pub shape-test : (rows : List ℕ) (t z : ℕ) {r : Round} → Shape rows t z r → two_or_four r ≡ eqb (length (rows_round rows t z)) 2 || eqb (length (rows_round rows t z)) 4
+pub shape-test : (rows : List ℕ) (t z : ℕ) {r : Numbers} → Shape rows t z r → two_or_four r ≡ eqb (length (rows_round rows t z)) 2 || eqb (length (rows_round rows t z)) 4
 unfolding two_or_four
 shape-test rows t z (two i j hi hj e) = rw (e, some j)
 shape-test rows t z (four i j k l hi hj hk hl e) = rw (e, some j, some k, some l)
@@ -176,9 +174,16 @@ module _ (rows : List ℕ) (n t z : ℕ) (f : Fair rows n t) where
   older-none e = not_so (any (older z) (items (row_at rows) 0 t)) (λ q. clash (sym e ∙ G1-no q))
 
   -- G1, as the code asks it
-  pub G1-is : (s : List ℕ) (nc a : ℕ) (k : Round) (c : Bool) → Around s nc rows t z → a ≡ get_or s (nc + z) 0 → k ≡ round_by s nc z → c ≡ two_or_four k → eqb a 0 && c ≡ G1 (rows_alone rows t) z
+  G1-is : (s : List ℕ) (nc a : ℕ) (k : Numbers) (c : Bool) → Around s nc rows t z → a ≡ get_or s (nc + z) 0 → k ≡ round_by s nc z → c ≡ two_or_four k → eqb a 0 && c ≡ G1 (rows_alone rows t) z
   G1-is s nc a k c w e g h = rw (h, e, w.elder, g) (go (any (older z) (items (row_at rows) 0 t)) refl)
     where
       go : (b : Bool) → any (older z) (items (row_at rows) 0 t) ≡ b → eqb (bit b) 0 && two_or_four (round_by s nc z) ≡ G1 (rows_alone rows t) z
       go true q = sym (G1-no q)
       go false q = shape-test rows t z (shape_is rows t z s nc w) ∙ sym (G1-yes q)
+
+  module _ (s : List ℕ) (nc a : ℕ) (w : Around s nc rows t z) (e : a ≡ get_or s (nc + z) 0) where
+    pub G1-round : (k : Numbers) (c : Bool) → a ≡ 0 → k ≡ round_by s nc z → c ≡ two_or_four k → c ≡ G1 (rows_alone rows t) z
+    G1-round k c h g f = rw h at (G1-is s nc a k c w e g f)
+
+    pub G1-held : (a ≡ 0 → ⊥) → eqb a 0 ≡ G1 (rows_alone rows t) z
+    G1-held o = ne_eqb a 0 o ∙ rw (ne_eqb a 0 o) at (G1-is s nc a (round_by s nc z) (two_or_four (round_by s nc z)) w e refl refl)

@@ -11,21 +11,31 @@ mod pair;
 
 ghost use Rattle.std.specs.Prelude.{◌≡◌, true, ℕ, ◌+◌, ◌*◌, ◌≤◌, ◌<◌, length, take, replicate};
 ghost use Rattle.lists.specs.ChainLaw.{linked};
+ghost use Rattle.lists.specs.Loops.{code};
 ghost use Rattle.meaning.specs.Good.{span, G1, G2};
 ghost use Rattle.laws.specs.Meshes.{rows_alone, Fair};
 ghost use Rattle.neighbours.specs.Sized.{Sized, index_at};
 ghost use Rattle.neighbours.specs.Ready.{Ready};
-ghost use Rattle.round.specs.Round.{Around, next_of, round_by, two_or_four, Within};
+ghost use Rattle.round.specs.Round.{Around, next_of, numbers, round_by, two_or_four, Within};
 ghost use Rattle.round.specs.Pair.{edge_of};
 
-// The numbers of the rows of which a node is the newest vertex, lowest first.
+// The rows of which a node is the newest vertex, lowest first.
 #[derive(Clone, Copy)]
 pub struct Round {
-    pub first: u32,
-    pub second: u32,
-    pub third: u32,
-    pub fourth: u32,
-    pub fifth: u32,
+    pub first: Option<usize>,
+    pub second: Option<usize>,
+    pub third: Option<usize>,
+    pub fourth: Option<usize>,
+    pub fifth: Option<usize>,
+}
+
+// The first t rows of a table, with the rows round each node noted in scratch.
+#[derive(Clone, Copy)]
+pub struct Noted<'a> {
+    pub rows: &'a [u32],
+    pub scratch: &'a [u32],
+    pub nc: usize,
+    pub t: usize,
 }
 
 // The pair b, c of a node, the lower first.
@@ -33,6 +43,14 @@ pub struct Round {
 pub struct Ends {
     pub lo: u32,
     pub hi: u32,
+}
+
+// The item that a note says.
+// Stays: notes are numbers with 0 for none, for scratch is a `&mut [u32]` that the caller lends.
+pub fn item(k: u32) -> Option<usize>
+    ensures { code result ≡ k }
+{
+    (k as usize).checked_sub(1)
 }
 
 // Item i comes before those linked at g; its next is noted at y.
@@ -61,30 +79,28 @@ pub fn note_rows(rows: &[u32], scratch: &mut [u32], nc: usize, n: usize, t: usiz
     notes::link_rows(rows, scratch, nc, n, t);
 }
 
-// The number of the row after row number k.
-fn after(rows: &[u32], scratch: &[u32], nc: usize, t: usize, z: usize, k: u32) -> u32
-    requires around { Around scratch.now nc rows.now t z }
-    requires k_le_t { k ≤ t }
-    ensures next { result ≡ next_of scratch.now nc k }
-    ensures below { result ≤ t }
+// The row after row k.
+fn after(noted: Noted, z: usize, k: Option<usize>) -> Option<usize>
+    requires around { Around noted.scratch.now noted.nc noted.rows.now noted.t z }
+    requires k_le_t { code k ≤ noted.t }
+    ensures next { code result ≡ next_of noted.entry.scratch.now noted.entry.nc (code k) }
+    ensures below { code result ≤ noted.entry.t }
 {
-    if k == 0 {
-        return 0;
-    }
-    tables::note_at(scratch, 2 * nc + k as usize - 1)
+    let i = k?;
+    item(tables::note_at(noted.scratch, 2 * noted.nc + i))
 }
 
-fn round_of(rows: &[u32], scratch: &[u32], nc: usize, t: usize, z: usize) -> Round
-    requires around { Around scratch.now nc rows.now t z }
-    requires t_in_bounds { 3 * t ≤ length rows.now }
-    ensures numbers { result ≡ round_by scratch.now nc z }
-    ensures within { Within rows.now result }
+fn round_of(noted: Noted, z: usize) -> Round
+    requires around { Around noted.scratch.now noted.nc noted.rows.now noted.t z }
+    requires t_in_bounds { 3 * noted.t ≤ length noted.rows.now }
+    ensures numbers { numbers result ≡ round_by noted.entry.scratch.now noted.entry.nc z }
+    ensures within { Within noted.entry.rows.now (numbers result) }
 {
-    let first = tables::note_at(scratch, z);
-    let second = after(rows, scratch, nc, t, z, first);
-    let third = after(rows, scratch, nc, t, z, second);
-    let fourth = after(rows, scratch, nc, t, z, third);
-    let fifth = after(rows, scratch, nc, t, z, fourth);
+    let first = item(tables::note_at(noted.scratch, z));
+    let second = after(noted, z, first);
+    let third = after(noted, z, second);
+    let fourth = after(noted, z, third);
+    let fifth = after(noted, z, fourth);
     Round {
         first,
         second,
@@ -96,50 +112,51 @@ fn round_of(rows: &[u32], scratch: &[u32], nc: usize, t: usize, z: usize) -> Rou
 
 // ---- G1
 
+#[tactic(auto, using(crate::specs::Needs::by_number), unfolding(crate::specs::Round::two_or_four))]
 fn two_or_four(k: Round) -> bool
-    ensures { result ≡ two_or_four k }
+    ensures { result ≡ two_or_four (numbers k) }
 {
-    (k.second != 0) & (k.third == 0) | (k.fourth != 0) & (k.fifth == 0)
+    k.second.is_some() && k.third.is_none() || k.fourth.is_some() && k.fifth.is_none()
 }
 
-pub fn g1(rows: &[u32], scratch: &[u32], nc: usize, n: usize, t: usize, z: u32) -> bool
-    requires fair { Fair rows.now n t }
-    requires around { Around scratch.now nc rows.now t z }
-    ensures { result ≡ G1 (rows_alone rows.now t) z }
+pub fn g1(noted: Noted, n: usize, z: u32) -> bool
+    requires fair { Fair noted.rows.now n noted.t }
+    requires around { Around noted.scratch.now noted.nc noted.rows.now noted.t z }
+    ensures { result ≡ G1 (rows_alone noted.entry.rows.now noted.entry.t) z }
 {
-    let a = tables::note_at(scratch, nc + z as usize);
-    let k = round_of(rows, scratch, nc, t, z as usize);
-    (a == 0) & two_or_four(k)
+    let a = tables::note_at(noted.scratch, noted.nc + z as usize);
+    a == 0 && two_or_four(round_of(noted, z as usize))
 }
 
 // ---- G2 and the pair b, c
 
-pub fn g2(rows: &[u32], scratch: &[u32], nc: usize, n: usize, t: usize, z: u32) -> bool
-    requires fair { Fair rows.now n t }
-    requires around { Around scratch.now nc rows.now t z }
-    requires z_value { G1 (rows_alone rows.now t) z ≡ true }
-    ensures { result ≡ G2 (rows_alone rows.now t) z }
+pub fn g2(noted: Noted, n: usize, z: u32) -> bool
+    requires fair { Fair noted.rows.now n noted.t }
+    requires around { Around noted.scratch.now noted.nc noted.rows.now noted.t z }
+    requires z_value { G1 (rows_alone noted.rows.now noted.t) z ≡ true }
+    ensures { result ≡ G2 (rows_alone noted.entry.rows.now noted.entry.t) z }
 {
-    let k = round_of(rows, scratch, nc, t, z as usize);
-    if k.third == 0 {
-        return pair::two_in(rows, k, z);
+    let k = round_of(noted, z as usize);
+    if k.third.is_none() {
+        pair::two_in(noted.rows, k, z)
+    } else {
+        pair::four_in(noted.rows, k, z)
     }
-    pair::four_in(rows, k, z)
 }
 
-pub fn span_of(rows: &[u32], scratch: &[u32], nc: usize, n: usize, t: usize, z: u32) -> Ends
-    requires fair { Fair rows.now n t }
-    requires around { Around scratch.now nc rows.now t z }
-    requires z_value { G1 (rows_alone rows.now t) z ≡ true }
-    requires z_value_2 { G2 (rows_alone rows.now t) z ≡ true }
-    ensures pair { edge_of result ≡ span (rows_alone rows.now t) z }
+pub fn span_of(noted: Noted, n: usize, z: u32) -> Ends
+    requires fair { Fair noted.rows.now n noted.t }
+    requires around { Around noted.scratch.now noted.nc noted.rows.now noted.t z }
+    requires z_value { G1 (rows_alone noted.rows.now noted.t) z ≡ true }
+    requires z_value_2 { G2 (rows_alone noted.rows.now noted.t) z ≡ true }
+    ensures pair { edge_of result ≡ span (rows_alone noted.entry.rows.now noted.entry.t) z }
     ensures nodes { (result.lo < n) × (result.hi < n) }
 {
-    let k = round_of(rows, scratch, nc, t, z as usize);
-    let w = pair::row_in(rows, k.first);
-    let u = pair::brother_in(rows, k, z);
+    let k = round_of(noted, z as usize);
+    let w = pair::row_in(noted.rows, k.first);
+    let u = pair::brother_in(noted.rows, k, z);
     Ends {
-        lo: pair::low(w.r, u.q),
-        hi: pair::high(w.r, u.q),
+        lo: w.r.min(u.q),
+        hi: w.r.max(u.q),
     }
 }

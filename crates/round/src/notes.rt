@@ -30,10 +30,8 @@ pub fn mark_olders(rows: &[u32], scratch: &mut [u32], nc: usize, n: usize, t: us
     requires n_in_bounds { nc + n ≤ length scratch.old }
     ensures { scratch.new ≡ iter (older_step rows.now nc) 0 t scratch.old }
 {
-    let mut i = 0;
-    while i < t {
+    for i in 0..t {
         mark_older(rows, scratch, nc, n, t, i);
-        i += 1;
     }
 }
 
@@ -54,9 +52,7 @@ pub fn link_rows(rows: &[u32], scratch: &mut [u32], nc: usize, n: usize, t: usiz
     requires t_in_bounds { 2 * nc + t ≤ length scratch.old }
     ensures { scratch.new ≡ down (link_step rows.now nc) t scratch.old }
 {
-    let mut i = t;
-    while i > 0 {
-        i -= 1;
+    for i in (0..t).rev() {
         link_row(rows, scratch, nc, n, t, i);
     }
 }

@@ -1,19 +1,17 @@
 -- What is judged is `set_fault` of the mesh, and the tables after are those of the mesh with node z set. Assumes nothing.
-use Rattle.std.specs.Prelude.{Bool, not, ◌&&◌, List, [], ◌≡◌, ℕ, zero, suc, ◌*◌, ◌≤◌, ◌<◌, eqb, leb, ltb, ℤ, pos, get_or, set, replicate}
+use Rattle.std.specs.Prelude.{Bool, not, List, [], ◌≡◌, ℕ, zero, suc, ◌*◌, ◌≤◌, ◌<◌, eqb, leb, ltb, ℤ, pos, get_or, set, replicate, Option, Some, None, Result, Ok, Err}
 use Rattle.std.proofs.Math.Bool.{true, false}
 use Rattle.std.proofs.Math.Path.{refl, sym, ap, ap₂}
 use Rattle.std.proofs.Common.{◌∙◌, arith, length-set, ext_get_or, get_or-set_same, get_or-set_other}
 use Rattle.std.proofs.Math.Decide.{ℕ_discrete}
 use Rattle.std.proofs.Math.ListN.{length}
-use borrow.Author.Tests.{eq-eqb, ne_eqb, lt-ltb, le-ltb, le-leb, lt-leb}
-use Rattle.lists.specs.declared.Found.{Found}
-use Rattle.lists.specs.declared.Found.TheVariants.{At, Nothing}
+use borrow.Author.Tests.{ne_eqb, lt-ltb, le-ltb, le-leb, lt-leb}
 use Rattle.lists.specs.Lists.{cases}
 use Rattle.lists.specs.Search.{items}
 use Rattle.lists.specs.IterLaw.{length-items, get_or-items}
 use Rattle.meaning.specs.declared.Answer.{Answer}
 use Rattle.meaning.specs.declared.Correction.{Correction}
-use Rattle.meaning.specs.declared.Fault.{Fault}
+use Rattle.meaning.specs.Fault.{Fault}
 use Rattle.meaning.specs.declared.Node.{Node}
 use Rattle.meaning.specs.declared.Place.{Place}
 use Rattle.meaning.specs.Mesh.{Mesh, node, at, origin}
@@ -26,9 +24,11 @@ use Rattle.laws.specs.Setting.{corrected-count, set-0}
 use Rattle.laws.specs.TableMesh.{nodes-count, rows-count}
 use Rattle.tables.specs.Put.{set_node}
 use Rattle.tables.specs.PutLaw.{nodes-table}
+use Rattle.refusals.specs.declared.Refusal.{Refusal}
+use Rattle.refusals.specs.Refusals.{fault_in, verdict}
 use Rattle.judging.specs.Judge.{mesh_in, early}
-use Rattle.judging.specs.Leaving.{leaves-same, call-out}
-use Rattle.setting.specs.Setting.{late_fault, settled, nodes_set}
+use Rattle.judging.specs.Leaving.{numbered, leaves-same, call-out}
+use Rattle.setting.specs.Setting.{late_fault, first_in, settled, nodes_set}
 
 -- ---- what stands in the way
 
@@ -49,31 +49,31 @@ settled-mesh n0 m z c = rw (late-found n0 (length m.nodes) z) (go (first_outside
     late : Fault
     late = late_fault n0 (length m.nodes) z
 
-    chain : Found → Found → Found → Found → Fault → Fault
+    chain : Option ℕ → Option ℕ → Option ℕ → Option ℕ → Fault → Fault
     chain f g h k rest = or_later 4 f (or_later 5 g (or_later 6 h (or_later 7 k rest)))
 
     by : Fault → Bool → Fault
-    by f b = cases (not (eqb f.number 0) && leb f.number 3) f (cases b (fault 3 z) (cases (not (eqb f.number 0)) f late))
+    by f b = cases (first_in f) f (cases b (fault 3 z) (cases (not (eqb f.number 0)) f late))
 
-    go : (o f g h k : Found) (b : Bool) → by (or_later 3 o (chain f g h k (fault 0 0))) b ≡ or_later 3 (or_found o (found_if b z)) (chain f g h k late)
-    go (At i) f g h k b = refl
-    go Nothing (At i) g h k true = refl
-    go Nothing (At i) g h k false = refl
-    go Nothing Nothing (At i) h k true = refl
-    go Nothing Nothing (At i) h k false = refl
-    go Nothing Nothing Nothing (At i) k true = refl
-    go Nothing Nothing Nothing (At i) k false = refl
-    go Nothing Nothing Nothing Nothing (At i) true = refl
-    go Nothing Nothing Nothing Nothing (At i) false = refl
-    go Nothing Nothing Nothing Nothing Nothing true = refl
-    go Nothing Nothing Nothing Nothing Nothing false = refl
+    go : (o f g h k : Option ℕ) (b : Bool) → by (or_later 3 o (chain f g h k (fault 0 0))) b ≡ or_later 3 (or_found o (found_if b z)) (chain f g h k late)
+    go (Some i) f g h k b = refl
+    go None (Some i) g h k true = refl
+    go None (Some i) g h k false = refl
+    go None None (Some i) h k true = refl
+    go None None (Some i) h k false = refl
+    go None None None (Some i) k true = refl
+    go None None None (Some i) k false = refl
+    go None None None None (Some i) true = refl
+    go None None None None (Some i) false = refl
+    go None None None None None true = refl
+    go None None None None None false = refl
 
 -- 1 comes first
-unfoldable fault_in : Given → ℕ → ℕ → Correction → Fault
-fault_in g n0 z c = cases (sizes_fit g n0) (set_fault n0 (mesh_of g) z c) (fault 1 0)
+unfoldable fault_given : Given → ℕ → ℕ → Correction → Fault
+fault_given g n0 z c = cases (sizes_fit g n0) (set_fault n0 (mesh_of g) z c) (fault 1 0)
 
-settled_is : (g : Given) (n0 z : ℕ) (c : Correction) → settled (early g n0 0 []) n0 g.n z c ≡ fault_in g n0 z c
-unfolding early fault_in settled
+settled_is : (g : Given) (n0 z : ℕ) (c : Correction) → settled (early g n0 0 []) n0 g.n z c ≡ fault_given g n0 z c
+unfolding early fault_given settled
 settled_is g n0 z c = go (sizes_fit g n0)
   where
     go : (b : Bool) → settled (cases b (fault_of (mesh_of g)) (fault 1 0)) n0 g.n z c ≡ cases b (set_fault n0 (mesh_of g) z c) (fault 1 0)
@@ -82,8 +82,8 @@ settled_is g n0 z c = go (sizes_fit g n0)
 
 -- ---- what a call leaves
 
-set-leaves-by : (g : Given) (n0 z : ℕ) (c : Correction) → set_out g n0 z c ≡ leaves_by g (fault_in g n0 z c).number (corrected (mesh_of g) z c) 0 (fault_in g n0 z c).at
-unfolding set_out sets fault_in
+set-leaves-by : (g : Given) (n0 z : ℕ) (c : Correction) → set_out g n0 z c ≡ leaves_by g (fault_given g n0 z c).number (corrected (mesh_of g) z c) 0 (fault_given g n0 z c).at
+unfolding set_out sets fault_given
 set-leaves-by g n0 z c = go (sizes_fit g n0) (set_fault n0 (mesh_of g) z c).number refl
   where
     m : Mesh
@@ -112,24 +112,25 @@ pub late-none : (n0 n z : ℕ) → n0 ≤ z → z < n → fault 0 0 ≡ late_fau
 unfolding late_fault
 late-none n0 n z h k = rw (le-ltb z n0 h, lt-leb n z k)
 
--- f was judged of the tables
-module _ (f : Fault) (n0 n z : ℕ) (c : Correction) where
-  pub settled-first : not (eqb f.number 0) && leb f.number 3 ≡ true → f ≡ settled f n0 n z c
+-- j was judged of the tables
+module _ {A : Type 0} (j : Result A Refusal) (n0 n z : ℕ) (c : Correction) where
+  pub settled-first : true ≡ first_in (verdict j) → verdict j ≡ settled (verdict j) n0 n z c
   unfolding settled
-  settled-first h = rw h
+  settled-first h = rw (sym h)
 
-  module _ (h : not (eqb f.number 0) && leb f.number 3 ≡ false) (b : Bool) (e : b ≡ beyond c) where
-    pub settled-value : b ≡ true → fault 3 z ≡ settled f n0 n z c
+  module _ (h : false ≡ first_in (verdict j)) where
+    pub settled-value : true ≡ beyond c → fault 3 z ≡ settled (verdict j) n0 n z c
     unfolding settled
-    settled-value y = rw (h, ← e, y)
+    settled-value y = rw (sym h, sym y)
 
-    pub settled-later : b ≡ false → (f.number ≡ 0 → ⊥) → f ≡ settled f n0 n z c
-    unfolding settled
-    settled-later y o = rw (h, ← e, y, ne_eqb f.number 0 o)
+    module _ (y : false ≡ beyond c) where
+      pub settled-later : (r : Refusal) → j ≡ Err r → fault_in r ≡ settled (verdict j) n0 n z c
+      unfolding settled
+      settled-later r e = rw (sym h, sym y, e, ne_eqb (fault_in r).number 0 (numbered r))
 
-    pub settled-late : b ≡ false → f.number ≡ 0 → (r : Fault) → r ≡ late_fault n0 n z → r ≡ settled f n0 n z c
-    unfolding settled
-    settled-late y o r q = rw (h, ← e, y, eq-eqb f.number 0 o) q
+      pub settled-late : (a : A) → j ≡ Ok a → (f : Fault) → f ≡ late_fault n0 n z → f ≡ settled (verdict j) n0 n z c
+      unfolding settled
+      settled-late a e f q = rw (sym h, sym y, e) q
 
 -- the table with node z put, read as a list
 node-set : (nodes : List ℤ) (n z : ℕ) (a : Node) → 4 * n ≤ length nodes → z < n → items (node_at (set_node nodes z a)) 0 n ≡ set (items (node_at nodes) 0 n) z a
@@ -157,7 +158,7 @@ node-put nodes nodes₁ nodes₂ n z c p (r, h) e f g =
 -- f is what stands in the way
 module _ (nodes : List ℤ) (rows s : List ℕ) (n0 n t z : ℕ) (c : Correction) (zero-before : s ≡ replicate (length s) 0) (j f : Fault)
     (judged : j ≡ early (given nodes rows s n t) n0 0 []) (of : f ≡ settled j n0 n z c) where
-  f-is : f ≡ fault_in (given nodes rows s n t) n0 z c
+  f-is : f ≡ fault_given (given nodes rows s n t) n0 z c
   f-is = of ∙ ap (λ (x : Fault). settled x n0 n z c) judged ∙ settled_is (given nodes rows s n t) n0 z c
 
   out-is : set_out (given nodes rows s n t) n0 z c ≡ leaves_by (given nodes rows s n t) f.number (corrected (mesh_of (given nodes rows s n t)) z c) 0 f.at
@@ -173,7 +174,7 @@ module _ (nodes : List ℤ) (rows s : List ℕ) (n0 n t z : ℕ) (c : Correction
   -- nothing does: the node is there, and the counts fit the tables
   module _ (y : f.number ≡ 0) where
     sized_set : Sizes (given nodes rows s n t) n0 × ((set_fault n0 (mesh_of (given nodes rows s n t)) z c).number ≡ 0)
-    unfolding fault_in
+    unfolding fault_given
     sized_set = go (sizes_fit (given nodes rows s n t) n0) refl (ap (λ (x : Fault). x.number) (sym f-is) ∙ y)
       where
         go : (b : Bool) → sizes_fit (given nodes rows s n t) n0 ≡ b → (cases b (set_fault n0 (mesh_of (given nodes rows s n t)) z c) (fault 1 0)).number ≡ 0 →

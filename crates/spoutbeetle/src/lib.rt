@@ -11,7 +11,20 @@ ghost use Rattle.meaning.specs.Tables.{given, outcome, answer};
 ghost use Rattle.meaning.specs.Calls.{check_out, refine_out, tinted, red_out, coarsen_out, restore_out, set_out, told_as, heard, ask_out};
 ghost use Rattle.meaning.specs.Mesh.{place, correction};
 
-use meaning::{Correction, Place};
+use meaning::{Answer, Correction, Place};
+
+// An answer's number; its counts and its culprit are left behind the references.
+fn tell(answer: Answer, n: &mut usize, t: &mut usize, culprit: &mut usize) -> u32
+    ensures number { result ≡ answer.number }
+    ensures nodes { n.new ≡ answer.n }
+    ensures rows { t.new ≡ answer.t }
+    ensures blamed { culprit.new ≡ answer.culprit }
+{
+    *n = answer.n;
+    *t = answer.t;
+    *culprit = answer.culprit;
+    answer.number
+}
 
 // The base check's number.
 #[unsafe(no_mangle)]
@@ -45,10 +58,7 @@ pub extern "C" fn spoutbeetle_refine(
     ensures { outcome (answer result n.new t.new 0 culprit.new) nodes.new rows.new scratch.new ≡ refine_out newest (given nodes.old rows.old scratch.old n.old t.old) n0 marks.now }
 {
     let refined = mesh::refine(nodes, rows, scratch, marks, n0, *n, *t);
-    *n = refined.n;
-    *t = refined.t;
-    *culprit = refined.culprit;
-    refined.number
+    tell(refined, n, t, culprit)
 }
 
 // Quarter's number: refine, with all three edges of a marked triangle split.
@@ -66,10 +76,7 @@ pub extern "C" fn spoutbeetle_quarter(
     ensures { outcome (answer result n.new t.new 0 culprit.new) nodes.new rows.new scratch.new ≡ refine_out all_three (given nodes.old rows.old scratch.old n.old t.old) n0 marks.now }
 {
     let quartered = mesh::quarter(nodes, rows, scratch, marks, n0, *n, *t);
-    *n = quartered.n;
-    *t = quartered.t;
-    *culprit = quartered.culprit;
-    quartered.number
+    tell(quartered, n, t, culprit)
 }
 
 // W8: red refinement's number; behind `red` 1 if it made a red cut, else 0.
@@ -88,11 +95,8 @@ pub extern "C" fn spoutbeetle_refine_red(
     ensures { tinted (outcome (answer result n.new t.new 0 culprit.new) nodes.new rows.new scratch.new) red.new ≡ red_out (given nodes.old rows.old scratch.old n.old t.old) n0 marks.now }
 {
     let reddened = mesh::refine_red(nodes, rows, scratch, marks, n0, *n, *t);
-    *n = reddened.answer.n;
-    *t = reddened.answer.t;
     *red = reddened.red;
-    *culprit = reddened.answer.culprit;
-    reddened.answer.number
+    tell(reddened.answer, n, t, culprit)
 }
 
 // Coarsen's number.
@@ -110,10 +114,7 @@ pub extern "C" fn spoutbeetle_coarsen(
     ensures { outcome (answer result n.new t.new 0 culprit.new) nodes.new rows.new scratch.new ≡ coarsen_out (given nodes.old rows.old scratch.old n.old t.old) n0 marks.now }
 {
     let coarsened = mesh::coarsen(nodes, rows, scratch, marks, n0, *n, *t);
-    *n = coarsened.n;
-    *t = coarsened.t;
-    *culprit = coarsened.culprit;
-    coarsened.number
+    tell(coarsened, n, t, culprit)
 }
 
 // Restore's number; the passes it made are left behind `passes`.
@@ -131,11 +132,8 @@ pub extern "C" fn spoutbeetle_restore(
     ensures { outcome (answer result n.new t.new passes.new culprit.new) nodes.new rows.new scratch.new ≡ restore_out (given nodes.old rows.old scratch.old n.old t.old) n0 }
 {
     let restored = job::restore(nodes, rows, scratch, n0, *n, *t);
-    *n = restored.n;
-    *t = restored.t;
     *passes = restored.passes;
-    *culprit = restored.culprit;
-    restored.number
+    tell(restored, n, t, culprit)
 }
 
 // Set_correction's number: the node given is to carry dx and dy.

@@ -9,6 +9,28 @@ ghost use Rattle.pieces.specs.Reader as r;
 use protocol::Session;
 use reader::Carried;
 
+// Leaves what is carried on behind the references.
+fn leave(
+    on: Carried,
+    used: &mut usize,
+    ended: &mut bool,
+    n: &mut usize,
+    t: &mut usize,
+    n0: &mut usize,
+    accepted: &mut bool,
+)
+    ensures line { used.new ≡ on.used }
+    ensures end { ended.new ≡ on.ended }
+    ensures known { session n.new t.new n0.new accepted.new ≡ on.session }
+{
+    *used = on.used;
+    *ended = on.ended;
+    *n = on.session.n;
+    *t = on.session.t;
+    *n0 = on.session.n0;
+    *accepted = on.session.accepted;
+}
+
 // Begin's number. What is carried afterwards is that of a new reader, whatever it was.
 #[unsafe(no_mangle)]
 pub extern "C" fn spoutbeetle_begin(
@@ -29,14 +51,7 @@ pub extern "C" fn spoutbeetle_begin(
     ensures written_bound { written.new ≤ 32768 }
 {
     let begun = reader::begin(line, nodes, rows, scratch, out);
-    let after = begun.carried;
-    let known = after.session;
-    *used = after.used;
-    *ended = after.ended;
-    *n = known.n;
-    *t = known.t;
-    *n0 = known.n0;
-    *accepted = known.accepted;
+    leave(begun.carried, used, ended, n, t, n0, accepted);
     *written = begun.written;
     begun.number
 }
@@ -62,26 +77,18 @@ pub extern "C" fn spoutbeetle_take(
     ensures accepted_after { r.tells result taken.new (wrote written.new out.new) (r.reader (r.unfinished used.new line.new) ended.new (held nodes.new rows.new scratch.new (session n.new t.new n0.new accepted.new))) ≡ r.take_out (r.reader (r.unfinished used.old line.old) ended.old (held nodes.old rows.old scratch.old (session n.old t.old n0.old accepted.old))) piece.now out.old }
     ensures written_bound { written.new ≤ 32768 }
 {
-    let session = Session {
-        n: *n,
-        t: *t,
-        n0: *n0,
-        accepted: *accepted,
-    };
     let carried = Carried {
         used: *used,
         ended: *ended,
-        session,
+        session: Session {
+            n: *n,
+            t: *t,
+            n0: *n0,
+            accepted: *accepted,
+        },
     };
     let took = reader::take(piece, carried, line, nodes, rows, scratch, out);
-    let after = took.carried;
-    let known = after.session;
-    *used = after.used;
-    *ended = after.ended;
-    *n = known.n;
-    *t = known.t;
-    *n0 = known.n0;
-    *accepted = known.accepted;
+    leave(took.carried, used, ended, n, t, n0, accepted);
     *taken = took.taken;
     *written = took.written;
     took.number
@@ -106,26 +113,18 @@ pub extern "C" fn spoutbeetle_end(
     ensures accepted_after { r.tells result 0 (wrote written.new out.new) (r.reader (r.unfinished used.new line.new) ended.new (held nodes.now rows.now scratch.now (session n.new t.new n0.new accepted.new))) ≡ r.end_out (r.reader (r.unfinished used.old line.old) ended.old (held nodes.now rows.now scratch.now (session n.old t.old n0.old accepted.old))) out.old }
     ensures written_bound { written.new ≤ 32768 }
 {
-    let session = Session {
-        n: *n,
-        t: *t,
-        n0: *n0,
-        accepted: *accepted,
-    };
     let carried = Carried {
         used: *used,
         ended: *ended,
-        session,
+        session: Session {
+            n: *n,
+            t: *t,
+            n0: *n0,
+            accepted: *accepted,
+        },
     };
     let took = reader::end(carried, line, nodes, rows, scratch, out);
-    let after = took.carried;
-    let known = after.session;
-    *used = after.used;
-    *ended = after.ended;
-    *n = known.n;
-    *t = known.t;
-    *n0 = known.n0;
-    *accepted = known.accepted;
+    leave(took.carried, used, ended, n, t, n0, accepted);
     *written = took.written;
     took.number
 }

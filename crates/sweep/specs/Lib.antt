@@ -8,3 +8,4 @@ pub mod Sweep
 pub mod Swept
 pub mod Lined
 pub mod SweptMesh
+pub mod Steps

@@ -1,22 +1,12 @@
--- W7: what the sweep relies on of the tables and of scratch, and the turns of its loops in the form of their needs. Assumes nothing.
-use Rattle.std.specs.Prelude.{Bool, ◌&&◌, List, ◌≡◌, ℕ, ◌+◌, ◌*◌, ◌≤◌, ◌<◌, max, ℤ, length, get_or}
-use Rattle.std.proofs.Math.Bool.{true, false}
-use Rattle.std.proofs.Math.Path.{refl, ap}
-use Rattle.std.proofs.Common.{◌∙◌, arith}
-use borrow.Author.Tests.{le-leb, lt-leb}
-use Rattle.std.proofs.Math.Dec.{leb}
-use Rattle.lists.specs.Lists.{cases}
-use Rattle.lists.specs.Search.{iter}
-use Rattle.meaning.specs.declared.Place.{Place}
+-- W7: what the sweep relies on of the tables and of scratch. Assumes nothing.
+use Rattle.std.specs.Prelude.{List, ◌≡◌, ℕ, ◌+◌, ◌*◌, ◌≤◌, ◌<◌, ℤ, length}
+use Rattle.std.proofs.Common.{arith}
 use Rattle.meaning.specs.Tables.{place_at, row_at}
-use Rattle.pairs.specs.Pair.{grave_at}
 use Rattle.pairs.specs.Sound.{Sound}
 use Rattle.columns.specs.declared.Scale.{Scale}
-use Rattle.columns.specs.declared.Boxed.{Boxed}
-use Rattle.columns.specs.Columns.{high, column, box_at, Ordered}
+use Rattle.columns.specs.Columns.{column, box_at, Ordered}
 use Rattle.columns.specs.Rank.{column-below}
-use Rattle.sweep.specs.Highest.{raised, highest}
-use Rattle.sweep.specs.Sweep.{compared, visited, reach, swept_place, swept}
+use Rattle.sweep.specs.Sweep.{reach}
 use Rattle.sweep.specs.Swept.{reach-most}
 
 -- row i is in its table, and is sound
@@ -28,9 +18,6 @@ pub record Known (nodes : List ℤ) (rows : List ℕ) (i : ℕ) : Type 0 where
 pub record KnownAt (nodes : List ℤ) (rows scratch : List ℕ) (o q : ℕ) : Type 0 where
   pub inside : o + 3 * q + 3 ≤ length scratch
   pub known : Known nodes rows (box_at scratch o q).row
-
-pub known-box : (nodes : List ℤ) (rows scratch : List ℕ) (o q : ℕ) (c : Boxed) → c ≡ box_at scratch o q → KnownAt nodes rows scratch o q → Known nodes rows c.row
-known-box nodes rows scratch o q c e h = rw e h.known
 
 -- rows that stand in order in scratch, with all that is read of them
 pub record Lined (s : Scale) (nodes : List ℤ) (rows scratch : List ℕ) (t : ℕ) : Type 0 where
@@ -47,69 +34,19 @@ pub record LinedAt (s : Scale) (nodes : List ℤ) (rows scratch : List ℕ) (p :
   pub lined : Lined s nodes rows scratch t
   pub below : p < t
 
-pub lined-at : (s : Scale) (nodes : List ℤ) (rows scratch : List ℕ) (t p : ℕ) → Lined s nodes rows scratch t → p < t → LinedAt s nodes rows scratch p
-lined-at s nodes rows scratch t p h l = record { t = t; lined = h; below = l }
-
 module _ (s : Scale) (nodes : List ℤ) (rows scratch : List ℕ) where
-  lined-known : (t q : ℕ) → Lined s nodes rows scratch t → q < t → KnownAt nodes rows scratch s.count q
+  pub lined-known : (t q : ℕ) → Lined s nodes rows scratch t → q < t → KnownAt nodes rows scratch s.count q
   lined-known t q h l =
       let n = h.ordered.naming q l in
       record { inside = omega (arith, h.places); known = record { inside = omega (arith, h.room); sound = h.sound (box_at scratch s.count q).row n } }
 
   module _ (p : ℕ) (h : LinedAt s nodes rows scratch p) where
-    pub lined-box : s.count + 3 * p + 3 ≤ length scratch
-    lined-box = (lined-known h.t p h.lined h.below).inside
-
-    -- b is what stands there
-    module _ (b : Boxed) (e : b ≡ box_at scratch s.count p) where
-      pub lined-row : Known nodes rows b.row
-      lined-row = known-box nodes rows scratch s.count p b e (lined-known h.t p h.lined h.below)
-
-      pub lined-behind : (last : ℕ) → last ≡ reach s (place_at nodes) rows scratch b.row → (q : ℕ) → q < last → KnownAt nodes rows scratch s.count q
-      lined-behind last f q l =
-          let o = h.lined.ordered in
-          let r = reach-most s (place_at nodes) rows scratch h.t o h.lined.some b.row in
-          lined-known h.t q h.lined (omega arith)
-
-      pub place-swept : (last k worst r : ℕ) → last ≡ reach s (place_at nodes) rows scratch b.row → k ≡ highest (visited (place_at nodes) rows scratch s.count b) (p + 1) last →
-          r ≡ max worst k → r ≡ max worst (swept_place s (place_at nodes) rows scratch p)
-      unfolding swept_place
-      place-swept last k worst r f g w = w ∙ ap (max worst) (g ∙ rw (f, e))
-
--- ---- two boxed rows
-
-module _ (P : ℕ → Place) (rows : List ℕ) (b c : Boxed) where
-  pub compared-under : b.high < c.low → 0 ≡ compared P rows b c
-  unfolding compared
-  compared-under h = rw (lt-leb c.low b.high h)
-
-  pub compared-over : c.high < b.low → 0 ≡ compared P rows b c
-  unfolding compared
-  compared-over h = go (leb c.low b.high)
-    where
-      go : (a : Bool) → 0 ≡ cases (a && leb b.low c.high) (grave_at P rows b.row c.row) 0
-      go true = rw (lt-leb b.low c.high h)
-      go false = refl
-
-  pub compared-met : (r : ℕ) → c.low ≤ b.high → b.low ≤ c.high → r ≡ grave_at P rows b.row c.row → r ≡ compared P rows b c
-  unfolding compared
-  compared-met r h k e = rw (le-leb c.low b.high h, le-leb b.low c.high k) e
-
-  -- c is what stands at some place
-  pub place-visited : (c' : Boxed) (k worst r : ℕ) → c ≡ c' → k ≡ compared P rows b c → r ≡ max worst k → r ≡ max worst (compared P rows b c')
-  place-visited c' k worst r q e w = w ∙ ap (max worst) (e ∙ ap (compared P rows b) q)
-
-pub highest-start : (f : ℕ → ℕ) (i t : ℕ) → iter (raised f) i t 0 ≡ highest f i t
-unfolding highest
-highest-start f i t = refl
-
-pub swept-start : (s : Scale) (P : ℕ → Place) (rows scratch : List ℕ) (t : ℕ) → iter (raised (swept_place s P rows scratch)) 0 t 0 ≡ swept s P rows scratch t
-unfolding swept highest
-swept-start s P rows scratch t = refl
-
-pub reach-made : (s : Scale) (P : ℕ → Place) (rows scratch : List ℕ) (i v c r : ℕ) → v ≡ high s.tall P (row_at rows i) → c ≡ column s v → r ≡ get_or scratch c 0 → r ≡ reach s P rows scratch i
-unfolding reach
-reach-made s P rows scratch i v c r e f g = g ∙ ap (λ x. get_or scratch x 0) (f ∙ ap (column s) e)
+    -- the places behind it, up to where a column ends
+    pub lined-behind : (i last : ℕ) → last ≡ reach s (place_at nodes) rows scratch i → (q : ℕ) → q < last → KnownAt nodes rows scratch s.count q
+    lined-behind i last f q l =
+        let o = h.lined.ordered in
+        let r = reach-most s (place_at nodes) rows scratch h.t o h.lined.some i in
+        lined-known h.t q h.lined (omega arith)
 
 pub column-inside : (s : Scale) (v c l : ℕ) → c ≡ column s v → 0 < s.count → s.count ≤ l → c < l
 column-inside s v c l e h k = let b = column-below s v h in omega arith

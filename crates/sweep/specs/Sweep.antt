@@ -5,6 +5,7 @@ use Rattle.lists.specs.Lists.{cases}
 use Rattle.meaning.specs.declared.Place.{Place}
 use Rattle.meaning.specs.Tables.{row_at}
 use Rattle.pairs.specs.Pair.{grave_at}
+use Rattle.columns.specs.Axis.{is_y}
 use Rattle.columns.specs.declared.Scale.{Scale}
 use Rattle.columns.specs.declared.Boxed.{Boxed}
 use Rattle.columns.specs.Columns.{high, column, box_at}
@@ -24,7 +25,7 @@ visited P rows scratch o b q = compared P rows b (box_at scratch o q)
 
 -- where the last column that row i reaches ends
 unfoldable pub reach : Scale → (ℕ → Place) → List ℕ → List ℕ → ℕ → ℕ
-reach s P rows scratch i = get_or scratch (column s (high s.tall P (row_at rows i))) 0
+reach s P rows scratch i = get_or scratch (column s (high (is_y s.axis) P (row_at rows i))) 0
 
 -- the gravest of the row at place p and those behind it
 unfoldable pub swept_place : Scale → (ℕ → Place) → List ℕ → List ℕ → ℕ → ℕ

@@ -13,6 +13,7 @@ use Rattle.meaning.specs.declared.Place.{Place}
 use Rattle.meaning.specs.Tables.{row_at}
 use Rattle.pairs.specs.Pair.{grave, grave_at}
 use Rattle.pairs.specs.Turned.{grave-sym}
+use Rattle.columns.specs.Axis.{is_y}
 use Rattle.columns.specs.declared.Scale.{Scale}
 use Rattle.columns.specs.declared.Boxed.{Boxed}
 use Rattle.columns.specs.Columns.{low, high, column, home, rank, box_at, box_of, Ordered}
@@ -26,7 +27,7 @@ use Rattle.sweep.specs.Sweep.{meeting, compared, visited, reach, swept_place, sw
 module _ (s : Scale) (P : ℕ → Place) (rows scratch : List ℕ) (t : ℕ) (o : Ordered s P rows scratch t) (some : 0 < s.count) where
   pub reach-most : (i : ℕ) → reach s P rows scratch i ≤ t
   unfolding reach
-  reach-most i = let v = high s.tall P (row_at rows i) in end-most s P rows scratch t o some (column s v) (column-below s v some)
+  reach-most i = let v = high (is_y s.axis) P (row_at rows i) in end-most s P rows scratch t o some (column s v) (column-below s v some)
 
 module _ (s : Scale) (P : ℕ → Place) (rows scratch : List ℕ) (t : ℕ) (o : Ordered s P rows scratch t) (some : 0 < s.count) where
   abbrev box : ℕ → Boxed
@@ -58,7 +59,7 @@ module _ (s : Scale) (P : ℕ → Place) (rows scratch : List ℕ) (t : ℕ) (o 
     -- row j begins in a column that row i reaches
     in_reach : (i j : ℕ) → i < t → j < t → 0 < grave_of i j → at j < reach s P rows scratch i
     unfolding reach
-    in_reach i j a b g = end-past s P rows scratch t o some wide j (high s.tall P (row_at rows i)) b (reaches s.tall i j a b g)
+    in_reach i j a b g = end-past s P rows scratch t o some wide j (high (is_y s.axis) P (row_at rows i)) b (reaches (is_y s.axis) i j a b g)
 
     visit-is : (i j : ℕ) → i < t → j < t → i ≢ j → 0 < grave_of i j → visited P rows scratch s.count (box (at i)) (at j) ≡ grave_of i j
     unfolding compared box_of grave_at
@@ -67,7 +68,7 @@ module _ (s : Scale) (P : ℕ → Place) (rows scratch : List ℕ) (t : ℕ) (o 
         ∙ ap (λ c. cases c (grave_at P rows i j) 0) meets ∙ different
       where
         meets : meeting (box_of s P rows i) (box_of s P rows j) ≡ true
-        meets = and_both (le-leb _ _ (reaches (not s.tall) i j a b g)) (le-leb _ _ (reaches (not s.tall) j i b a (back i j g)))
+        meets = and_both (le-leb _ _ (reaches (not (is_y s.axis)) i j a b g)) (le-leb _ _ (reaches (not (is_y s.axis)) j i b a (back i j g)))
 
         different : grave_at P rows i j ≡ grave_of i j
         different = rw (ne_eqb i j n)

@@ -1,3 +1,4 @@
 pub mod Arrow
 pub mod Put
 pub mod PutLaw
+pub mod Steps

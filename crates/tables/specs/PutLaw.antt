@@ -1,17 +1,14 @@
 -- Rows and nodes after one is put, and a table that is cleared from one on. Assumes nothing.
-use Rattle.std.specs.Prelude.{◌≡◌, List, ◌++◌, ℕ, ◌+◌, ◌*◌, ◌-◌, ◌≤◌, ℤ, pos, length, take, replicate}
+use Rattle.std.specs.Prelude.{◌≡◌, List, ◌++◌, ℕ, ◌+◌, ◌*◌, ◌-◌, ◌≤◌, ℤ, length, take, replicate}
 use Rattle.std.proofs.Common.{ap, ◌∙◌, append-nil, le_refl}
 use borrow.Rule.Slice.PartMut.{put_mid, mid_of, mid_len, Post-is}
 use Rattle.std.proofs.Math.Seq.{drop-length}
 use Rattle.lists.specs.Search.{items}
 use Rattle.lists.specs.Table.{Form, Faithful, read_at, flatten}
 use Rattle.lists.specs.TableLaw.{Table, form-table, blank-after}
-use Rattle.meaning.specs.declared.Correction.{Correction}
 use Rattle.meaning.specs.declared.Node.{Node}
-use Rattle.meaning.specs.declared.Place.{Place}
 use Rattle.meaning.specs.declared.Tri.{Tri}
-use Rattle.meaning.specs.Mesh.{node}
-use Rattle.meaning.specs.Tables.{node_form, row_form, nodes-faithful, rows-faithful, row_at, node_at, place_at, flat_rows, flat_nodes, filled}
+use Rattle.meaning.specs.Tables.{node_form, row_form, nodes-faithful, rows-faithful, row_at, node_at, filled}
 use Rattle.tables.specs.Put.{set_row, set_node}
 
 pub rows-table : Table row_form.width row_at set_row
@@ -35,10 +32,6 @@ length-set_node = nodes-table.long
 pub node-set-same : (l : List ℤ) (k : ℕ) (a : Node) → 4 * k + 4 ≤ length l → node_at (set_node l k a) k ≡ a
 node-set-same = nodes-table.same
 
--- a node read as its two parts, in the form of needs
-pub node-parts : (l : List ℤ) (k : ℕ) (a : Place) (c : Correction) → a ≡ place_at l k → c ≡ (node_at l k).correction → node a c ≡ node_at l k
-node-parts l k a c e d = rw (e, d)
-
 -- a part to the end comes back as zeros, in the form of needs
 pub tail-filled : {A : Type 0} (xs ys : List A) (a : ℕ) (v : A) → a ≤ length xs → ys ≡ replicate (length (mid_of a (length xs - a) xs)) v →
     put_mid a (length xs - a) xs ys ≡ take a xs ++ replicate (length xs - a) v
@@ -47,16 +40,6 @@ tail-filled {A} xs ys a v h e =
     ∙ ap (λ (l : List A). take a xs ++ l) (append-nil ys ∙ e ∙ ap (λ (k : ℕ). replicate k v) (mid_len a (length xs) xs (le_refl (length xs))))
 
 module _ {A R : Type 0} (F : Form A R) (S : Faithful F) where
-  cleared-from : (l ys : List A) (k : ℕ) → F.width * k ≤ length l → ys ≡ replicate (length (mid_of (F.width * k) (length l - F.width * k) l)) F.blank →
+  pub cleared-from : (l ys : List A) (k : ℕ) → F.width * k ≤ length l → ys ≡ replicate (length (mid_of (F.width * k) (length l - F.width * k) l)) F.blank →
       put_mid (F.width * k) (length l - F.width * k) l ys ≡ filled F.blank (length l) (flatten F (items (read_at F l) 0 k))
   cleared-from l ys k h e = tail-filled l ys (F.width * k) F.blank h e ∙ blank-after F S l k h
-
-pub rows-cleared : (l ys : List ℕ) (t : ℕ) → 3 * t ≤ length l → ys ≡ replicate (length (mid_of (3 * t) (length l - 3 * t) l)) 0 →
-    put_mid (3 * t) (length l - 3 * t) l ys ≡ filled 0 (length l) (flat_rows (items (row_at l) 0 t))
-unfolding row_at
-rows-cleared = cleared-from row_form rows-faithful
-
-pub nodes-cleared : (l ys : List ℤ) (n : ℕ) → 4 * n ≤ length l → ys ≡ replicate (length (mid_of (4 * n) (length l - 4 * n) l)) (pos 0) →
-    put_mid (4 * n) (length l - 4 * n) l ys ≡ filled (pos 0) (length l) (flat_nodes (items (node_at l) 0 n))
-unfolding node_at
-nodes-cleared = cleared-from node_form nodes-faithful

@@ -1,16 +1,108 @@
 // Reading and writing the tables that a caller lends: rows, nodes and notes.
 #![tactic(auto)]
 
-ghost use Rattle.std.specs.Prelude.{◌≡◌, ◌++◌, ◌+◌, ◌*◌, ◌≤◌, ◌<◌, length, drop, replicate, get_or, set, pos};
-ghost use Rattle.lists.specs.Lists.{is_found};
+ghost use Rattle.std.specs.Prelude.{◌≡◌, ℕ, ◌++◌, ◌+◌, ◌*◌, ◌≤◌, ◌<◌, length, drop, replicate, get_or, set, pos, refl};
 ghost use Rattle.lists.specs.Search.{items};
+ghost use Rattle.lists.specs.Table.{Form, Faithful, read_at, write_at, flatten};
 ghost use Rattle.meaning.specs.Mesh.{arrow, holds_arrow};
+ghost use Rattle.meaning.specs.Tables.{row_form, node_form, rows-faithful, nodes-faithful};
 ghost use Rattle.meaning.specs.Tables.{row_at, node_at, place_at, flat_rows, flat_nodes, filled};
 ghost use Rattle.tables.specs.Arrow.{arrow_at};
 ghost use Rattle.tables.specs.Put.{set_row, set_node};
 
-use lists::Found;
 use meaning::{Correction, Node, Place, Tri};
+
+// ---- records
+
+// A record of a table: how it stands there, its numbers one after the other.
+pub trait Record: Copy {
+    type Number;
+
+    ghost form: { Form Self.Number Self };
+
+    // How many numbers it has.
+    ghost WIDTH: { ℕ };
+
+    const WIDTH: usize;
+
+    // Record k of the table.
+    fn read(table: &[Self::Number], k: usize) -> Self
+        requires { form.width * k + form.width ≤ length table.now }
+        ensures { result ≡ read_at form table.now k };
+
+    // The record becomes record k of the table.
+    fn put(self, table: &mut [Self::Number], k: usize)
+        requires { form.width * k + form.width ≤ length table.old }
+        ensures { table.new ≡ write_at form table.old k self };
+
+    // All of the table is blank after.
+    fn clear(table: &mut [Self::Number])
+        ensures { table.new ≡ replicate (length table.old) form.blank };
+
+    ghost faithful: { Faithful form };
+
+    ghost wide: { form.width ≡ WIDTH };
+}
+
+impl Record for Tri {
+    type Number = u32;
+
+    ghost form = { row_form };
+
+    ghost WIDTH = { 3 };
+
+    const WIDTH: usize = 3;
+
+    fn read(table: &[u32], k: usize) -> Tri {
+        row_at(table, k)
+    }
+
+    fn put(self, table: &mut [u32], k: usize) {
+        put_row(table, k, self);
+    }
+
+    fn clear(table: &mut [u32]) {
+        clear(table);
+    }
+
+    ghost faithful = { rows-faithful };
+
+    ghost wide = { refl };
+}
+
+impl Record for Node {
+    type Number = i32;
+
+    ghost form = { node_form };
+
+    ghost WIDTH = { 4 };
+
+    const WIDTH: usize = 4;
+
+    fn read(table: &[i32], k: usize) -> Node {
+        node_at(table, k)
+    }
+
+    fn put(self, table: &mut [i32], k: usize) {
+        put_node(table, k, self);
+    }
+
+    fn clear(nodes: &mut [i32]) {
+        nodes.fill(0);
+    }
+
+    ghost faithful = { nodes-faithful };
+
+    ghost wide = { refl };
+}
+
+// The first k records stay; the rest of the table is blank.
+pub fn clear_from<R: Record>(table: &mut [R::Number], k: usize)
+    requires { R.form.width * k ≤ length table.old }
+    ensures { table.new ≡ filled R.form.blank (length table.old) (flatten R.form (items (read_at R.form table.old) 0 k)) }
+{
+    R::clear(&mut table[R::WIDTH * k..]);
+}
 
 // ---- rows and nodes
 
@@ -31,9 +123,10 @@ pub fn node_at(nodes: &[i32], k: usize) -> Node
     requires { 4 * k + 4 ≤ length nodes.now }
     ensures { result ≡ node_at nodes.now k }
 {
-    let place = place_at(nodes, k);
-    let correction = correction_at(nodes, k);
-    Node { place, correction }
+    Node {
+        place: place_at(nodes, k),
+        correction: correction_at(nodes, k),
+    }
 }
 
 // Its place.
@@ -79,14 +172,47 @@ pub fn put_node(nodes: &mut [i32], k: usize, a: Node)
     requires { 4 * k + 4 ≤ length nodes.old }
     ensures { nodes.new ≡ set_node nodes.old k a }
 {
-    let x = a.place.x;
-    let y = a.place.y;
-    let dx = a.correction.dx;
-    let dy = a.correction.dy;
-    nodes[4 * k] = x;
-    nodes[4 * k + 1] = y;
-    nodes[4 * k + 2] = dx;
-    nodes[4 * k + 3] = dy;
+    nodes[4 * k] = a.place.x;
+    nodes[4 * k + 1] = a.place.y;
+    nodes[4 * k + 2] = a.correction.dx;
+    nodes[4 * k + 3] = a.correction.dy;
+}
+
+// ---- a mesh as lent
+
+// The mesh in the tables that a caller lends: the first n nodes and the first t rows.
+#[derive(Clone, Copy)]
+pub struct Mesh<'a> {
+    pub nodes: &'a [i32],
+    pub rows: &'a [u32],
+    pub n: usize,
+    pub t: usize,
+    ghost nodes_fit: { 4 * n ≤ length nodes.now },
+    ghost rows_fit: { 3 * t ≤ length rows.now },
+}
+
+impl Mesh<'_> {
+    pub fn row(self, i: usize) -> Tri
+        requires { i < self.t }
+        ensures { result ≡ row_at self.entry.rows.now i }
+    {
+        row_at(self.rows, i)
+    }
+
+    pub fn node(self, k: usize) -> Node
+        requires { k < self.n }
+        ensures { result ≡ node_at self.entry.nodes.now k }
+    {
+        node_at(self.nodes, k)
+    }
+
+    // Where node k stands.
+    pub fn place(self, k: u32) -> Place
+        requires { k < self.n }
+        ensures { result ≡ place_at self.entry.nodes.now k }
+    {
+        corner(self.nodes, k)
+    }
 }
 
 // ---- zeros past the counts
@@ -96,18 +222,7 @@ pub fn clear_rows_from(rows: &mut [u32], t: usize)
     requires { 3 * t ≤ length rows.old }
     ensures { rows.new ≡ filled 0 (length rows.old) (flat_rows (items (row_at rows.old) 0 t)) }
 {
-    clear(&mut rows[3 * t..]);
-}
-
-// All of the node table is zero after.
-fn clear_nodes(nodes: &mut [i32])
-    ensures { nodes.new ≡ replicate (length nodes.old) (pos 0) }
-{
-    let mut i = 0;
-    while i < nodes.len() {
-        nodes[i] = 0;
-        i += 1;
-    }
+    clear_from::<Tri>(rows, t);
 }
 
 // The first n nodes stay; the rest of the table is zero.
@@ -115,7 +230,7 @@ pub fn clear_nodes_from(nodes: &mut [i32], n: usize)
     requires { 4 * n ≤ length nodes.old }
     ensures { nodes.new ≡ filled (pos 0) (length nodes.old) (flat_nodes (items (node_at nodes.old) 0 n)) }
 {
-    clear_nodes(&mut nodes[4 * n..]);
+    clear_from::<Node>(nodes, n);
 }
 
 // ---- notes
@@ -138,11 +253,7 @@ pub fn put_note(scratch: &mut [u32], k: usize, v: u32)
 pub fn clear(table: &mut [u32])
     ensures { table.new ≡ replicate (length table.old) 0 }
 {
-    let mut i = 0;
-    while i < table.len() {
-        table[i] = 0;
-        i += 1;
-    }
+    table.fill(0);
 }
 
 // The first k of scratch are zero after.
@@ -150,22 +261,7 @@ pub fn clear_front(scratch: &mut [u32], k: usize)
     requires { k ≤ length scratch.old }
     ensures { scratch.new ≡ replicate k 0 ++ drop k scratch.old }
 {
-    let mut i = 0;
-    while i < k {
-        scratch[i] = 0;
-        i += 1;
-    }
-}
-
-// ---- what a search gave
-
-pub fn is_found(f: Found) -> bool
-    ensures { result ≡ is_found f }
-{
-    match f {
-        Found::At(_) => true,
-        Found::Nothing => false,
-    }
+    clear(&mut scratch[..k]);
 }
 
 // ---- directed edges
@@ -174,7 +270,7 @@ pub fn is_found(f: Found) -> bool
 pub fn has_edge(w: Tri, x: u32, y: u32) -> bool
     ensures { result ≡ holds_arrow (arrow x y) w }
 {
-    (x == w.p) & (y == w.q) | (x == w.q) & (y == w.r) | (x == w.r) & (y == w.p)
+    x == w.p && y == w.q || x == w.q && y == w.r || x == w.r && y == w.p
 }
 
 // Row i has it.

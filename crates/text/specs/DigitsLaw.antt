@@ -1,13 +1,14 @@
 -- Digits and numbers in the form in which the code reads them. Assumes nothing.
-use Rattle.std.specs.Prelude.{◌≡◌, true, false, List, ℕ, suc, ◌+◌, ◌-◌, ◌*◌, ◌≤◌, ◌<◌, T, ℤ, pos, negsuc, nat_abs, get_or}
-use Rattle.std.proofs.Common.{sym, ◌∙◌, Fits, SFits, to_z, of_z}
+use Rattle.std.specs.Prelude.{◌≡◌, Bool, true, false, ◌&&◌, List, [], ◌∷◌, ℕ, suc, ltb, ◌+◌, ◌-◌, ◌*◌, ◌^◌, ◌≤◌, ◌<◌, ℤ, pos, negsuc, get_or}
+use Rattle.std.proofs.Common.{refl, ap, ◌∙◌, add-one, Fits, SFits, to_z, of_z, ltb-true, ltb-false}
+use Rattle.std.proofs.Math.Nat.{pow-suc, pow-le-pow_right}
+use Rattle.std.specs.List.{list_all}
+use Rattle.lists.specs.Lists.{all}
 use native.Mathlib.Omega.{arith}
 use borrow.Author.Tests.{lt-ltb, le-ltb, le-leb, lt-leb}
-use Rattle.std.proofs.Math.Dec.{leb-zero}
-use Rattle.std.specs.Int.Signed.{le_z, non_neg}
-use mir.Syntax.{w32}
-use Rattle.std.proofs.Math.Facts.{to_z_pos, to_z-neg}
-use Rattle.lists.specs.ListsLaw.{clash}
+use mir.Syntax.{Width, w16, w32}
+use mir.Val.{bits, hbits}
+use Rattle.std.proofs.Math.Facts.{to_z_pos, to_z-neg, to_z-of_z, sfits_to_z}
 use Rattle.meaning.specs.declared.Correction.{Correction}
 use Rattle.meaning.specs.Mesh.{place, correction, node, tri}
 use Rattle.text.specs.Digits.{worth, number, signed, unsigned}
@@ -36,83 +37,64 @@ module _ (b : ℕ) where
   unfolding worth
   worth-high h = rw (le-ltb b 48 (omega arith), lt-leb b 57 (omega arith), le-ltb b 97 (omega arith), lt-leb b 102 h)
 
-pub ruleset worths = (worth-low, worth-digit, worth-between, worth-letter, worth-high)
-
 -- ---- numbers
 
-module _ (text : List ℕ) (k x y : ℕ) where
-  pub two_is : x ≡ worth (get_or text k 0) → y ≡ worth (get_or text (k + 1) 0) → 16 * x + y ≡ number 2 text k
-  unfolding number
-  two_is a b = let e : k + 0 ≡ k = omega arith in rw (a, b, e) (omega arith)
+pub number-none : (text : List ℕ) (k : ℕ) → 0 ≡ number 0 text k
+unfolding number
+number-none text k = refl
 
-  pub four_is : x ≡ number 2 text k → y ≡ number 2 text (k + 2) → 256 * x + y ≡ number 4 text k
-  unfolding number
-  four_is a b =
-      let e : k + 0 ≡ k = omega arith in
-      let f : k + 2 + 0 ≡ k + 2 = omega arith in
-      let g : k + 2 + 1 ≡ k + 3 = omega arith in
-      rw (a, b, e, f, g) (omega arith)
+pub number-more : (text : List ℕ) (k w x y : ℕ) → x ≡ number w text k → y ≡ worth (get_or text (k + w) 0) → 16 * x + y ≡ number (w + 1) text k
+unfolding number
+number-more text k w x y a b = rw (add-one, a, b)
 
-  pub eight_is : x ≡ number 4 text k → y ≡ number 4 text (k + 4) → 65536 * x + y ≡ number 8 text k
-  unfolding number
-  eight_is a b =
-      let e : k + 0 ≡ k = omega arith in
-      let f : k + 4 + 0 ≡ k + 4 = omega arith in
-      let g : k + 4 + 1 ≡ k + 5 = omega arith in
-      let h : k + 4 + 2 ≡ k + 6 = omega arith in
-      let i : k + 4 + 3 ≡ k + 7 = omega arith in
-      rw (a, b, e, f, g, h, i) (omega arith)
+-- the bounds of a loop over the digits: x is what w of them are worth, y one more
+module _ (w x y : ℕ) (few : w < 8) (a : x < 16 ^ w) where
+  pub digits-next : y < 16 → 16 * x + y < 16 ^ (w + 1)
+  digits-next b = rw (add-one, pow-suc 16 w) (omega arith)
 
-pub ruleset numbers = (two_is, four_is, eight_is)
+  pub digits-fit : y < 16 → 16 * x + y < 4294967296
+  digits-fit b =
+      let h : w + 1 ≤ 8 = omega arith in
+      let m : 16 ^ (w + 1) ≤ 16 ^ 8 = pow-le-pow_right {n = 16} (omega arith) h in
+      let n = digits-next b in
+      omega arith
+
+pub all-is : (f : ℕ → Bool) (l : List ℕ) → list_all f l ≡ all f l
+all-is f [] = refl
+all-is f (x ∷ l) = ap (λ b. f x && b) (all-is f l)
 
 -- ---- two's complement: 8 digits, 4 digits, and the test of a sign
 
-below-zero : (n : ℕ) → n < 2147483648 → to_z w32 (4294967295 - n) ≡ negsuc n
-below-zero n h = let e : 4294967295 - n ≡ 4294967296 - suc n = omega arith in rw e (to_z-neg w32 n h)
+below-zero : (w : Width) (v k : ℕ) → v ≡ 2 ^ bits w - suc k → k < 2 ^ hbits w → to_z w v ≡ negsuc k
+below-zero w v k e h = rw e (to_z-neg w k h)
 
-module _ (v : ℕ) where
-  pub signed_low : v < 2147483648 → to_z w32 v ≡ signed 8 v
-  unfolding signed
-  signed_low h = rw (lt-ltb v 2147483648 h)
+signed8-by : (v : ℕ) → v < 4294967296 → (b : Bool) → ltb v 2147483648 ≡ b → to_z w32 v ≡ signed 8 v
+unfolding signed
+signed8-by v f true e = rw e
+signed8-by v f false e =
+    let h : 2147483648 ≤ v = ltb-false v 2147483648 e in
+    below-zero w32 v (4294967295 - v) (omega arith) (omega arith) ∙ rw e
 
-  pub signed_high : 2147483648 ≤ v → Fits w32 v → to_z w32 (4294967295 - (4294967295 - v)) ≡ signed 8 v
-  unfolding signed
-  signed_high h f =
-      let g : v < 4294967296 = f.fits in
-      rw (le-ltb v 2147483648 h) (below-zero (4294967295 - v) (omega arith))
+-- four digits, as a number of 16 bits that is widened
+signed4-by : (v : ℕ) → v < 65536 → (b : Bool) → ltb v 32768 ≡ b → to_z w32 (of_z w32 (to_z w16 v)) ≡ signed 4 v
+unfolding signed
+signed4-by v f true e = let h : v < 32768 = ltb-true v 32768 e in rw (to_z_pos w16 h, e) (to_z_pos w32 (omega arith))
+signed4-by v f false e =
+    let h : 32768 ≤ v = ltb-false v 32768 e in
+    let d : to_z w16 v ≡ negsuc (65535 - v) = below-zero w16 v (65535 - v) (omega arith) (omega arith) in
+    let o : to_z w32 (of_z w32 (negsuc (65535 - v))) ≡ negsuc (65535 - v) = to_z-of_z {w = w32} (record { sfits = omega arith }) in
+    rw (d, o, e)
 
-  pub signed4-low : v < 32768 → to_z w32 v ≡ signed 4 v
-  unfolding signed
-  signed4-low h = rw (lt-ltb v 32768 h) (to_z_pos w32 (omega arith))
+pub signed4-is : (q r : ℤ) (v : ℕ) → q ≡ to_z w16 v → r ≡ to_z w16 (of_z w16 q) → v < 65536 → to_z w32 (of_z w32 r) ≡ signed 4 v
+signed4-is q r v e g f = rw (g, e, to_z-of_z (sfits_to_z (record { fits = f }))) (signed4-by v f (ltb v 32768) refl)
 
-  pub signed4-high : 32768 ≤ v → v < 65536 → to_z w32 (4294967295 - (65535 - v)) ≡ signed 4 v
-  unfolding signed
-  signed4-high h f = rw (le-ltb v 32768 h) (below-zero (65535 - v) (omega arith))
+pub signed8-is : (r : ℤ) (v : ℕ) → r ≡ to_z w32 v → Fits w32 v → to_z w32 (of_z w32 r) ≡ signed 8 v
+signed8-is r v e f = rw (e, to_z-of_z (sfits_to_z f)) (signed8-by v f.fits (ltb v 2147483648) refl)
 
--- z is not below 0; it is below 0
-pub unsigned-fits : (z : ℤ) → SFits w32 z → le_z (pos 0) (to_z w32 (of_z w32 z)) ≡ true → T (non_neg (to_z w32 (of_z w32 z))) × Fits w32 (nat_abs (to_z w32 (of_z w32 z)))
-unsigned-fits (pos n) f t = let h : n < 2147483648 = f.sfits in rw (to_z_pos w32 h) (tt, record { fits = omega arith })
-unsigned-fits (negsuc n) f t = clash (sym (rw (to_z-neg w32 n f.sfits) at t))
-
-pub unsigned-low : (z : ℤ) → SFits w32 z → le_z (pos 0) (to_z w32 (of_z w32 z)) ≡ true → nat_abs (to_z w32 (of_z w32 z)) ≡ unsigned z
+pub unsigned-is : (z : ℤ) → SFits w32 z → of_z w32 (to_z w32 (of_z w32 z)) ≡ unsigned z
 unfolding unsigned
-unsigned-low (pos n) f t = let h : n < 2147483648 = f.sfits in rw (to_z_pos w32 h)
-unsigned-low (negsuc n) f t = clash (sym (rw (to_z-neg w32 n f.sfits) at t))
-
-bits-turned : (n : ℕ) → n < 2147483648 → to_z w32 (4294967295 - (4294967296 - suc n)) ≡ pos n
-bits-turned n h =
-    let e : 4294967295 - (4294967296 - suc n) ≡ n = omega arith in
-    rw e (to_z_pos w32 h)
-
-pub unsigned-turned : (z : ℤ) → SFits w32 z → le_z (pos 0) (to_z w32 (of_z w32 z)) ≡ false →
-    T (non_neg (to_z w32 (4294967295 - of_z w32 z))) × Fits w32 (nat_abs (to_z w32 (4294967295 - of_z w32 z)))
-unsigned-turned (pos n) f t = let h : n < 2147483648 = f.sfits in clash (sym (leb-zero n) ∙ (rw (to_z_pos w32 h) at t))
-unsigned-turned (negsuc n) f t = let h : n < 2147483648 = f.sfits in rw (bits-turned n h) (tt, record { fits = omega arith })
-
-pub unsigned-high : (z : ℤ) → SFits w32 z → le_z (pos 0) (to_z w32 (of_z w32 z)) ≡ false → 4294967295 - nat_abs (to_z w32 (4294967295 - of_z w32 z)) ≡ unsigned z
-unfolding unsigned
-unsigned-high (pos n) f t = let h : n < 2147483648 = f.sfits in clash (sym (leb-zero n) ∙ (rw (to_z_pos w32 h) at t))
-unsigned-high (negsuc n) f t = let h : n < 2147483648 = f.sfits in rw (bits-turned n h)
+unsigned-is (pos n) f = rw (to_z-of_z f)
+unsigned-is (negsuc n) f = rw (to_z-of_z f) (let e : 4294967296 - suc n ≡ 4294967295 - n = omega arith in e)
 
 -- ---- the fields of frames 01 and 02
 

@@ -1,43 +1,26 @@
 -- Numbers written as digits, in the form in which the code writes them. Assumes nothing.
-use Rattle.std.specs.Prelude.{◌≡◌, [], ◌∷◌, ◌++◌, ℕ, ◌+◌, ◌/◌, ◌%◌, ◌≤◌, ◌<◌}
-use Rattle.std.proofs.Common.{arith, lt-ltb, le-ltb}
+use Rattle.std.specs.Prelude.{◌≡◌, List, [], ◌∷◌, ℕ, zero, suc, ◌+◌, ◌-◌, ◌*◌, ◌/◌, ◌%◌, ◌^◌, ◌≤◌, ◌<◌}
+use Rattle.std.proofs.Common.{arith, refl, subst, pow-add}
+use Rattle.std.proofs.Math.Nat.{pow-suc}
 use Rattle.text.specs.Digits.{hex_digit, hex}
-use Rattle.text.specs.Writing.{Wrote, writes, then}
+use Rattle.text.specs.Writing.{Wrote, wrote, writes}
 
-pub digit_low : (d : ℕ) → d < 10 → 48 + d ≡ hex_digit d
-unfolding hex_digit
-digit_low d h = rw (lt-ltb d 10 h)
+by-fours : (w : ℕ) → 2 ^ (4 * w) ≡ 16 ^ w
+by-fours zero = refl
+by-fours (suc w) = let e : 4 * suc w ≡ 4 * w + 4 = omega arith in rw (e, pow-add 2 (4 * w) 4, by-fours w, pow-suc 16 w)
 
-pub digit-high : (d : ℕ) → 10 ≤ d → 87 + d ≡ hex_digit d
-unfolding hex_digit
-digit-high d h = rw (le-ltb d 10 h)
+-- a loop over the digits: w are left, z is what the whole loop leaves
+hex-next : (v w d k : ℕ) (out : List ℕ) (y z : Wrote) → d ≡ hex_digit (v / 2 ^ (4 * w) % 16) → y ≡ writes (wrote k out) (d ∷ []) →
+    writes (wrote k out) (hex (suc w) v) ≡ z → writes y (hex w v) ≡ z
+unfolding hex writes
+hex-next v w d k out y z p q inv = rw q (rw (← by-fours w, ← p) at inv)
 
-hex-two : (v : ℕ) → hex 2 v ≡ hex_digit (v / 16 % 16) ∷ hex_digit (v % 16) ∷ []
-unfolding hex
-hex-two v = let e : v / 1 ≡ v = omega arith in rw e
+pub hex-turn : (v w d k : ℕ) (out : List ℕ) (y z : Wrote) → zero < w → d ≡ hex_digit (v / 2 ^ (4 * (w - 1)) % 16) → y ≡ writes (wrote k out) (d ∷ []) →
+    writes (wrote k out) (hex w v) ≡ z → writes y (hex (w - 1) v) ≡ z
+hex-turn v w d k out y z h p q inv =
+    let e : w ≡ suc (w - 1) = omega arith in
+    hex-next v (w - 1) d k out y z p q (subst (λ (u : ℕ). writes (wrote k out) (hex u v) ≡ z) e inv)
 
-hex-four : (v : ℕ) → hex 4 v ≡ hex 2 (v / 256) ++ hex 2 v
-unfolding hex
-hex-four v =
-    let e : v / 256 / 16 ≡ v / 4096 = omega arith in
-    let f : v / 256 / 1 ≡ v / 256 = omega arith in
-    rw (e, f)
-
-hex-eight : (v : ℕ) → hex 8 v ≡ hex 4 (v / 65536) ++ hex 4 v
-unfolding hex
-hex-eight v =
-    let e : v / 65536 / 4096 ≡ v / 268435456 = omega arith in
-    let f : v / 65536 / 256 ≡ v / 16777216 = omega arith in
-    let g : v / 65536 / 16 ≡ v / 1048576 = omega arith in
-    let h : v / 65536 / 1 ≡ v / 65536 = omega arith in
-    rw (e, f, g, h)
-
-module _ (w x y : Wrote) (v : ℕ) where
-  pub hex2-put : (d e : ℕ) → d ≡ hex_digit (v / 16 % 16) → e ≡ hex_digit (v % 16) → x ≡ writes w (d ∷ []) → y ≡ writes x (e ∷ []) → y ≡ writes w (hex 2 v)
-  hex2-put d e p q a b = rw (hex-two v, ← p, ← q) (then w x y (d ∷ []) (e ∷ []) a b)
-
-  pub hex4-put : x ≡ writes w (hex 2 (v / 256)) → y ≡ writes x (hex 2 v) → y ≡ writes w (hex 4 v)
-  hex4-put a b = rw (hex-four v) (then w x y (hex 2 (v / 256)) (hex 2 v) a b)
-
-  pub hex8-put : x ≡ writes w (hex 4 (v / 65536)) → y ≡ writes x (hex 4 v) → y ≡ writes w (hex 8 v)
-  hex8-put a b = rw (hex-eight v) (then w x y (hex 4 (v / 65536)) (hex 4 v) a b)
+pub hex-end : (v w k : ℕ) (out : List ℕ) (z : Wrote) → w ≤ 0 → writes (wrote k out) (hex w v) ≡ z → wrote k out ≡ z
+unfolding hex writes
+hex-end v w k out z h inv = let e : w ≡ 0 = omega arith in rw e at inv

@@ -6,3 +6,5 @@ pub mod DigitsLaw
 pub mod Writing
 pub mod HexLaw
 pub mod LinesLaw
+pub mod Out
+pub mod Steps

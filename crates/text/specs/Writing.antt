@@ -1,10 +1,11 @@
 -- Bytes put into a buffer, one after the other. Assumes nothing.
-use Rattle.std.specs.Prelude.{◌≡◌, refl, List, [], ◌∷◌, ◌++◌, length, get_or, set, drop}
-use Rattle.std.proofs.Common.{sym, ◌∙◌, length-set, drop_of_length-le, drop-cons}
+use Rattle.std.specs.Prelude.{◌≡◌, refl, List, [], ◌∷◌, ◌++◌, length, set, drop}
+use Rattle.std.proofs.Common.{sym, ◌∙◌, length-set, drop-drop, append_assoc}
 use Prim.Native.Nat.{ℕ, suc, ◌+◌, ◌-◌, ◌≤◌, ◌<◌}
 use native.Mathlib.Omega.{arith}
 use Rattle.std.proofs.Math.Numerals.{add-one}
 use Rattle.std.proofs.lemmas.List.Edits.{sets, sets-eq}
+use borrow.Rule.Slice.PartMut.{put_mid}
 use Rattle.lists.specs.Lists.{joined}
 use Rattle.lists.specs.Search.{items, items_from}
 
@@ -63,15 +64,12 @@ pub put_one : (k b : ℕ) (out : List ℕ) → wrote (k + 1) (set out k b) ≡ w
 unfolding writes
 put_one k b out = refl
 
--- a loop over the bytes of a text: w is what the whole loop leaves
-module _ (text : List ℕ) (k i : ℕ) (out : List ℕ) (w : Wrote) (inv : writes (wrote k out) (drop i text) ≡ w) where
-  pub text-turn : (y : Wrote) → i < length text → y ≡ writes (wrote k out) (get_or text i 0 ∷ []) → writes y (drop (i + 1) text) ≡ w
-  unfolding writes
-  text-turn y h e = rw (e, add-one i) (rw (drop-cons text i 0 h) at inv)
-
-  pub text-end : length text ≤ i → wrote k out ≡ w
-  unfolding writes
-  text-end h = rw (drop_of_length-le text h) at inv
+-- a text copied into its place: ys stands there then
+pub text-copied : (k : ℕ) (out text ys : List ℕ) → ys ≡ text → k + length text ≤ length out →
+    wrote (k + length text) (put_mid k (k + length text - k) out ys) ≡ writes (wrote k out) text
+text-copied k out text ys e h =
+    let n : k + length text - k ≡ length text = omega arith in
+    rw (n, e, writes-sets k out text, sets-eq text out k h, ← drop-drop, append_assoc)
 
 -- a loop over numbered items, each with its text
 module _ {A : Type 0} (f : A → List ℕ) (g : ℕ → A) (k i n : ℕ) (out : List ℕ) (w : Wrote) (inv : writes (wrote k out) (joined f (items g i n)) ≡ w) where

@@ -1,2 +1,3 @@
 pub mod Weighing
 pub mod MeanLaw
+pub mod Steps

@@ -16,45 +16,43 @@ pub struct Weights {
     pub r: i64,
 }
 
-fn sum_of(v: Weights) -> i64
-    requires { Balanced v }
-    ensures { result ≡ sum_of v }
-{
-    v.p + v.q + v.r
+impl Weights {
+    fn sum(self) -> i64
+        requires { Balanced self }
+        ensures { result ≡ sum_of self }
+    {
+        self.p + self.q + self.r
+    }
+
+    // The values a, b and c at the corners p, q and r.
+    fn weighed(self, a: i32, b: i32, c: i32) -> i64
+        requires { Weighable self a b c }
+        ensures { result ≡ weighed self a b c }
+    {
+        times(self.p, a) + times(self.q, b) + times(self.r, c)
+    }
+
+    fn mean_of(self, a: i32, b: i32, c: i32) -> i32
+        requires { Weighable self a b c }
+        ensures { result ≡ mean_of self a b c }
+    {
+        floor(self.weighed(a, b, c), self.sum()) as i32
+    }
 }
 
 fn times(v: i64, x: i32) -> i64
     requires { (nat_abs v ≤ 8_796_093_022_208) × Part x }
     ensures { result ≡ v *ℤ x }
 {
-    v * (x as i64)
+    v * i64::from(x)
 }
 
-// The values a, b and c at the corners p, q and r.
-fn weighed(v: Weights, a: i32, b: i32, c: i32) -> i64
-    requires { Weighable v a b c }
-    ensures { result ≡ weighed v a b c }
-{
-    times(v.p, a) + times(v.q, b) + times(v.r, c)
-}
-
-// s / d, rounded down: a quotient is rounded toward 0.
+// s / d, rounded down.
 fn floor(s: i64, d: i64) -> i64
     requires { (pos 0 <ℤ d) × (nat_abs s ≤ 864_691_128_455_135_232) }
     ensures { result ≡ floor s d }
 {
-    let q = s / d;
-    if s % d < 0 {
-        return q - 1;
-    }
-    q
-}
-
-fn mean_of(v: Weights, a: i32, b: i32, c: i32) -> i32
-    requires { Weighable v a b c }
-    ensures { result ≡ mean_of v a b c }
-{
-    floor(weighed(v, a, b, c), sum_of(v)) as i32
+    s.div_euclid(d)
 }
 
 // Each part by itself.
@@ -62,7 +60,8 @@ pub fn mean(v: Weights, a: Correction, b: Correction, c: Correction) -> Correcti
     requires { Balanced v × InBounds a × InBounds b × InBounds c }
     ensures { result ≡ means v a b c }
 {
-    let dx = mean_of(v, a.dx, b.dx, c.dx);
-    let dy = mean_of(v, a.dy, b.dy, c.dy);
-    Correction { dx, dy }
+    Correction {
+        dx: v.mean_of(a.dx, b.dx, c.dx),
+        dy: v.mean_of(a.dy, b.dy, c.dy),
+    }
 }

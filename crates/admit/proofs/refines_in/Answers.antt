@@ -1,15 +1,7 @@
-use Rattle.admit.specs.AdmitLaw.{refines-newest, refines-all-three, refines-red, refines-never}
-use borrow.Author.Rules.{rules}
+use Rattle.std.proofs.Common.{sym}
+use Rattle.protocol.specs.declared.Kind.TheVariants.{Refine, Quarter, Red}
+use Rattle.admit.specs.Steps.{refines-never}
 use Rattle.admit.proofs.refines_in.Goals as goal
 
-pub returns-then-kind-eq4 : goal.returns-then-kind-eq4
-returns-then-kind-eq4 c = search (rules, refines-newest)
-
-pub returns-then-kind-eq9 : goal.returns-then-kind-eq9
-returns-then-kind-eq9 c = search (rules, refines-all-three)
-
-pub returns-then-kind-eq10 : goal.returns-then-kind-eq10
-returns-then-kind-eq10 c = search (rules, refines-red)
-
-pub returns : goal.returns
-returns c = search (rules, refines-never)
+pub returns-in-None : goal.returns-in-None
+returns-in-None c = let no = c.in-None.ensures in refines-never _ (λ e. no Refine (sym e)) (λ e. no Quarter (sym e)) (λ e. no Red (sym e))

@@ -1,21 +1,13 @@
-use mir.Facts.{to_z-of_z}
-use Rattle.asking.specs.AskingLaw.{right-of-qr, right-of-rp, right-of-pq, right-of-none}
-use borrow.Author.Rules.{sfits_of}
+use Rattle.std.proofs.Common.{arith}
+use Rattle.std.proofs.lemmas.Grind.{common_steps}
+use Rattle.asking.specs.Asking.{weights_in, holds_in}
 use Rattle.asking.proofs.holds_point.Goals as goal
+use Rattle.asking.proofs.holds_point.Goals.{then-not_right, else-not_right}
 
-pub returns-then-side-lt0 : goal.returns-then-side-lt0
-returns-then-side-lt0 c = right-of-qr _ _ _ (rw (to_z-of_z (sfits_of c.side.type_inv), c.side.ensures) at c.if-side-lt0.true)
+pub returns-then-not_right-2 : goal.returns-then-not_right-2
+unfolding holds_in weights_in
+returns-then-not_right-2 c = elim c.if-not_right.branch [ then-not_right w ↦ grind (arith, common_steps) | else-not_right w ↦ grind (arith, common_steps) ]
 
-pub returns-then-side-lt0-2 : goal.returns-then-side-lt0-2
-returns-then-side-lt0-2 c = right-of-rp _ _ _ (rw (to_z-of_z (sfits_of c.side.type_inv), c.side.ensures) at c.if-side-lt0.false)
-    (rw (to_z-of_z (sfits_of c.side-2.type_inv), c.side-2.ensures) at c.if-side-lt0-2.true)
-
-pub returns-then-side-lt0-3 : goal.returns-then-side-lt0-3
-returns-then-side-lt0-3 c = right-of-pq _ _ _ (rw (to_z-of_z (sfits_of c.side.type_inv), c.side.ensures) at c.if-side-lt0.false)
-    (rw (to_z-of_z (sfits_of c.side-2.type_inv), c.side-2.ensures) at c.if-side-lt0-2.false)
-    (rw (to_z-of_z (sfits_of c.side-3.type_inv), c.side-3.ensures) at c.if-side-lt0-3.true)
-
-pub returns : goal.returns
-returns c = right-of-none _ _ _ (rw (to_z-of_z (sfits_of c.side.type_inv), c.side.ensures) at c.if-side-lt0.false)
-    (rw (to_z-of_z (sfits_of c.side-2.type_inv), c.side-2.ensures) at c.if-side-lt0-2.false)
-    (rw (to_z-of_z (sfits_of c.side-3.type_inv), c.side-3.ensures) at c.if-side-lt0-3.false)
+pub returns-else-not_right-2 : goal.returns-else-not_right-2
+unfolding holds_in weights_in
+returns-else-not_right-2 c = elim c.if-not_right.branch [ then-not_right w ↦ grind (arith, common_steps) | else-not_right w ↦ grind (arith, common_steps) ]

@@ -1,15 +1,11 @@
-use Rattle.lists.specs.SearchLaw.{searching}
-use borrow.Author.Rules.{rules}
+use Rattle.std.proofs.Common.{rules, refl}
+use Rattle.std.proofs.iter.Serving.{serving}
+use Rattle.lists.specs.RangeLaw.{lowest-found}
+use Rattle.asking.specs.Asking.{holds_at}
 use Rattle.asking.proofs.row_holding.Goals as goal
 
-pub holds_at-requires-clause-standing : goal.holds_at-requires-clause-standing
-holds_at-requires-clause-standing c = c.requires.by_index _ c.loop-i-test.true
-
-pub returns-then-holds_at : goal.returns-then-holds_at
-returns-then-holds_at c = search (rules, searching)
-
-pub loop-i-preserved : goal.loop-i-preserved
-loop-i-preserved c = search (rules, searching)
-
 pub returns : goal.returns
-returns c = search (rules, searching)
+returns c = lowest-found (holds_at c.args.mesh.nodes.now c.args.mesh.rows.now c.args.point) c.args.mesh.t _ _ _ _ c.find.ensures.ran refl refl (λ x b q h. search rules)
+
+pub find-requires-clause-callable : goal.find-requires-clause-callable
+find-requires-clause-callable c = grind (serving, c.requires)

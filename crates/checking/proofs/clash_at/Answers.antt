@@ -5,8 +5,8 @@ use Rattle.checking.proofs.clash_at.Goals as goal
 pub row_at-requires : goal.row_at-requires
 row_at-requires c = search (rules, met-row)
 
-pub returns-in-At : goal.returns-in-At
-returns-in-At c = search (rules, clash-found)
+pub returns-in-Some : goal.returns-in-Some
+returns-in-Some c = search (rules, clash-found)
 
-pub returns : goal.returns
-returns c = search (rules, clash-none)
+pub returns-in-None : goal.returns-in-None
+returns-in-None c = search (rules, clash-none)

@@ -1,12 +1,7 @@
-use Rattle.lists.specs.SearchLaw.{searching}
-use borrow.Author.Rules.{rules}
+use Rattle.std.proofs.Common.{rules, refl}
+use Rattle.lists.specs.RangeLaw.{lowest-found}
+use Rattle.checking.specs.Clash.{clash_at}
 use Rattle.checking.proofs.first_clash.Goals as goal
 
-pub returns-then-clash_at : goal.returns-then-clash_at
-returns-then-clash_at c = search (rules, searching)
-
-pub loop-i-preserved : goal.loop-i-preserved
-loop-i-preserved c = search (rules, searching)
-
 pub returns : goal.returns
-returns c = search (rules, searching)
+returns c = lowest-found (clash_at c.args.search.rows.now c.args.search.t) c.args.search.t _ _ _ _ c.find.ensures.ran refl refl (λ x b q h. search rules)

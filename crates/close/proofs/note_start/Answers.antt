@@ -1,9 +1,11 @@
-use Rattle.close.specs.DrawLaw.{start-yes, marked-no}
-use borrow.Author.Rules.{rules}
+use Rattle.std.proofs.Common.{rules}
+use Rattle.close.specs.Drawn.{when_marked}
 use Rattle.close.proofs.note_start.Goals as goal
 
 pub returns-then-marks-i-eq1 : goal.returns-then-marks-i-eq1
-returns-then-marks-i-eq1 c = search (rules, start-yes)
+unfolding when_marked
+returns-then-marks-i-eq1 c = search rules
 
 pub returns-else-marks-i-eq1 : goal.returns-else-marks-i-eq1
-returns-else-marks-i-eq1 c = search (rules, marked-no)
+unfolding when_marked
+returns-else-marks-i-eq1 c = search rules

@@ -1,9 +1,11 @@
-use Rattle.close.specs.DrawLaw.{note-newest, note-all}
-use borrow.Author.Rules.{rules}
+use Rattle.std.proofs.Common.{rules}
+use Rattle.close.specs.Drawn.{start_note}
 use Rattle.close.proofs.start_note.Goals as goal
 
 pub returns-in-Newest : goal.returns-in-Newest
-returns-in-Newest c = search (rules, note-newest)
+unfolding start_note
+returns-in-Newest c = search rules
 
 pub returns-in-AllThree : goal.returns-in-AllThree
-returns-in-AllThree c = search (rules, note-all)
+unfolding start_note
+returns-in-AllThree c = search rules

@@ -1,3 +1,4 @@
+use Rattle.neighbours.specs.Ready.{searched}
 use Rattle.cut.specs.CutLaw.{children-some, children-few, children-end, children-room, children-begin, children-put}
 use borrow.Author.Rules.{rules}
 use Rattle.cut.proofs.cut_row.Goals as goal
@@ -16,3 +17,6 @@ returns-clause-begin c = search (rules, children-begin)
 
 pub returns-clause-table : goal.returns-clause-table
 returns-clause-table c = search (rules, children-put)
+
+pub invariant_of-search : goal.invariant_of-search
+invariant_of-search c = searched _ _ _ _ c.requires.ready

@@ -1,12 +1,7 @@
-use Rattle.lists.specs.SearchLaw.{searching}
-use borrow.Author.Rules.{rules}
+use Rattle.std.proofs.Common.{rules, refl}
+use Rattle.lists.specs.RangeLaw.{lowest-found}
+use Rattle.cut.specs.Cutting.{wholly_at}
 use Rattle.cut.proofs.find_wholly.Goals as goal
 
-pub returns-then-wholly_at : goal.returns-then-wholly_at
-returns-then-wholly_at c = search (rules, searching)
-
-pub loop-i-preserved : goal.loop-i-preserved
-loop-i-preserved c = search (rules, searching)
-
 pub returns : goal.returns
-returns c = search (rules, searching)
+returns c = lowest-found (wholly_at c.args.scratch.now) c.args.t _ _ _ _ c.find.ensures.ran refl refl (λ x b q h. search rules)

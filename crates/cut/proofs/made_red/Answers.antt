@@ -1,12 +1,11 @@
-use Rattle.cut.specs.CutLaw.{red-never, red-some, red-none}
-use borrow.Author.Rules.{rules}
+use Rattle.std.proofs.Common.{rules}
+use Rattle.cut.specs.Cutting.{red_at}
 use Rattle.cut.proofs.made_red.Goals as goal
 
 pub returns-in-Bisected : goal.returns-in-Bisected
-returns-in-Bisected c = search (rules, red-never)
+unfolding red_at
+returns-in-Bisected c = search rules
 
-pub returns-in-At : goal.returns-in-At
-returns-in-At c = search (rules, red-some)
-
-pub returns-in-Nothing : goal.returns-in-Nothing
-returns-in-Nothing c = search (rules, red-none)
+pub returns-in-Red : goal.returns-in-Red
+unfolding red_at
+returns-in-Red c = search rules

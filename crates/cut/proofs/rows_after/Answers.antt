@@ -1,4 +1,4 @@
-use Rattle.cut.specs.CutLaw.{count-start, count_fits, count_turn, count-end}
+use Rattle.cut.specs.CutLaw.{count-start, count_fits, count_turn}
 use borrow.Author.Rules.{rules}
 use Rattle.cut.proofs.rows_after.Goals as goal
 
@@ -10,6 +10,3 @@ overflow_add-r c = search (rules, count_fits)
 
 pub loop-i-preserved : goal.loop-i-preserved
 loop-i-preserved c = search (rules, count_turn)
-
-pub returns : goal.returns
-returns c = search (rules, count-end)

@@ -1,6 +1,7 @@
-use Rattle.cut.specs.CutLaw.{wholly-is}
-use borrow.Author.Rules.{rules}
+use Rattle.std.proofs.Common.{rules}
+use Rattle.cut.specs.Cutting.{wholly_at}
 use Rattle.cut.proofs.wholly_at.Goals as goal
 
 pub returns : goal.returns
-returns c = search (rules, wholly-is)
+unfolding wholly_at
+returns c = search rules

@@ -1,10 +1,10 @@
-use Rattle.gather.specs.Closing.{items-count, table-closed}
-use Rattle.meaning.specs.Tables.{node_form}
-use borrow.Author.Rules.{rules}
+use Rattle.meaning.specs.Tables.{node_at}
 use Rattle.gather.proofs.close_nodes.Goals as goal
 
 pub returns-clause-count : goal.returns-clause-count
-returns-clause-count c = search (rules, items-count)
+unfolding node_at
+returns-clause-count c = c.close.ensures.count
 
 pub returns-clause-nodes : goal.returns-clause-nodes
-returns-clause-nodes c = search (rules, table-closed node_form)
+unfolding node_at
+returns-clause-nodes c = c.close.ensures.table

@@ -1,10 +1,11 @@
-use Rattle.gather.specs.Closing.{items-count, table-closed}
-use Rattle.meaning.specs.Tables.{row_form}
-use borrow.Author.Rules.{rules}
+use Rattle.gather.specs.Goes.{new_row}
+use Rattle.meaning.specs.Tables.{row_at}
 use Rattle.gather.proofs.close_rows.Goals as goal
 
 pub returns-clause-count : goal.returns-clause-count
-returns-clause-count c = search (rules, items-count)
+unfolding new_row row_at
+returns-clause-count c = c.close.ensures.count
 
 pub returns-clause-rows : goal.returns-clause-rows
-returns-clause-rows c = search (rules, table-closed row_form)
+unfolding new_row row_at
+returns-clause-rows c = c.close.ensures.table

@@ -1,12 +1,9 @@
 use Rattle.gather.specs.Goes.{gone_node, number_below}
 use Rattle.lists.specs.Loops.{noted}
 use lib.ListN.{length}
-use Prim.Native.Nat.{◌≤◌, ◌-◌}
+use Prim.Native.Nat.{◌≤◌}
 use mathlib.Core.Path.{◌≡◌}
 use Rattle.gather.proofs.numbers.Given as goal
 
 abbrev pub invariant-loop-z : goal.invariant-loop-z
-invariant-loop-z l = (l.z ≤ l.n) × (length l.scratch ≡ length l.initial.scratch) × (l.k ≤ l.z) × (l.scratch ≡ noted 0 (number_below (gone_node l.initial.scratch l.nc)) l.z l.initial.scratch) × (l.k ≡ number_below (gone_node l.initial.scratch l.nc) l.z)
-
-abbrev pub decreases-loop-z : goal.decreases-loop-z
-decreases-loop-z l = l.n - l.z
+invariant-loop-z l = (length l.scratch ≡ length l.initial.scratch) × (l.k ≤ l.z) × (l.scratch ≡ noted 0 (number_below (gone_node l.initial.scratch l.nc)) l.z l.initial.scratch) × (l.k ≡ number_below (gone_node l.initial.scratch l.nc) l.z)

@@ -1,12 +1,7 @@
-use Rattle.lists.specs.SearchLaw.{searching}
-use borrow.Author.Rules.{rules}
+use Rattle.std.proofs.Common.{rules, refl}
+use Rattle.lists.specs.RangeLaw.{lowest-found}
+use Rattle.lawful.specs.Tests.{blank_at}
 use Rattle.lawful.proofs.first_blank.Goals as goal
 
-pub returns-then-blank_at : goal.returns-then-blank_at
-returns-then-blank_at c = search (rules, searching)
-
-pub loop-z-preserved : goal.loop-z-preserved
-loop-z-preserved c = search (rules, searching)
-
 pub returns : goal.returns
-returns c = search (rules, searching)
+returns c = lowest-found (blank_at c.args.scratch.now) c.args.n _ _ _ _ c.find.ensures.ran refl refl (λ x b q h. search rules)

@@ -1,12 +1,7 @@
-use Rattle.lists.specs.SearchLaw.{searching}
-use borrow.Author.Rules.{rules}
+use Rattle.std.proofs.Common.{rules, refl}
+use Rattle.lists.specs.RangeLaw.{lowest-found}
+use Rattle.lawful.specs.Tests.{misnamed_at}
 use Rattle.lawful.proofs.first_misnamed.Goals as goal
 
-pub returns-then-misnamed_at : goal.returns-then-misnamed_at
-returns-then-misnamed_at c = search (rules, searching)
-
-pub loop-i-preserved : goal.loop-i-preserved
-loop-i-preserved c = search (rules, searching)
-
 pub returns : goal.returns
-returns c = search (rules, searching)
+returns c = lowest-found (misnamed_at c.args.mesh.rows.now c.args.mesh.n) c.args.mesh.t _ _ _ _ c.find.ensures.ran refl refl (λ x b q h. search rules)

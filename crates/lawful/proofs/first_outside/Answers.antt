@@ -1,12 +1,7 @@
-use Rattle.lists.specs.SearchLaw.{searching}
-use borrow.Author.Rules.{rules}
+use Rattle.std.proofs.Common.{rules, refl}
+use Rattle.lists.specs.RangeLaw.{lowest-found}
+use Rattle.lawful.specs.Tests.{outside_at}
 use Rattle.lawful.proofs.first_outside.Goals as goal
 
-pub returns-then-outside_at : goal.returns-then-outside_at
-returns-then-outside_at c = search (rules, searching)
-
-pub loop-k-preserved : goal.loop-k-preserved
-loop-k-preserved c = search (rules, searching)
-
 pub returns : goal.returns
-returns c = search (rules, searching)
+returns c = lowest-found (outside_at c.args.mesh.nodes.now) c.args.mesh.n _ _ _ _ c.find.ensures.ran refl refl (λ x b q h. search rules)

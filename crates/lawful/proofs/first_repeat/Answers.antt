@@ -1,14 +1,14 @@
 use Rattle.lawful.specs.TestsLaw.{notes-kept}
 use Rattle.lists.specs.SearchLaw.{searching, lowest-on, at_some}
-use Rattle.neighbours.specs.Ready.{ready-end}
+use Rattle.neighbours.specs.Ready.{ready-end, searched}
 use Rattle.lawful.specs.Tests.{repeat_at}
 use Rattle.lawful.specs.TestsLaw.{corners-at}
-use borrow.Author.Rules.{rules}
+use Rattle.std.proofs.Common.{rules, arith}
 use Rattle.lawful.proofs.first_repeat.Goals as goal
 
 pub loop-i-preserved : goal.loop-i-preserved
-loop-i-preserved c = let on = lowest-on (repeat_at _) _ _ _ _ c.loop-i-test.true c.repeat_at.ensures c.if-repeat_at.false c.loop-i.invariant.4 in
-    (search rules, search rules, search notes-kept, search rules, on)
+loop-i-preserved c = let on = lowest-on (repeat_at _) _ _ _ _ (omega arith) c.repeat_at.ensures c.if-repeat_at.false c.loop-i.invariant.3 in
+    (search rules, search notes-kept, search rules, on)
 
 pub returns-then-repeat_at-clause-answer : goal.returns-then-repeat_at-clause-answer
 returns-then-repeat_at-clause-answer c = search (rules, searching)
@@ -24,3 +24,6 @@ returns-clause-answer c = search (rules, searching)
 
 pub returns-clause-ready : goal.returns-clause-ready
 returns-clause-ready c = search (rules, ready-end)
+
+pub invariant_of-below : goal.invariant_of-below
+invariant_of-below c = searched _ _ _ _ c.loop-i.invariant.2

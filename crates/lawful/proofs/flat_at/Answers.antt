@@ -1,4 +1,5 @@
-use Rattle.lawful.specs.TestsLaw.{corners}
+use Rattle.std.proofs.Common.{arith}
+use Rattle.lawful.specs.TestsLaw.{corners, named-row}
 use Rattle.lawful.specs.Tests.{flat_at}
 use borrow.Author.Rules.{rules}
 use Rattle.lawful.proofs.flat_at.Goals as goal
@@ -7,14 +8,14 @@ pub returns : goal.returns
 unfolding flat_at
 returns c = cc
 
-pub corner-requires : goal.corner-requires
-corner-requires c = search (rules, corners)
+pub place-requires : goal.place-requires
+place-requires c = omega (arith, named-row _ _ _ _ c.row-w.ensures c.requires.i_value)
 
-pub corner-requires-2 : goal.corner-requires-2
-corner-requires-2 c = search (rules, corners)
+pub place-requires-2 : goal.place-requires-2
+place-requires-2 c = omega (arith, named-row _ _ _ _ c.row-w.ensures c.requires.i_value)
 
-pub corner-requires-3 : goal.corner-requires-3
-corner-requires-3 c = search (rules, corners)
+pub place-requires-3 : goal.place-requires-3
+place-requires-3 c = omega (arith, named-row _ _ _ _ c.row-w.ensures c.requires.i_value)
 
 pub flat-requires : goal.flat-requires
 flat-requires c = search (rules, corners)

@@ -7,4 +7,4 @@ pub work-a-requires : goal.work-a-requires
 work-a-requires c = search (rules, zeroed)
 
 pub returns : goal.returns
-returns c = set-called _ _ _ _ _ _ _ _ _ _ _ _ _ _ c.clear.ensures c.work-a.ensures c.clear-2.ensures c.scratch-2-1.given
+returns c = set-called _ _ _ _ _ _ _ _ _ _ _ _ _ _ c.clear.ensures c.work-a.ensures c.clear-2.ensures c.work-a.auto.scratch

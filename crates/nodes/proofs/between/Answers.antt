@@ -1,6 +1,7 @@
-use Rattle.nodes.specs.NodesLaw.{between-made}
-use borrow.Author.Rules.{rules}
+use Rattle.std.proofs.Common.{rules}
+use Rattle.nodes.specs.Nodes.{between}
 use Rattle.nodes.proofs.between.Goals as goal
 
 pub returns : goal.returns
-returns c = search (rules, between-made)
+unfolding between
+returns c = search rules

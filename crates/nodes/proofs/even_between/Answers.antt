@@ -1,6 +1,11 @@
-use Rattle.nodes.specs.NodesLaw.{even_is}
-use borrow.Author.Rules.{rules}
+use Rattle.std.proofs.Common.{rules}
+use Rattle.nodes.specs.Nodes.{even_between}
 use Rattle.nodes.proofs.even_between.Goals as goal
 
-pub returns : goal.returns
-returns c = search (rules, even_is)
+pub returns-then-even_sum : goal.returns-then-even_sum
+unfolding even_between
+returns-then-even_sum c = search rules
+
+pub returns-else-even_sum : goal.returns-else-even_sum
+unfolding even_between
+returns-else-even_sum c = search rules

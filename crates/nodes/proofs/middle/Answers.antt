@@ -1,6 +1,7 @@
-use Rattle.nodes.specs.NodesLaw.{middle-made}
-use borrow.Author.Rules.{rules}
+use Rattle.std.proofs.Common.{rules}
+use Rattle.nodes.specs.Nodes.{middle_of}
 use Rattle.nodes.proofs.middle.Goals as goal
 
 pub returns : goal.returns
-returns c = search (rules, middle-made)
+unfolding middle_of
+returns c = search rules

@@ -1,16 +1,12 @@
-use Rattle.laws.specs.Meshes.{standing-of}
-use Rattle.nodes.specs.NodesLaw.{odd-row-is}
-use borrow.Author.Rules.{rules}
+use Rattle.std.proofs.Common.{rules}
+use Rattle.nodes.specs.Nodes.{odd_at, odd_row}
+use Rattle.nodes.proofs.odd_at.Goals.{then-odd_split, else-odd_split}
 use Rattle.nodes.proofs.odd_at.Goals as goal
 
-pub odd_split-requires : goal.odd_split-requires
-odd_split-requires c = let w = standing-of _ _ _ _ c.row_at-w.ensures c.requires.standing in (w.at-q, w.at-r)
+pub returns-then-odd_split-2 : goal.returns-then-odd_split-2
+unfolding odd_at odd_row
+returns-then-odd_split-2 c = elim c.if-odd_split.branch [ then-odd_split w ↦ search rules | else-odd_split w ↦ search rules ]
 
-pub odd_split-requires-2 : goal.odd_split-requires-2
-odd_split-requires-2 c = let w = standing-of _ _ _ _ c.row_at-w.ensures c.requires.standing in (w.at_p, w.at-q)
-
-pub odd_split-requires-3 : goal.odd_split-requires-3
-odd_split-requires-3 c = let w = standing-of _ _ _ _ c.row_at-w.ensures c.requires.standing in (w.at-r, w.at_p)
-
-pub returns : goal.returns
-returns c = search (rules, odd-row-is)
+pub returns-else-odd_split-2 : goal.returns-else-odd_split-2
+unfolding odd_at odd_row
+returns-else-odd_split-2 c = elim c.if-odd_split.branch [ then-odd_split w ↦ search rules | else-odd_split w ↦ search rules ]

@@ -1,10 +1,11 @@
-use Rattle.laws.specs.Meshes.{range-of}
-use Rattle.nodes.specs.NodesLaw.{odd_is}
-use borrow.Author.Rules.{rules}
+use Rattle.std.proofs.Common.{rules}
+use Rattle.nodes.specs.Nodes.{odd_split}
 use Rattle.nodes.proofs.odd_split.Goals as goal
 
-pub even_between-requires : goal.even_between-requires
-even_between-requires c = (search (rules, range-of), search (rules, range-of))
+pub returns-then-on-ne0 : goal.returns-then-on-ne0
+unfolding odd_split
+returns-then-on-ne0 c = search rules
 
-pub returns : goal.returns
-returns c = search (rules, odd_is)
+pub returns-else-on-ne0 : goal.returns-else-on-ne0
+unfolding odd_split
+returns-else-on-ne0 c = search rules

@@ -2,14 +2,14 @@ use Rattle.notes.specs.NotesLaw.{row-found, note-found, across-at, across-none}
 use borrow.Author.Rules.{rules}
 use Rattle.notes.proofs.across.Goals as goal
 
-pub row_at-requires : goal.row_at-requires
-row_at-requires c = search (rules, row-found)
+pub row_at-w-requires : goal.row_at-w-requires
+row_at-w-requires c = search (rules, row-found)
 
-pub note_at-requires : goal.note_at-requires
-note_at-requires c = search (rules, note-found)
+pub note_at-c-requires : goal.note_at-c-requires
+note_at-c-requires c = search (rules, note-found)
 
-pub returns-in-At : goal.returns-in-At
-returns-in-At c = search (rules, across-at)
+pub returns : goal.returns
+returns c = search (rules, across-at)
 
-pub returns-in-Nothing : goal.returns-in-Nothing
-returns-in-Nothing c = search (rules, across-none)
+pub returns-in_default : goal.returns-in_default
+returns-in_default c = search (rules, across-none)

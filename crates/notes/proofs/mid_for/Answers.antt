@@ -8,5 +8,5 @@ returns-then-on-eq0 c = search (rules, middle)
 pub returns-then-first-eq1 : goal.returns-then-first-eq1
 returns-then-first-eq1 c = search (rules, middle)
 
-pub returns : goal.returns
-returns c = search (rules, middle)
+pub returns-else-first-eq1 : goal.returns-else-first-eq1
+returns-else-first-eq1 c = search (rules, middle)

@@ -5,5 +5,5 @@ use Rattle.number.proofs.either.Goals as goal
 pub returns-then-own-eq1 : goal.returns-then-own-eq1
 returns-then-own-eq1 c = search (rules, either-own)
 
-pub returns : goal.returns
-returns c = search (rules, either-other)
+pub returns-else-own-eq1 : goal.returns-else-own-eq1
+returns-else-own-eq1 c = search (rules, either-other)

@@ -5,5 +5,5 @@ use Rattle.number.proofs.met_by.Goals as goal
 pub returns-then-j-i : goal.returns-then-j-i
 returns-then-j-i c = search (rules, by-lower)
 
-pub returns : goal.returns
-returns c = search (rules, by_first)
+pub returns-else-j-i : goal.returns-else-j-i
+returns-else-j-i c = search (rules, by_first)

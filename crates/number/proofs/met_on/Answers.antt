@@ -8,8 +8,8 @@ row_at-w-requires c = search (rules, row-in-table)
 pub note_at-c-requires : goal.note_at-c-requires
 note_at-c-requires c = search (rules, note-in-scratch)
 
-pub returns-in-At : goal.returns-in-At
-returns-in-At c = search (rules, met-found)
+pub returns : goal.returns
+returns c = search (rules, met-found)
 
-pub returns-in-Nothing : goal.returns-in-Nothing
-returns-in-Nothing c = search (rules, met-alone)
+pub returns-in_default : goal.returns-in_default
+returns-in_default c = search (rules, met-alone)

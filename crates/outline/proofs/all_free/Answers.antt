@@ -1,17 +1,9 @@
-use Rattle.outline.specs.TurnsLaw.{free-not, free_all}
-use Rattle.lists.specs.SearchLaw.{searching}
-use mathlib.Core.Path.{refl}
-use borrow.Author.Rules.{rules}
+use Rattle.std.proofs.Common.{refl, rules}
+use Rattle.meaning.specs.Tables.{place_at}
+use Rattle.outline.specs.RangeAll.{none-fails}
+use Rattle.outline.specs.Seen.{not_free, all_free}
 use Rattle.outline.proofs.all_free.Goals as goal
 
-pub loop-i-init : goal.loop-i-init
-loop-i-init c = (search rules, refl)
-
-pub returns-then-not_free : goal.returns-then-not_free
-returns-then-not_free c = search (rules, free-not)
-
-pub loop-i-preserved : goal.loop-i-preserved
-loop-i-preserved c = (search rules, search (rules, searching))
-
 pub returns : goal.returns
-returns c = search (rules, free_all)
+unfolding all_free
+returns c = none-fails (not_free (place_at c.args.nodes.now) c.args.scratch.now c.args.b) c.args.b _ _ _ _ c.all.ensures.ran refl refl (λ x b q h. search rules)

@@ -1,26 +1,11 @@
+use Rattle.std.proofs.Common.{arith, ◌≡◌, pos, ◌+ℤ◌, ◌*ℤ◌}
 use mir.Facts.{to_z-of_z}
+use Rattle.whole.specs.Diff.{onℤ}
 use Rattle.plane.specs.Wide.{fits-wide, wide-sum, same_bits}
 use Rattle.plane.proofs.halves.Goals as goal
 
-pub overflow_cast-result : goal.overflow_cast-result
-overflow_cast-result c = simp (to_z-of_z, c.ranges.z) (fits-wide c.args.z c.ranges.z)
-
-pub overflow_cast-result-2 : goal.overflow_cast-result-2
-overflow_cast-result-2 c = simp (to_z-of_z, c.ranges.z) (fits-wide c.args.z c.ranges.z)
-
-pub overflow_add-result : goal.overflow_add-result
-overflow_add-result c = simp (to_z-of_z, c.ranges.z, fits-wide c.args.z c.ranges.z) (wide-sum c.args.z c.args.z c.ranges.z c.ranges.z)
-
-pub overflow_cast-result-3 : goal.overflow_cast-result-3
-overflow_cast-result-3 c = simp (to_z-of_z, c.ranges.b) (fits-wide c.args.b c.ranges.b)
-
-pub overflow_cast-result-4 : goal.overflow_cast-result-4
-overflow_cast-result-4 c = simp (to_z-of_z, c.ranges.c) (fits-wide c.args.c c.ranges.c)
-
-pub overflow_add-result-2 : goal.overflow_add-result-2
-overflow_add-result-2 c = simp (to_z-of_z, c.ranges.b, c.ranges.c, fits-wide c.args.b c.ranges.b, fits-wide c.args.c c.ranges.c)
-    (wide-sum c.args.b c.args.c c.ranges.b c.ranges.c)
-
 pub returns : goal.returns
-returns c = simp (to_z-of_z, c.ranges.z, c.ranges.b, c.ranges.c, fits-wide c.args.z c.ranges.z, fits-wide c.args.b c.ranges.b, fits-wide c.args.c c.ranges.c)
+returns c =
+    let twice : pos 2 *ℤ c.args.z ≡ c.args.z +ℤ c.args.z = grind (arith, onℤ) in
+    simp (c.from.ensures, c.from-2.ensures, c.from-3.ensures, to_z-of_z, c.ranges.z, c.ranges.b, c.ranges.c, fits-wide c.args.z c.ranges.z, fits-wide c.args.b c.ranges.b, fits-wide c.args.c c.ranges.c, twice)
     (same_bits _ _ (wide-sum c.args.z c.args.z c.ranges.z c.ranges.z) (wide-sum c.args.b c.args.c c.ranges.b c.ranges.c))

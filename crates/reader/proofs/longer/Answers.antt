@@ -5,5 +5,5 @@ use Rattle.reader.proofs.longer.Goals as goal
 pub returns-then-used-lt255 : goal.returns-then-used-lt255
 returns-then-used-lt255 c = search (rules, longer-more)
 
-pub returns : goal.returns
-returns c = search (rules, longer-full)
+pub returns-else-used-lt255 : goal.returns-else-used-lt255
+returns-else-used-lt255 c = search (rules, longer-full)

@@ -8,8 +8,8 @@ slice_bounds-line-end-then-b-eq10 c = search (rules, used-count)
 pub returns-then-b-eq10-clause-out_after : goal.returns-then-b-eq10-clause-out_after
 returns-then-b-eq10-clause-out_after c = search (rules, byte-end)
 
-pub returns-clause-out_after : goal.returns-clause-out_after
-returns-clause-out_after c = search (rules, byte-joins)
+pub returns-else-b-eq10-clause-out_after : goal.returns-else-b-eq10-clause-out_after
+returns-else-b-eq10-clause-out_after c = search (rules, byte-joins)
 
-pub returns-clause-used_bound_2 : goal.returns-clause-used_bound_2
-returns-clause-used_bound_2 c = search (rules, longer-fits)
+pub returns-else-b-eq10-clause-used_bound_2 : goal.returns-else-b-eq10-clause-used_bound_2
+returns-else-b-eq10-clause-used_bound_2 c = search (rules, longer-fits)

@@ -1,18 +1,20 @@
-use Rattle.reader.specs.ReaderLaw.{still-below, still-counts, still-less, bytes-turn, bytes-end}
-use borrow.Author.Rules.{rules}
+use Rattle.std.proofs.Common.{arith}
+use Rattle.reader.specs.ReaderLaw.{bytes-turn, bytes-stop, bytes-end}
 use Rattle.reader.proofs.take_bytes.Goals as goal
 
-pub bounds-piece-i : goal.bounds-piece-i
-bounds-piece-i c = search (rules, still-below)
-
-pub overflow_add-i : goal.overflow_add-i
-overflow_add-i c = search (rules, still-counts)
-
-pub loop-i-smaller : goal.loop-i-smaller
-loop-i-smaller c = search (rules, still-less)
+pub returns-then-heard-ne0 : goal.returns-then-heard-ne0
+returns-then-heard-ne0 c =
+    bytes-stop c.args.piece.now c.loop-i.i c.loop-i.carried _ _ _ _ _ _ c.loop-i.invariant.so_far c.take_byte-heard.result _ _ _ _ _ c.loop-i-test.true
+    c.take_byte-heard.ensures.out_after c.if-heard-ne0.true
 
 pub loop-i-preserved : goal.loop-i-preserved
-loop-i-preserved c = (search rules, search rules, search rules, search rules, search rules, search rules, search rules, search (rules, bytes-turn))
+loop-i-preserved c = record {
+  line = omega arith;
+  used = c.take_byte-heard.ensures.used_bound_2;
+  so_far =
+      bytes-turn c.args.piece.now c.loop-i.i c.loop-i.carried _ _ _ _ _ _ c.loop-i.invariant.so_far c.take_byte-heard.result _ _ _ _ _ c.loop-i-test.true
+      c.take_byte-heard.ensures.out_after c.if-heard-ne0.false;
+}
 
 pub returns : goal.returns
-returns c = search (rules, bytes-end)
+returns c = bytes-end c.args.piece.now c.loop-i.i c.loop-i.carried _ _ _ _ _ _ c.loop-i.invariant.so_far (omega arith)

@@ -1,11 +1,19 @@
-use Rattle.refining.specs.RefineLaw.{weigh-odd, weigh-short, weigh-done}
+use Rattle.std.proofs.Common.{rules}
+use Rattle.refining.specs.Refine.{weighed}
+use Rattle.refining.proofs.weigh.Goals.{then-mesh-after-via-then-mesh-after, then-mesh-after-via-else-mesh-after+then-mesh-after-2}
 use Rattle.refining.proofs.weigh.Goals as goal
 
-pub returns-then-is_found : goal.returns-then-is_found
-returns-then-is_found c = weigh-odd _ _ _ _ _ _ _ _ _ c.find_odd.ensures c.is_found.ensures c.if-is_found.true
+pub returns-then-is_some : goal.returns-then-is_some
+unfolding weighed
+returns-then-is_some c = search rules
 
-pub returns-then-nodes-n : goal.returns-then-nodes-n
-returns-then-nodes-n c = weigh-short _ _ _ _ _ _ _ _ _ c.find_odd.ensures c.is_found.ensures _ c.if-is_found.false c.rows_after-t1.ensures c.if-nodes-n.true
+pub returns-then-mesh-after : goal.returns-then-mesh-after
+unfolding weighed
+returns-then-mesh-after c = elim c.then-mesh-after.branch [
+  | then-mesh-after-via-then-mesh-after w ↦ search rules
+  | then-mesh-after-via-else-mesh-after+then-mesh-after-2 w ↦ search rules
+]
 
 pub returns : goal.returns
-returns c = weigh-done _ _ _ _ _ _ _ _ _ c.find_odd.ensures c.is_found.ensures _ c.if-is_found.false c.rows_after-t1.ensures _ c.if-nodes-n.false c.made_red.ensures
+unfolding weighed
+returns c = search rules

@@ -9,4 +9,4 @@ pub returns-clause-numbers : goal.returns-clause-numbers
 returns-clause-numbers c = search (rules, round-made)
 
 pub returns-clause-within : goal.returns-clause-within
-returns-clause-within c = search (rules, round-within)
+returns-clause-within c = search (rules, round-within, head-le)

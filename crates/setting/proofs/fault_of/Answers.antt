@@ -1,15 +1,18 @@
+use Rattle.std.proofs.Common.{ap, ◌∙◌}
+use Rattle.refusals.specs.Refusals.{verdict}
+use Rattle.judging.specs.Leaving.{passed-on}
 use Rattle.setting.specs.SettingLaw.{settled-first, settled-value, settled-later, settled-late}
-use borrow.Author.Rules.{rules}
 use Rattle.setting.proofs.fault_of.Goals as goal
 
-pub returns-then-f : goal.returns-then-f
-returns-then-f c = search (rules, settled-first)
+pub returns-then-comes_first : goal.returns-then-comes_first
+returns-then-comes_first c = settled-first c.args.judged _ _ _ _ c.if-comes_first.ensures
 
 pub returns-then-beyond : goal.returns-then-beyond
-returns-then-beyond c = search (rules, settled-value)
+returns-then-beyond c = settled-value c.args.judged _ _ _ _ c.if-comes_first.ensures c.if-beyond.ensures
 
-pub returns-then-f-ne0 : goal.returns-then-f-ne0
-returns-then-f-ne0 c = search (rules, settled-later)
+pub returns-in_err-judged : goal.returns-in_err-judged
+returns-in_err-judged c =
+    ap verdict (passed-on _ _ c.from_residual.ensures.1) ∙ settled-later c.args.judged _ _ _ _ c.if-comes_first.ensures c.if-beyond.ensures _ c.in_err-judged.was
 
 pub returns : goal.returns
-returns c = search (rules, settled-late)
+returns c = settled-late c.args.judged _ _ _ _ c.if-comes_first.ensures c.if-beyond.ensures _ c.in_ok-judged.was _ c.late_fault.ensures

@@ -3,4 +3,4 @@ use Rattle.spoutbeetle.specs.Exported.{exported}
 use Rattle.spoutbeetle.proofs.spoutbeetle_coarsen.Goals as goal
 
 pub returns : goal.returns
-returns c = search (rules, exported)
+returns c = rw (c.tell.ensures.number, c.tell.ensures.nodes, c.tell.ensures.rows, c.tell.ensures.blamed) (search (rules, exported))

@@ -6,8 +6,8 @@ use Rattle.sweep.proofs.severity.Goals as goal
 pub returns-then-t-eq0 : goal.returns-then-t-eq0
 returns-then-t-eq0 c = search (rules, severity-none)
 
-pub scale_of-s-requires : goal.scale_of-s-requires
-scale_of-s-requires c = search (rules, some-node)
+pub scale_of-scale-requires-clause-n_nonzero : goal.scale_of-scale-requires-clause-n_nonzero
+scale_of-scale-requires-clause-n_nonzero c = search (rules, some-node)
 
 pub order-requires-clause-count_nonzero : goal.order-requires-clause-count_nonzero
 order-requires-clause-count_nonzero c = search (rules, some-column)

@@ -1,6 +1,6 @@
-use Rattle.tables.specs.PutLaw.{nodes-cleared}
-use borrow.Author.Rules.{rules}
+use Rattle.meaning.specs.Tables.{node_at}
 use Rattle.tables.proofs.clear_nodes_from.Goals as goal
 
 pub returns : goal.returns
-returns c = search (rules, nodes-cleared)
+unfolding node_at
+returns c = c.clear_from.ensures

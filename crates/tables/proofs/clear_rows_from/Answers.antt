@@ -1,6 +1,6 @@
-use Rattle.tables.specs.PutLaw.{rows-cleared}
-use borrow.Author.Rules.{rules}
+use Rattle.meaning.specs.Tables.{row_at}
 use Rattle.tables.proofs.clear_rows_from.Goals as goal
 
 pub returns : goal.returns
-returns c = search (rules, rows-cleared)
+unfolding row_at
+returns c = c.clear_from.ensures

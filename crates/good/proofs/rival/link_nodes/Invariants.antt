@@ -1,12 +1,8 @@
 use Rattle.good.specs.Rival.{link_node}
 use Rattle.lists.specs.Loops.{down}
 use lib.ListN.{length}
-use Prim.Native.Nat.{◌≤◌}
 use mathlib.Core.Path.{◌≡◌}
 use Rattle.good.proofs.rival.link_nodes.Given as goal
 
 abbrev pub invariant-loop-z : goal.invariant-loop-z
-invariant-loop-z l = (l.z ≤ l.n) × (length l.scratch ≡ length l.initial.scratch) × (down (link_node l.nc l.t) l.z l.scratch ≡ down (link_node l.nc l.t) l.n l.initial.scratch)
-
-abbrev pub decreases-loop-z : goal.decreases-loop-z
-decreases-loop-z l = l.z
+invariant-loop-z l = (length l.scratch ≡ length l.initial.scratch) × (down (link_node l.nc l.t) l.z l.scratch ≡ down (link_node l.nc l.t) l.n l.initial.scratch)

@@ -8,5 +8,5 @@ returns-then-v-eq0 c = search (rules, tag-none)
 pub returns-then-find_rival : goal.returns-then-find_rival
 returns-then-find_rival c = search (rules, tag-rival)
 
-pub returns : goal.returns
-returns c = search (rules, tag-lone)
+pub returns-else-find_rival : goal.returns-else-find_rival
+returns-else-find_rival c = search (rules, tag-lone)

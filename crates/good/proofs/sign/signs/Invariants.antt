@@ -2,12 +2,8 @@ use Rattle.good.specs.Sign.{fresh}
 use Rattle.laws.specs.Meshes.{mesh_at}
 use Rattle.lists.specs.Loops.{noted}
 use lib.ListN.{length}
-use Prim.Native.Nat.{◌≤◌, ◌-◌}
 use mathlib.Core.Path.{◌≡◌}
 use Rattle.good.proofs.sign.signs.Given as goal
 
 abbrev pub invariant-loop-z : goal.invariant-loop-z
-invariant-loop-z l = (l.z ≤ l.n) × (length l.scratch ≡ length l.initial.scratch) × (l.scratch ≡ noted l.nc (fresh l.n0 (mesh_at l.nodes l.rows l.n l.t)) l.z l.initial.scratch)
-
-abbrev pub decreases-loop-z : goal.decreases-loop-z
-decreases-loop-z l = l.n - l.z
+invariant-loop-z l = (length l.scratch ≡ length l.initial.scratch) × (l.scratch ≡ noted l.nc (fresh l.n0 (mesh_at l.nodes l.rows l.n l.t)) l.z l.initial.scratch)

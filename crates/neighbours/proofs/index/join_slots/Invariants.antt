@@ -1,12 +1,8 @@
 use mathlib.Core.Path.{◌≡◌}
-use Prim.Native.Nat.{◌≤◌, ◌-◌}
 use lib.ListN.{length, take}
 use Rattle.neighbours.specs.Sized.{index_at}
 use Rattle.neighbours.specs.Join.{Exact}
 use Rattle.neighbours.proofs.index.join_slots.Given as goal
 
 abbrev pub invariant-loop-k : goal.invariant-loop-k
-invariant-loop-k l = (l.k ≤ l.n) × (length l.scratch ≡ length l.initial.scratch) × (take (index_at l.nc (length l.rows)) l.scratch ≡ take (index_at l.nc (length l.rows)) l.initial.scratch) × Exact l.scratch l.nc l.rows l.k
-
-abbrev pub decreases-loop-k : goal.decreases-loop-k
-decreases-loop-k l = l.n - l.k
+invariant-loop-k l = (length l.scratch ≡ length l.initial.scratch) × (take (index_at l.nc (length l.rows)) l.scratch ≡ take (index_at l.nc (length l.rows)) l.initial.scratch) × Exact l.scratch l.nc l.rows l.k

@@ -1,3 +1,4 @@
+use Rattle.neighbours.specs.Ready.{searched}
 use Rattle.outline.specs.ListedLaw.{few-arrows}
 use Rattle.outline.specs.ListedLaw.{note-room, grown-in, grown-not}
 use borrow.Author.Rules.{rules}
@@ -13,5 +14,8 @@ overflow_add-result c = let few = few-arrows _ _ _ _ _ c.requires.ready c.requir
 pub returns-then-is_border : goal.returns-then-is_border
 returns-then-is_border c = search (rules, grown-in)
 
-pub returns : goal.returns
-returns c = search (rules, grown-not)
+pub returns-else-is_border : goal.returns-else-is_border
+returns-else-is_border c = search (rules, grown-not)
+
+pub invariant_of-search : goal.invariant_of-search
+invariant_of-search c = searched _ _ _ _ c.requires.ready

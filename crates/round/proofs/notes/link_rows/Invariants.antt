@@ -1,12 +1,8 @@
 use Rattle.round.specs.Round.{link_step}
 use Rattle.lists.specs.Loops.{down}
 use lib.ListN.{length}
-use Prim.Native.Nat.{◌≤◌}
 use mathlib.Core.Path.{◌≡◌}
 use Rattle.round.proofs.notes.link_rows.Given as goal
 
 abbrev pub invariant-loop-i : goal.invariant-loop-i
-invariant-loop-i l = (l.i ≤ l.t) × (length l.scratch ≡ length l.initial.scratch) × (down (link_step l.rows l.nc) l.i l.scratch ≡ down (link_step l.rows l.nc) l.t l.initial.scratch)
-
-abbrev pub decreases-loop-i : goal.decreases-loop-i
-decreases-loop-i l = l.i
+invariant-loop-i l = (length l.scratch ≡ length l.initial.scratch) × (down (link_step l.rows l.nc) l.i l.scratch ≡ down (link_step l.rows l.nc) l.t l.initial.scratch)

@@ -1,12 +1,8 @@
 use Rattle.round.specs.Round.{older_step}
 use Rattle.lists.specs.Search.{iter}
 use lib.ListN.{length}
-use Prim.Native.Nat.{◌≤◌, ◌-◌}
 use mathlib.Core.Path.{◌≡◌}
 use Rattle.round.proofs.notes.mark_olders.Given as goal
 
 abbrev pub invariant-loop-i : goal.invariant-loop-i
-invariant-loop-i l = (l.i ≤ l.t) × (length l.scratch ≡ length l.initial.scratch) × (iter (older_step l.rows l.nc) l.i l.t l.scratch ≡ iter (older_step l.rows l.nc) 0 l.t l.initial.scratch)
-
-abbrev pub decreases-loop-i : goal.decreases-loop-i
-decreases-loop-i l = l.t - l.i
+invariant-loop-i l = (length l.scratch ≡ length l.initial.scratch) × (iter (older_step l.rows l.nc) l.i l.t l.scratch ≡ iter (older_step l.rows l.nc) 0 l.t l.initial.scratch)

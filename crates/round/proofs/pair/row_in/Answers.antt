@@ -2,8 +2,8 @@ use Rattle.round.specs.Needs.{row-none, row-some}
 use borrow.Author.Rules.{rules}
 use Rattle.round.proofs.pair.row_in.Goals as goal
 
-pub returns-then-k-eq0 : goal.returns-then-k-eq0
-returns-then-k-eq0 c = search (rules, row-none)
+pub returns-in-Some : goal.returns-in-Some
+returns-in-Some c = search (rules, row-some)
 
-pub returns : goal.returns
-returns c = search (rules, row-some)
+pub returns-in-None : goal.returns-in-None
+returns-in-None c = search (rules, row-none)

@@ -3,4 +3,4 @@ use borrow.Author.Rules.{rules}
 use Rattle.spoutbeetle.proofs.reading.spoutbeetle_begin.Goals as goal
 
 pub returns-clause-accepted_after : goal.returns-clause-accepted_after
-returns-clause-accepted_after c = search (rules, exported)
+returns-clause-accepted_after c = rw (c.leave.ensures.line, c.leave.ensures.end, c.leave.ensures.known) (search (rules, exported))

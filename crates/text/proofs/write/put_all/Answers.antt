@@ -1,4 +1,4 @@
-use borrow.Author.Rules.{rules}
+use Rattle.std.proofs.Common.{rules}
 use Rattle.text.specs.LinesLaw.{all-put}
 use Rattle.text.proofs.write.put_all.Goals as goal
 

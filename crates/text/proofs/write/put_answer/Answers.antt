@@ -1,4 +1,4 @@
-use borrow.Author.Rules.{rules}
+use Rattle.std.proofs.Common.{rules}
 use Rattle.text.specs.LinesLaw.{answer-put}
 use Rattle.text.proofs.write.put_answer.Goals as goal
 

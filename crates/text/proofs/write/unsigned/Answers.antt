@@ -1,9 +1,6 @@
-use borrow.Author.Rules.{rules}
-use Rattle.text.specs.DigitsLaw.{unsigned-low, unsigned-high}
+use Rattle.std.proofs.Common.{rules}
+use Rattle.text.specs.DigitsLaw.{unsigned-is}
 use Rattle.text.proofs.write.unsigned.Goals as goal
 
-pub returns-then-z-ge0 : goal.returns-then-z-ge0
-returns-then-z-ge0 c = search (rules, unsigned-low, unsigned-high)
-
 pub returns : goal.returns
-returns c = search (rules, unsigned-high)
+returns c = search (rules, unsigned-is)

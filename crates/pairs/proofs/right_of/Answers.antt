@@ -1,8 +1,0 @@
-use Rattle.pairs.specs.Seen.{right_of}
-use mir.Facts.{to_z-of_z}
-use borrow.Author.Rules.{sfits_of}
-use Rattle.pairs.proofs.right_of.Goals as goal
-
-pub returns : goal.returns
-unfolding right_of
-returns c = rw (to_z-of_z (sfits_of c.twice_area.type_inv), c.twice_area.ensures)

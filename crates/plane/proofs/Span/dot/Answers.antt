@@ -1,0 +1,26 @@
+use Rattle.std.proofs.Common.{rules, ◌*ℤ◌, w64, FitsSigned}
+use Rattle.whole.specs.Room.{room}
+use Rattle.plane.specs.Wide.{fits-dot}
+use mir.Facts.{to_z-of_z}
+use Rattle.plane.proofs.Span.dot.Goals as goal
+
+pub overflow_add-result : goal.overflow_add-result
+overflow_add-result c =
+    let p : FitsSigned w64 (c.args.self.x *ℤ c.args.v.x) = search (rules, room) in
+    let q : FitsSigned w64 (c.args.self.y *ℤ c.args.v.y) = search (rules, room) in
+    let a : FitsSigned w64 c.args.self.x = search (rules, room) in
+    let b : FitsSigned w64 c.args.v.y = search (rules, room) in
+    let d : FitsSigned w64 c.args.v.x = search (rules, room) in
+    let e : FitsSigned w64 c.args.self.y = search (rules, room) in
+    rw (to_z-of_z a, to_z-of_z b, to_z-of_z d, to_z-of_z e, to_z-of_z p, to_z-of_z q) (search (rules, room, fits-dot))
+
+pub returns : goal.returns
+returns c =
+    let s = overflow_add-result c in
+    let p : FitsSigned w64 (c.args.self.x *ℤ c.args.v.x) = search (rules, room) in
+    let q : FitsSigned w64 (c.args.self.y *ℤ c.args.v.y) = search (rules, room) in
+    let a : FitsSigned w64 c.args.self.x = search (rules, room) in
+    let b : FitsSigned w64 c.args.v.y = search (rules, room) in
+    let d : FitsSigned w64 c.args.v.x = search (rules, room) in
+    let e : FitsSigned w64 c.args.self.y = search (rules, room) in
+    rw (to_z-of_z s, to_z-of_z a, to_z-of_z b, to_z-of_z d, to_z-of_z e, to_z-of_z p, to_z-of_z q)

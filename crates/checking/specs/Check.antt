@@ -116,10 +116,15 @@ counted : {A : Type 0} (j : Result A Refusal) (n t : ℕ) → answer_in (result_
 counted (Ok a) n t = refl
 counted (Err r) n t = refl
 
-pub checked_call : {A : Type 0} (nodes : List ℤ) (rows s s₁ s₂ : List ℕ) (n t len : ℕ) (j : Result A Refusal) (r : Answer) → s₁ ≡ replicate (length s) 0 →
+pub checked_call : (nodes : List ℤ) (rows s s₁ s₂ : List ℕ) (n t len : ℕ) (f : Fault) (r : Answer) → s₁ ≡ replicate (length s) 0 → f ≡ check_fault (given nodes rows s₁ n t) →
+    s₂ ≡ replicate len 0 → len ≡ length s₁ → r ≡ answer f.number n t 0 f.at → outcome r nodes rows s₂ ≡ check_out (given nodes rows s n t)
+unfolding check_out mesh_of
+checked_call nodes rows s s₁ s₂ n t len f r p e d l h =
+    call-out s s₁ p (λ x. check_out (given nodes rows x n t)) (λ x x' l. sized_same nodes rows x x' 0 n t l _ _ (rw l)) r nodes rows s₂ len
+    (rw (h, e) (ap (outcome _ nodes rows) (zeroed s s₁ p) ∙ check-untouched (given nodes rows s₁ n t))) d l
+
+-- the same of what stands in the way, handed on as the call hands it on
+pub handed_call : {A : Type 0} (nodes : List ℤ) (rows s s₁ s₂ : List ℕ) (n t len : ℕ) (j : Result A Refusal) (r : Answer) → s₁ ≡ replicate (length s) 0 →
     judged j ≡ check_fault (given nodes rows s₁ n t) → s₂ ≡ replicate len 0 → len ≡ length s₁ → r ≡ answer_in (result_and j (Ok (record { n = n; t = t }))) n t →
     outcome r nodes rows s₂ ≡ check_out (given nodes rows s n t)
-unfolding check_out mesh_of
-checked_call nodes rows s s₁ s₂ n t len j r p e d l h =
-    call-out s s₁ p (λ x. check_out (given nodes rows x n t)) (λ x x' l. sized_same nodes rows x x' 0 n t l _ _ (rw l)) r nodes rows s₂ len
-    (rw (h, counted j n t, e) (ap (outcome _ nodes rows) (zeroed s s₁ p) ∙ check-untouched (given nodes rows s₁ n t))) d l
+handed_call nodes rows s s₁ s₂ n t len j r p e d l h = checked_call nodes rows s s₁ s₂ n t len (judged j) r p e d l (h ∙ counted j n t)

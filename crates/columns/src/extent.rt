@@ -1,5 +1,5 @@
 // How far the nodes reach along an axis, and the columns that are cut from it.
-ghost use Rattle.std.specs.Prelude.{◌≡◌, ◌+◌, ◌*◌, ◌≤◌, ◌<◌, length};
+ghost use Rattle.std.specs.Prelude.{◌≡◌, ◌+◌, ◌-◌, ◌*◌, ◌≤◌, ◌<◌, length};
 ghost use Rattle.columns.specs.Coords.{Reaches};
 
 use crate::{Axis, Scale, coords};
@@ -26,7 +26,8 @@ impl Extent {
     // How far the nodes reach.
     pub fn range(self) -> u32
         requires { Reaches self }
-        ensures { result ≤ 2_097_152 }
+        ensures is { result ≡ self.most - self.least }
+        ensures most { result ≤ 2_097_152 }
     {
         self.most - self.least
     }

@@ -14,7 +14,6 @@ ghost use Rattle.nodes.specs.Nodes.{Near, even_between, middle_of, between, odd_
 
 use meaning::{Correction, Node, Place, Tri};
 use notes::Note;
-use tables::Mesh;
 
 // ---- midpoints
 
@@ -94,26 +93,27 @@ fn odd_split(nodes: &[i32], on: u32, x: u32, y: u32) -> bool
     on != 0 && !even_between(tables::corner(nodes, x), tables::corner(nodes, y))
 }
 
-fn odd_at(mesh: Mesh, scratch: &[u32], i: usize) -> bool
-    requires i_lt_t { i < mesh.t }
-    requires i_in_bounds { i < length scratch.now }
-    requires standing { Standing mesh.nodes.now (row_at mesh.rows.now i) }
-    ensures { result ≡ odd_at mesh.entry.nodes.now mesh.entry.rows.now scratch.now i }
+fn odd_at(nodes: &[i32], rows: &[u32], scratch: &[u32], i: usize) -> bool
+    requires i_in_bounds { 3 * i + 3 ≤ length rows.now }
+    requires i_in_bounds_2 { i < length scratch.now }
+    requires standing { Standing nodes.now (row_at rows.now i) }
+    ensures { result ≡ odd_at nodes.now rows.now scratch.now i }
 {
-    let w = mesh.row(i);
+    let w = tables::row_at(rows, i);
     let c = notes::note_at(scratch, i);
-    odd_split(mesh.nodes, c.m, w.q, w.r)
-        || odd_split(mesh.nodes, c.u, w.p, w.q)
-        || odd_split(mesh.nodes, c.v, w.r, w.p)
+    odd_split(nodes, c.m, w.q, w.r)
+        || odd_split(nodes, c.u, w.p, w.q)
+        || odd_split(nodes, c.v, w.r, w.p)
 }
 
 // The lowest row with a split edge that has no exact midpoint.
-pub fn find_odd(mesh: Mesh, scratch: &[u32]) -> Option<usize>
-    requires t_in_bounds { mesh.t ≤ length scratch.now }
-    requires by_index { (i : ℕ) → i < mesh.t → Standing mesh.nodes.now (row_at mesh.rows.now i) }
-    ensures { result ≡ lowest (odd_at mesh.entry.nodes.now mesh.entry.rows.now scratch.now) 0 mesh.entry.t }
+pub fn find_odd(nodes: &[i32], rows: &[u32], scratch: &[u32], t: usize) -> Option<usize>
+    requires t_in_bounds { 3 * t ≤ length rows.now }
+    requires t_in_bounds_2 { t ≤ length scratch.now }
+    requires by_index { (i : ℕ) → i < t → Standing nodes.now (row_at rows.now i) }
+    ensures { result ≡ lowest (odd_at nodes.now rows.now scratch.now) 0 t }
 {
-    (0..mesh.t).find(|&i| odd_at(mesh, scratch, i))
+    (0..t).find(|&i| odd_at(nodes, rows, scratch, i))
 }
 
 // ---- the new nodes

@@ -37,9 +37,9 @@ impl Carried {
 
 // After a byte: what is carried, and how many bytes were written.
 #[derive(Clone, Copy)]
-struct Heard {
-    carried: Carried,
-    written: usize,
+pub struct Heard {
+    pub carried: Carried,
+    pub written: usize,
 }
 
 // A call's answer: its number, how many bytes of the piece were taken, how many were written, and what is carried on.
@@ -138,16 +138,18 @@ fn take_bytes(
     requires used_bound { carried.used ≤ 255 }
     ensures { v.took result line.new nodes.new rows.new scratch.new out.new ≡ r.further (r.unchanged 0 (v.carries carried line.old nodes.old rows.old scratch.old) out.old) piece.now }
 {
-    let mut carried = carried;
+    let mut heard = Heard {
+        carried,
+        written: 0,
+    };
     for (i, &b) in piece.iter().enumerate() {
-        let heard = take_byte(b, carried, line, nodes, rows, scratch, out);
-        carried = heard.carried;
+        heard = take_byte(b, heard.carried, line, nodes, rows, scratch, out);
         if heard.written != 0 {
             return Took {
                 number: 0,
                 taken: i + 1,
                 written: heard.written,
-                carried,
+                carried: heard.carried,
             };
         }
     }
@@ -155,7 +157,7 @@ fn take_bytes(
         number: 0,
         taken: piece.len(),
         written: 0,
-        carried,
+        carried: heard.carried,
     }
 }
 

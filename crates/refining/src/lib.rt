@@ -26,7 +26,7 @@ fn weigh(mesh: Mesh, scratch: &[u32], k: usize, quarters: Quarters) -> Result<Pl
     requires { Weighty mesh.nodes.now mesh.rows.now scratch.now mesh.n mesh.t k }
     ensures { let e = mesh.entry in result ≡ weighed quarters e.nodes.now e.rows.now scratch.now e.n e.t k }
 {
-    if nodes::find_odd(mesh, scratch).is_some() {
+    if nodes::find_odd(mesh.nodes, mesh.rows, scratch, mesh.t).is_some() {
         return Err(Refusal::Odd);
     }
     let after = Counts {

@@ -37,6 +37,8 @@ module _ (b : ℕ) where
   unfolding worth
   worth-high h = rw (le-ltb b 48 (omega arith), lt-leb b 57 (omega arith), le-ltb b 97 (omega arith), lt-leb b 102 h)
 
+pub ruleset worths = (worth-low, worth-digit, worth-between, worth-letter, worth-high)
+
 -- ---- numbers
 
 pub number-none : (text : List ℕ) (k : ℕ) → 0 ≡ number 0 text k

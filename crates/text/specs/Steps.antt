@@ -9,6 +9,7 @@ use mir.Syntax.{w32}
 use Rattle.std.proofs.Math.Facts.{to_z_pos, to_z-neg}
 use Rattle.lists.specs.ListsLaw.{clash}
 use Rattle.text.specs.Digits.{worth, number, signed, unsigned, hex_digit, hex}
+use Rattle.text.specs.HexLaw.{hex-two}
 use Rattle.text.specs.Writing.{Wrote, wrote, writes, then}
 
 -- ---- numbers
@@ -35,6 +36,8 @@ module _ (text : List ℕ) (k x y : ℕ) where
       let h : k + 4 + 2 ≡ k + 6 = omega arith in
       let i : k + 4 + 3 ≡ k + 7 = omega arith in
       rw (a, b, e, f, g, h, i) (omega arith)
+
+pub ruleset numbers = (two_is, four_is, eight_is)
 
 -- ---- two's complement: 8 digits, 4 digits, and the test of a sign
 
@@ -94,10 +97,6 @@ digit_low d h = rw (lt-ltb d 10 h)
 pub digit-high : (d : ℕ) → 10 ≤ d → 87 + d ≡ hex_digit d
 unfolding hex_digit
 digit-high d h = rw (le-ltb d 10 h)
-
-hex-two : (v : ℕ) → hex 2 v ≡ hex_digit (v / 16 % 16) ∷ hex_digit (v % 16) ∷ []
-unfolding hex
-hex-two v = let e : v / 1 ≡ v = omega arith in rw e
 
 hex-four : (v : ℕ) → hex 4 v ≡ hex 2 (v / 256) ++ hex 2 v
 unfolding hex

@@ -43,15 +43,26 @@ impl<'a> Out<'a> {
         self.at += 1;
     }
 
-    // The last D digits of v.
+    // The last two digits of v.
+    fn two(&mut self, v: usize)
+        requires { Room self.old 2 }
+        ensures next { Further self.old self.new 2 }
+        ensures text { held self.new ≡ writes (held self.old) (d.hex 2 v) }
+    {
+        self.byte(hex_digit(v / 16));
+        self.byte(hex_digit(v));
+    }
+
+    // The last D digits of v, two at a time.
     fn hex<const D: usize>(&mut self, v: usize)
         requires few { D ≤ 8 }
+        requires twos { D % 2 ≡ 0 }
         requires room { Room self.old D }
         ensures next { Further self.old self.new D }
         ensures text { held self.new ≡ writes (held self.old) (d.hex D v) }
     {
-        for w in (0..D).rev() {
-            self.byte(hex_digit(v >> (4 * w)));
+        for w in (0..D / 2).rev() {
+            self.two(v >> (8 * w));
         }
     }
 

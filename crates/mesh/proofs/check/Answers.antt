@@ -3,7 +3,7 @@ use Rattle.refusals.specs.declared.Counts.{Counts}
 use Rattle.refusals.specs.declared.Refusal.{Refusal}
 use Rattle.refusals.specs.Refusals.{answer_in}
 use Rattle.judging.specs.Leaving.{zeroed}
-use Rattle.checking.specs.Check.{checked_call}
+use Rattle.checking.specs.Check.{handed_call}
 use borrow.Author.Rules.{rules}
 use Rattle.mesh.proofs.check.Goals as goal
 
@@ -12,5 +12,5 @@ work-judged-requires c = search (rules, zeroed)
 
 pub returns : goal.returns
 returns c =
-    checked_call _ _ _ _ _ _ _ _ _ _ c.clear.ensures c.work-judged.ensures c.clear-2.ensures c.work-judged.auto.scratch
+    handed_call _ _ _ _ _ _ _ _ _ _ c.clear.ensures c.work-judged.ensures c.clear-2.ensures c.work-judged.auto.scratch
     (c.answer.ensures ∙ ap (λ (r : Result Counts Refusal). answer_in r c.args.n c.args.t) c.and.ensures)
